@@ -1,0 +1,5 @@
+pub mod Joined
+pub mod Cutting
+pub mod Kept
+pub mod Closed
+pub mod Contracts

@@ -1,0 +1,173 @@
+-- Opposites, joined divisions, and the four operations on sets (document 01, "Cutting rules").
+-- Whether a candidate is kept is a parameter here: `keeps` of the test for fractions, or any other.
+use mathlib.Core.Bool.{Bool, true, false, not, _&&_, _||_, cond}
+use mathlib.Core.List.{List, [], _∷_, _++_, map}
+use mathlib.Core.Option.{Option, none, some}
+use Prim.Native.Nat.{ℕ, zero, suc, _+_}
+use lib.IntN.{ℤ, pos, negsuc, negℤ, _+ℤ_, _-ℤ_}
+use lib.Dec.{leb, eqb}
+use lib.ListN.{length, replicate}
+use Rattle.model.specs.Lists.{all, any, concatMap, filter, isNil}
+use Rattle.model.specs.Sets.{Division, Kind, equality, inequality, Constraint, BasicSet, Set, isZero}
+use Rattle.simplex.specs.Tableau.{Verdict, point, dropped, long, wide, test}
+
+-- ---- opposites
+
+-- e − 1 ≥ 0
+abbrev pub above : Constraint → Constraint
+above r = record { kind = inequality; constant = r .constant -ℤ pos 1; axes = r .axes; divisions = r .divisions }
+
+-- −e − 1 ≥ 0
+abbrev pub below : Constraint → Constraint
+below r = record { kind = inequality; constant = negℤ (r .constant) -ℤ pos 1; axes = map negℤ (r .axes); divisions = map negℤ (r .divisions) }
+
+abbrev pub oppositesAt : Kind → Constraint → List Constraint
+oppositesAt equality r = above r ∷ below r ∷ []
+oppositesAt inequality r = below r ∷ []
+
+abbrev pub opposites : Constraint → List Constraint
+opposites r = oppositesAt (r .kind) r
+
+-- ---- joined divisions
+
+abbrev pub sameℤ : ℤ → ℤ → Bool
+sameℤ a b = isZero (a -ℤ b)
+
+abbrev pub sameList : List ℤ → List ℤ → Bool
+sameList [] [] = true
+sameList [] (b ∷ bs) = false
+sameList (a ∷ us) [] = false
+sameList (a ∷ us) (b ∷ bs) = sameℤ a b && sameList us bs
+
+abbrev pub sameDivision : Division → Division → Bool
+sameDivision e f = eqb (e .divisor) (f .divisor) && (sameℤ (e .constant) (f .constant) && sameList (e .axes) (f .axes))
+
+-- the place, counted from i, of the first division of ds that equals e and is not taken
+abbrev pub seek : Division → List ℕ → ℕ → List Division → Option ℕ
+seek e taken i [] = none
+seek e taken i (f ∷ ds) = cond (sameDivision e f && not (any (eqb i) taken)) (some i) (seek e taken (suc i) ds)
+
+-- the divisions `joined` so far, of A's `ds` those taken, and where each further division of B goes
+pub record Joined : Type 0 where
+  pub all : List Division
+  pub places : List ℕ
+
+abbrev pub placed : ℕ → Joined → Joined
+placed i j = record { all = j .all; places = i ∷ j .places }
+
+abbrev pub joinFrom : List Division → List ℕ → List Division → List Division → Joined
+joinFrom ds taken joined [] = record { all = joined; places = [] }
+joinFrom ds taken joined (e ∷ es) =
+    elim (seek e taken 0 ds) [
+      | some i ↦ placed i (joinFrom ds (i ∷ taken) joined es)
+      | none ↦ placed (length joined) (joinFrom ds taken (joined ++ (e ∷ [])) es)
+    ]
+
+abbrev pub join : List Division → List Division → Joined
+join ds es = joinFrom ds [] ds es
+
+-- c added at place i, with 0 in places that were not there
+abbrev pub addAt : ℕ → ℤ → List ℤ → List ℤ
+addAt zero c [] = c ∷ []
+addAt zero c (z ∷ zs) = (c +ℤ z) ∷ zs
+addAt (suc i) c [] = pos 0 ∷ addAt i c []
+addAt (suc i) c (z ∷ zs) = z ∷ addAt i c zs
+
+-- each coefficient at its new place
+abbrev pub move : List ℕ → List ℤ → List ℤ
+move [] cs = replicate 8 (pos 0)
+move (i ∷ is) [] = replicate 8 (pos 0)
+move (i ∷ is) (c ∷ cs) = addAt i c (move is cs)
+
+abbrev pub moveConstraint : List ℕ → Constraint → Constraint
+moveConstraint is r = record { kind = r .kind; constant = r .constant; axes = r .axes; divisions = move is (r .divisions) }
+
+-- ---- the operations, with no limits
+
+abbrev pub union : Set → Set → Set
+union s t = s ++ t
+
+-- the divisions of the joined pair, and B's rules moved
+abbrev pub joinedDivisions : BasicSet → BasicSet → List Division
+joinedDivisions a b = join (a .divisions) (b .divisions) .all
+
+abbrev pub movedConstraints : BasicSet → BasicSet → List Constraint
+movedConstraints a b = map (moveConstraint (join (a .divisions) (b .divisions) .places)) (b .constraints)
+
+abbrev pub both : BasicSet → BasicSet → BasicSet
+both a b = record { divisions = joinedDivisions a b; constraints = a .constraints ++ movedConstraints a b }
+
+module _ (keep : BasicSet → Bool) where
+  -- the kept candidates of one rule, over divisions ds and working rules w
+  abbrev pub kept : List Division → List Constraint → List Constraint → List BasicSet
+  kept ds w os = filter keep (map (λ (o : Constraint). record { divisions = ds; constraints = w ++ (o ∷ []) }) os)
+
+  abbrev pub cutBy : List Division → List Constraint → List Constraint → List BasicSet
+  cutBy ds w [] = []
+  cutBy ds w (r ∷ rs) =
+      let k : List BasicSet = kept ds w (opposites r) in
+      k ++ cutBy ds (cond (isNil k) w (w ++ (r ∷ []))) rs
+
+  -- the pieces of a that one cutter leaves
+  unfoldable pub cut : BasicSet → BasicSet → List BasicSet
+  cut a c = cutBy (joinedDivisions a c) (a .constraints) (movedConstraints a c)
+
+  unfoldable pub cutAll : List BasicSet → BasicSet → List BasicSet
+  cutAll [] a = a ∷ []
+  cutAll (c ∷ cs) a = concatMap (cutAll cs) (cut a c)
+
+  unfoldable pub difference : Set → Set → Set
+  difference s t = concatMap (cutAll t) s
+
+  unfoldable pub intersection : Set → Set → Set
+  intersection s t = filter keep (concatMap (λ (a : BasicSet). map (both a) t) s)
+
+  unfoldable pub complement : Set → Set
+  complement s = difference (record { divisions = []; constraints = [] } ∷ []) s
+
+  -- ---- their limits (refusal 10)
+
+  abbrev pub joinFits : BasicSet → BasicSet → Bool
+  joinFits a b = leb (length (joinedDivisions a b)) 8
+
+  abbrev pub candidatesFit : List Division → List Constraint → List Constraint → Bool
+  candidatesFit ds w [] = true
+  candidatesFit ds w (r ∷ rs) =
+      let k : List BasicSet = kept ds w (opposites r) in
+      leb (length w + 1) 48 && candidatesFit ds (cond (isNil k) w (w ++ (r ∷ []))) rs
+
+  abbrev pub cutFits : BasicSet → BasicSet → Bool
+  cutFits a c = joinFits a c && candidatesFit (joinedDivisions a c) (a .constraints) (movedConstraints a c)
+
+  abbrev pub cutAllFits : List BasicSet → BasicSet → Bool
+  cutAllFits [] a = true
+  cutAllFits (c ∷ cs) a = cutFits a c && all (cutAllFits cs) (cut a c)
+
+  abbrev pub sizeFits : Set → Bool
+  sizeFits s = leb (length s) 32
+
+  abbrev pub unionFits : Set → Set → Bool
+  unionFits s t = sizeFits (union s t)
+
+  abbrev pub differenceFits : Set → Set → Bool
+  differenceFits s t = all (cutAllFits t) s && sizeFits (difference s t)
+
+  abbrev pub bothFits : BasicSet → BasicSet → Bool
+  bothFits a b = joinFits a b && leb (length (a .constraints) + length (b .constraints)) 48
+
+  abbrev pub intersectionFits : Set → Set → Bool
+  intersectionFits s t = all (λ (a : BasicSet). all (bothFits a) t) s && sizeFits (intersection s t)
+
+  abbrev pub complementFits : Set → Bool
+  complementFits s = differenceFits (record { divisions = []; constraints = [] } ∷ []) s
+
+-- ---- kept by the test for fractions: all but dropped
+
+abbrev pub isKept : Verdict → Bool
+isKept point = true
+isKept dropped = false
+isKept long = true
+isKept wide = true
+
+abbrev pub keeps : BasicSet → Bool
+keeps b = isKept (test b)

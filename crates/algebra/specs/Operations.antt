@@ -1,0 +1,37 @@
+-- The four operations on the bytes of sets (document 01, "Cutting rules", "Refused").
+use mathlib.Core.Bool.{Bool, true, false, not, _&&_, _||_, cond}
+use mathlib.Core.List.{List, [], _∷_, _++_, map}
+use Prim.Native.Nat.{ℕ, zero, suc, _+_, _-_, _*_, _/_, _%_, _^_}
+use lib.IntN.{ℤ, pos, negsuc}
+use lib.Dec.{leb, ltb, eqb}
+use lib.Signed.{leZ}
+use lib.ListN.{length, take, drop}
+use Rattle.model.specs.Sets.{Set}
+use Rattle.codec.specs.Bytes.{Answer, refused, gives, encode, decode}
+use Rattle.algebra.specs.Cut.{keeps, union, unionFits, intersection, intersectionFits, difference, differenceFits, complement, complementFits}
+
+-- ---- the operations on bytes: a result that fits the limits and a table of `room` bytes
+
+abbrev pub result : Bool → ℕ → Set → Answer (List ℕ)
+result fits room s = cond fits (cond (leb (length (encode s)) room) (gives (encode s)) (refused 11)) (refused 10)
+
+abbrev pub onOne : (Set → Answer (List ℕ)) → Answer Set → Answer (List ℕ)
+onOne f (refused m) = refused m
+onOne f (gives s) = f s
+
+abbrev pub onTwo : (Set → Set → Answer (List ℕ)) → Answer Set → Answer Set → Answer (List ℕ)
+onTwo f (refused m) t = refused m
+onTwo f (gives s) (refused m) = refused m
+onTwo f (gives s) (gives t) = f s t
+
+unfoldable pub unionBytes : ℕ → ℕ → List ℕ → List ℕ → Answer (List ℕ)
+unionBytes n room a b = onTwo (λ s t. result (unionFits keeps s t) room (union s t)) (decode n a) (decode n b)
+
+unfoldable pub intersectionBytes : ℕ → ℕ → List ℕ → List ℕ → Answer (List ℕ)
+intersectionBytes n room a b = onTwo (λ s t. result (intersectionFits keeps s t) room (intersection keeps s t)) (decode n a) (decode n b)
+
+unfoldable pub differenceBytes : ℕ → ℕ → List ℕ → List ℕ → Answer (List ℕ)
+differenceBytes n room a b = onTwo (λ s t. result (differenceFits keeps s t) room (difference keeps s t)) (decode n a) (decode n b)
+
+unfoldable pub complementBytes : ℕ → ℕ → List ℕ → Answer (List ℕ)
+complementBytes n room a = onOne (λ s. result (complementFits keeps s) room (complement keeps s)) (decode n a)

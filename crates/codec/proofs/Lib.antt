@@ -1,0 +1,4 @@
+pub mod Parsing
+pub mod Split
+pub mod Encoded
+pub mod Decoded

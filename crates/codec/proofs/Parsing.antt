@@ -1,0 +1,334 @@
+-- Laws of the readers, of the tests of numbers, and of the parse from a place on.
+use mathlib.Core.Path.{_≡_, refl, sym, ap, ap₂, _∙_, subst}
+use mathlib.Core.Bool.{Bool, true, false, not, _&&_, cond}
+use mathlib.Core.List.{List, [], _∷_}
+use Prim.Native.Nat.{ℕ, zero, suc, _+_, _-_, _*_, _^_, _≤_, _<_}
+use native.Mathlib.Numerals.{add-one}
+use native.Mathlib.Omega.{arith}
+use borrow.Author.Tests.{ltb-true, ltb-false, lt-ltb, le-ltb, le-leb, lt-leb, eq-eqb, ne-eqb, leb-true, eqb-true}
+use lib.Dec.{T, ltb, leb, eqb}
+use lib.IntN.{ℤ, pos, negsuc}
+use lib.Signed.{leZ}
+use lib.ListN.{length, take, drop, getD, drop-of-length-le, length-drop}
+use lib.Seq.{drop-cons, drop-drop}
+use lib.Dec.{ltb→lt}
+use Rattle.model.specs.Lists.{all}
+use Rattle.model.specs.Sets.{isZero, absent, equality}
+use Rattle.codec.specs.Bytes.{Answer, refused, gives, valueOf, signed, signedList, coefficient, within, constantFits, Command, opens, division, constraint, kindOf, Counts, firstFailing, testsOf, refusal, counted, widthOf, readDivision, readConstraint, readCommand, headRefusal, after, parse, setOf, axesFit, decode, number}
+
+-- ---- readers
+two : (s : List ℕ) (p : ℕ) → p + 2 ≤ length s → drop p s ≡ getD s p 0 ∷ getD s (p + 1) 0 ∷ drop (p + 2) s
+two s p h =
+    let a : p < length s = omega arith in let b : suc p < length s = omega arith in
+    let i : suc p ≡ p + 1 = omega arith in let j : suc (suc p) ≡ p + 2 = omega arith in
+    drop-cons s p 0 a ∙ ap (λ (l : List ℕ). getD s p 0 ∷ l) (drop-cons s (suc p) 0 b ∙ ap₂ (λ (i j : ℕ). getD s i 0 ∷ drop j s) i j)
+
+pub value-2 : (s : List ℕ) (p : ℕ) → p + 2 ≤ length s → valueOf (take 2 (drop p s)) ≡ getD s p 0 + getD s (p + 1) 0 * 256
+value-2 s p h = ap (λ (l : List ℕ). valueOf (take 2 l)) (two s p h) ∙ sum (getD s p 0) (getD s (p + 1) 0)
+  where
+    sum : (a b : ℕ) → a + 256 * (b + 256 * 0) ≡ a + b * 256
+    sum a b = omega arith
+
+pub value-4 : (s : List ℕ) (p : ℕ) → p + 4 ≤ length s → valueOf (take 4 (drop p s)) ≡ valueOf (take 2 (drop p s)) + valueOf (take 2 (drop (p + 2) s)) * 65536
+value-4 s p h =
+    ap (λ (l : List ℕ). valueOf (take 4 l)) (two s p (omega arith) ∙ ap (λ (l : List ℕ). getD s p 0 ∷ getD s (p + 1) 0 ∷ l) (two s (p + 2) (omega arith)))
+    ∙ sum (getD s p 0) (getD s (p + 1) 0) (getD s (p + 2) 0) (getD s (p + 2 + 1) 0)
+    ∙ ap₂ (λ (a b : ℕ). a + b * 65536) (sym (value-2 s p (omega arith))) (sym (value-2 s (p + 2) (omega arith)))
+  where
+    sum : (a b c d : ℕ) → a + 256 * (b + 256 * (c + 256 * (d + 256 * 0))) ≡ a + b * 256 + (c + d * 256) * 65536
+    sum a b c d = omega arith
+
+-- ---- lists of coefficients
+pub all-more : (f : ℤ → Bool) (left p : ℕ) (s : List ℕ) → (left ≡ 0 → ⊥) → all f (signedList left (drop p s)) ≡ (f (signed 2 (valueOf (take 2 (drop p s)))) && all f (signedList (left - 1) (drop (p + 2) s)))
+all-more f zero p s h = absurd (h refl)
+all-more f (suc m) p s h = let e : m ≡ suc m - 1 = omega arith in ap₂ (λ (j : ℕ) (l : List ℕ). f (signed 2 (valueOf (take 2 (drop p s)))) && all f (signedList j l)) e (drop-drop 2 p s)
+
+pub all-stop : (f : ℤ → Bool) (v left p : ℕ) (s : List ℕ) → (left ≡ 0 → ⊥) → v ≡ valueOf (take 2 (drop p s)) → f (signed 2 v) ≡ false → all f (signedList left (drop p s)) ≡ false
+all-stop f v left p s h e q = all-more f left p s h ∙ ap (λ (b : Bool). b && all f (signedList (left - 1) (drop (p + 2) s))) (ap (λ (w : ℕ). f (signed 2 w)) (sym e) ∙ q)
+
+pub all-go : (f : ℤ → Bool) (v left p : ℕ) (s : List ℕ) → (left ≡ 0 → ⊥) → v ≡ valueOf (take 2 (drop p s)) → f (signed 2 v) ≡ true → all f (signedList (left - 1) (drop (p + 2) s)) ≡ all f (signedList left (drop p s))
+all-go f v left p s h e q = sym (all-more f left p s h ∙ ap (λ (b : Bool). b && all f (signedList (left - 1) (drop (p + 2) s))) (ap (λ (w : ℕ). f (signed 2 w)) (sym e) ∙ q))
+
+pub all-end : (f : ℤ → Bool) (left p : ℕ) (s : List ℕ) → left ≡ 0 → all f (signedList left (drop p s)) ≡ true
+all-end f left p s e = rw e
+
+absent-at : (n m p : ℕ) (s : List ℕ) → drop n (signedList (n + m) (drop p s)) ≡ signedList m (drop (p + 2 * n) s)
+absent-at zero m p s = let a : 0 + m ≡ m = omega arith in let b : p ≡ p + 2 * 0 = omega arith in ap₂ (λ (i j : ℕ). signedList i (drop j s)) a b
+absent-at (suc n) m p s =
+    let a : suc n + m ≡ suc (n + m) = omega arith in let b : p + 2 + 2 * n ≡ p + 2 * suc n = omega arith in
+    ap (λ (i : ℕ). drop (suc n) (signedList i (drop p s))) a
+    ∙ ap (λ (l : List ℕ). drop n (signedList (n + m) l)) (drop-drop 2 p s) ∙ absent-at n m (p + 2) s ∙ ap (λ (i : ℕ). signedList m (drop i s)) b
+
+pub absent-of : (n p : ℕ) (s : List ℕ) → n ≤ 8 → absent n (signedList 8 (drop p s)) ≡ all isZero (signedList (8 - n) (drop (p + 2 * n) s))
+absent-of n p s h = let e : 8 ≡ n + (8 - n) = omega arith in ap (λ (i : ℕ). all isZero (drop n (signedList i (drop p s)))) e ∙ ap (all isZero) (absent-at n (8 - n) p s)
+
+-- ---- tests of one number
+by : (P : Bool → Type 0) (b : Bool) → (b ≡ true → P true) → (b ≡ false → P false) → P b
+by P true f g = f refl
+by P false f g = g refl
+
+pub signed-ind : (k : ℕ) (P : ℤ → Type 0) (v : ℕ) → (2 * v < 256 ^ k → P (pos v)) → (256 ^ k ≤ 2 * v → P (negsuc (256 ^ k - suc v))) → P (signed k v)
+signed-ind k P v f g = by (λ (b : Bool). P (cond b (pos v) (negsuc (256 ^ k - suc v)))) (ltb (2 * v) (256 ^ k)) (λ e. f (ltb-true _ _ e)) (λ e. g (ltb-false _ _ e))
+
+same-and-true : (b : Bool) → (b && true) ≡ b
+same-and-true true = refl
+same-and-true false = refl
+
+pub coefficient-not : (v : ℕ) → v ≡ 32768 → coefficient (signed 2 v) ≡ false
+coefficient-not v e = ap (λ (w : ℕ). coefficient (signed 2 w)) e
+
+pub coefficient-yes : (v : ℕ) → v < 65536 → (v ≡ 32768 → ⊥) → coefficient (signed 2 v) ≡ true
+coefficient-yes v h n = signed-ind 2 (λ (z : ℤ). coefficient z ≡ true) v
+    (λ l. let k : v ≤ 32767 = omega arith in le-leb v 32767 k)
+    (λ l. let k : 65536 - suc v ≤ 32766 = omega arith in same-and-true _ ∙ le-leb (65536 - suc v) 32766 k)
+
+pub zero-yes : (v : ℕ) → v ≡ 0 → isZero (signed 2 v) ≡ true
+zero-yes v e = ap (λ (w : ℕ). isZero (signed 2 w)) e
+
+pub zero-not : (v : ℕ) → v < 65536 → (v ≡ 0 → ⊥) → isZero (signed 2 v) ≡ false
+zero-not v h n = signed-ind 2 (λ (z : ℤ). isZero z ≡ false) v (λ l. ne-eqb v 0 n) (λ l. refl)
+
+pub constant-low : (v : ℕ) → v < 2147483648 → within (negsuc 999999999) (pos 1000000000) (signed 4 v) ≡ leb v 1000000000
+constant-low v h = signed-ind 4 (λ (z : ℤ). within (negsuc 999999999) (pos 1000000000) z ≡ leb v 1000000000) v (λ l. refl) (λ l. absurd (omega arith))
+
+pub constant-high : (v : ℕ) → v < 4294967296 → 2147483648 ≤ v → within (negsuc 999999999) (pos 1000000000) (signed 4 v) ≡ leb 3294967296 v
+constant-high v k h = signed-ind 4 (λ (z : ℤ). within (negsuc 999999999) (pos 1000000000) z ≡ leb 3294967296 v) v (λ l. absurd (omega arith)) (λ l. same-and-true _ ∙ same)
+  where
+    same : leb (4294967296 - suc v) 999999999 ≡ leb 3294967296 v
+    same = by (λ (b : Bool). leb (4294967296 - suc v) 999999999 ≡ b) (leb 3294967296 v)
+        (λ e. let l = leb-true 3294967296 v e in let m : 4294967296 - suc v ≤ 999999999 = omega arith in le-leb _ _ m)
+        (λ e. let l = borrow.Author.Tests.leb-false 3294967296 v e in let m : 999999999 < 4294967296 - suc v = omega arith in lt-leb _ _ m)
+
+pub equality-yes : (v : ℕ) → v < 4294967296 → (v ≡ 2147483648 → ⊥) → constantFits equality (signed 4 v) ≡ true
+equality-yes v k h = signed-ind 4 (λ (z : ℤ). leZ (negsuc 2147483646) z ≡ true) v (λ l. refl) (λ l. le-leb (4294967296 - suc v) 2147483646 (omega arith))
+
+pub equality-test : (v : ℕ) → v < 4294967296 → constantFits equality (signed 4 v) ≡ not (eqb v 2147483648)
+equality-test v k = by (λ (b : Bool). constantFits equality (signed 4 v) ≡ not b) (eqb v 2147483648) (λ e. let q : v ≡ 2147483648 = eqb-true v 2147483648 e in ap (λ (w : ℕ). constantFits equality (signed 4 w)) q) (λ e. equality-yes v k (borrow.Author.Tests.eqb-false v 2147483648 e))
+
+-- ---- tests in a row
+pub pos-ltb : (b : ℕ) → (b ≡ 0 → ⊥) → ltb 0 b ≡ true
+pos-ltb b h = lt-ltb 0 b (omega arith)
+
+pub both : {a b : Bool} → a ≡ true → b ≡ true → (a && b) ≡ true
+both {a} {b} p q = ap₂ (λ (x y : Bool). x && y) p q
+
+pub first-no : {a : Bool} (b : Bool) → a ≡ false → (a && b) ≡ false
+first-no b p = ap (λ (x : Bool). x && b) p
+
+pub second-no : {a b : Bool} → a ≡ true → b ≡ false → (a && b) ≡ false
+second-no p q = ap₂ (λ (x y : Bool). x && y) p q
+
+pub divisor-zero : (d v : ℕ) → d ≡ v → d ≡ 0 → (ltb 0 v && leb v 32767) ≡ false
+divisor-zero d v e h = first-no (leb v 32767) (le-ltb 0 v (omega arith))
+
+pub divisor-over : (d v : ℕ) → d ≡ v → 32767 < d → (ltb 0 v && leb v 32767) ≡ false
+divisor-over d v e h = second-no (lt-ltb 0 v (omega arith)) (lt-leb v 32767 (omega arith))
+
+pub divisor-in : (d v : ℕ) → d ≡ v → (d ≡ 0 → ⊥) → d ≤ 32767 → (ltb 0 v && leb v 32767) ≡ true
+divisor-in d v e n h = both (pos-ltb v (λ z. n (e ∙ z))) (le-leb v 32767 (omega arith))
+
+-- ---- the parse from a place on
+abbrev pub start : Counts
+start = record { basics = 0; divisions = 0; constraints = 0 }
+
+-- the parse of what is left at a place, with fuel enough, has the number of the whole
+pub record Left (n : ℕ) (s : List ℕ) (at : ℕ) (k : Counts) : Type 0 where
+  pub inside : at ≤ length s
+  pub basics : k .basics ≤ at
+  pub divisions : k .divisions ≤ at
+  pub constraints : k .constraints ≤ at
+  pub few : k .divisions ≤ 8
+  pub fuel : ℕ
+  pub enough : length s ≤ at + fuel
+  pub same : number (parse n fuel k (drop at s)) ≡ number (parse n (length s) start s)
+
+pub left-start : (n : ℕ) (s : List ℕ) → Left n s 0 start
+left-start n s = record { inside = omega arith; basics = omega arith; divisions = omega arith; constraints = omega arith; few = omega arith; fuel = length s; enough = omega arith; same = refl }
+
+pub parse-nil : (n f : ℕ) (k : Counts) → parse n f k [] ≡ gives []
+unfolding parse
+parse-nil n zero k = refl
+parse-nil n (suc f) k = refl
+
+pub left-end : (n : ℕ) (s : List ℕ) (at : ℕ) (k : Counts) → Left n s at k → length s ≤ at → number (parse n (length s) start s) ≡ 0
+left-end n s at k l h = sym (l .same) ∙ ap (λ (r : List ℕ). number (parse n (l .fuel) k r)) (drop-of-length-le s h) ∙ ap number (parse-nil n (l .fuel) k)
+
+-- one command
+pub parse-stop : (n f : ℕ) (k : Counts) (b : ℕ) (s : List ℕ) (m : ℕ) → headRefusal n k b s ≡ suc m → parse n (suc f) k (b ∷ s) ≡ refused (suc m)
+unfolding parse
+parse-stop n f k b s m e = rw (e, parse)
+
+pub parse-next : (n f : ℕ) (k : Counts) (b : ℕ) (s : List ℕ) → headRefusal n k b s ≡ 0
+    → parse n (suc f) k (b ∷ s) ≡ after (readCommand b s) (parse n f (counted k (readCommand b s)) (drop (widthOf b - 1) s))
+unfolding parse
+parse-next n f k b s e = rw (e, parse)
+
+number-after : (c : Command) (a : Answer (List Command)) → number (after c a) ≡ number a
+number-after c (refused m) = refl
+number-after c (gives cs) = refl
+
+-- what a command that is not refused has
+pub record Accepted (n : ℕ) (k : Counts) (b : ℕ) (s : List ℕ) : Type 0 where
+  pub wide : 0 < widthOf b
+  pub whole : widthOf b ≤ suc (length s)
+  pub none : refusal n k (readCommand b s) ≡ 0
+
+pub accepted : (n : ℕ) (k : Counts) (b : ℕ) (s : List ℕ) → headRefusal n k b s ≡ 0 → Accepted n k b s
+unfolding headRefusal
+accepted n k b s e = at (ltb 0 (widthOf b)) refl (leb (widthOf b) (suc (length s))) refl (refusal n k (readCommand b s)) refl e
+  where
+    at : (x : Bool) → ltb 0 (widthOf b) ≡ x → (y : Bool) → leb (widthOf b) (suc (length s)) ≡ y → (r : ℕ) → refusal n k (readCommand b s) ≡ r
+        → firstFailing ((x, 2) ∷ (y, 3) ∷ (eqb r 0, r) ∷ []) ≡ 0 → Accepted n k b s
+    at false p y q r u e = absurd (omega arith)
+    at true p false q r u e = absurd (omega arith)
+    at true p true q zero u e = record { wide = ltb-true _ _ p; whole = leb-true _ _ q; none = u }
+    at true p true q (suc r) u e = let d : eqb (suc r) 0 ≡ false = ne-eqb (suc r) 0 (λ z. omega arith) in let e′ : suc r ≡ 0 = rw d at e in absurd (omega arith)
+
+-- ---- the head of what is left
+pub head-unknown : (n : ℕ) (k : Counts) (b : ℕ) (s : List ℕ) → widthOf b ≡ 0 → headRefusal n k b s ≡ 2
+unfolding headRefusal
+head-unknown n k b s e = let d : ltb 0 (widthOf b) ≡ false = le-ltb 0 (widthOf b) (omega arith) in rw d
+
+zero-same : (r : ℕ) → cond (eqb r 0) 0 r ≡ r
+zero-same zero = refl
+zero-same (suc r) = let d : eqb (suc r) 0 ≡ false = ne-eqb (suc r) 0 (λ z. omega arith) in rw d
+
+module _ (n : ℕ) (k : Counts) (b : ℕ) (s : List ℕ) (at w : ℕ) (h : at < length s) (e : w ≡ widthOf b) (z : w ≡ 0 → ⊥) where
+  length-rest : suc (length (drop (at + 1) s)) ≡ length s - at
+  length-rest = omega (arith, length-drop (at + 1) s)
+
+  pub head-cut : length s - at < w → headRefusal n k b (drop (at + 1) s) ≡ 3
+  unfolding headRefusal
+  head-cut l =
+      let r = length-rest in
+      let d : ltb 0 (widthOf b) ≡ true = pos-ltb (widthOf b) (λ y. z (e ∙ y)) in
+      let f : leb (widthOf b) (suc (length (drop (at + 1) s))) ≡ false = lt-leb (widthOf b) (suc (length (drop (at + 1) s))) (omega arith) in
+      simp (d, f)
+
+  pub head-at : w ≤ length s - at → headRefusal n k b (drop (at + 1) s) ≡ refusal n k (readCommand b (drop (at + 1) s))
+  unfolding headRefusal
+  head-at l =
+      let r = length-rest in
+      let d : ltb 0 (widthOf b) ≡ true = pos-ltb (widthOf b) (λ y. z (e ∙ y)) in
+      let f : leb (widthOf b) (suc (length (drop (at + 1) s))) ≡ true = le-leb (widthOf b) (suc (length (drop (at + 1) s))) (omega arith) in
+      ap₂ (λ (x y : Bool). cond x (cond y (cond (eqb (refusal n k (readCommand b (drop (at + 1) s))) 0) 0 (refusal n k (readCommand b (drop (at + 1) s)))) 3) 2) d f
+      ∙ zero-same (refusal n k (readCommand b (drop (at + 1) s)))
+
+  pub room : (m : ℕ) → widthOf b ≡ suc m → w ≤ length s - at → m ≤ length (drop (at + 1) s)
+  room m q l = let r = length-rest in omega arith
+
+pub read-opens : (b : ℕ) (s : List ℕ) → b ≡ 17 → readCommand b s ≡ opens
+read-opens b s e = rw e
+
+pub read-division : (b : ℕ) (s : List ℕ) → b ≡ 18 → readCommand b s ≡ division (readDivision s)
+read-division b s e = rw e
+
+pub read-constraint : (b : ℕ) (s : List ℕ) → (b ≡ 17 → ⊥) → (b ≡ 18 → ⊥) → readCommand b s ≡ constraint (readConstraint (kindOf b) s)
+read-constraint b s p q = let d : eqb b 17 ≡ false = ne-eqb b 17 p in let f : eqb b 18 ≡ false = ne-eqb b 18 q in simp (d, f)
+
+pub width-division : (b : ℕ) → b ≡ 18 → widthOf b ≡ 23
+width-division b e = ap widthOf e
+
+pub width-constraint : (b : ℕ) → (b ≡ 17 → ⊥) → (b ≡ 18 → ⊥) → (widthOf b ≡ 0 → ⊥) → widthOf b ≡ 37
+width-constraint b p q z =
+    let d : eqb b 17 ≡ false = ne-eqb b 17 p in let f : eqb b 18 ≡ false = ne-eqb b 18 q in
+    let g : widthOf b ≡ cond (mathlib.Core.Bool._||_ (eqb b 19) (eqb b 20)) 37 0 = simp (d, f) in
+    g ∙ at (mathlib.Core.Bool._||_ (eqb b 19) (eqb b 20)) (λ y. z (g ∙ y))
+  where
+    at : (x : Bool) → (_≡_ {A = ℕ} (cond x 37 0) 0 → ⊥) → _≡_ {A = ℕ} (cond x 37 0) 37
+    at true u = refl
+    at false u = absurd (u refl)
+
+-- ---- what the tests say where none fails
+abbrev pub Passed : List (Bool × ℕ) → Type 0
+Passed [] = Unit {0}
+Passed (t ∷ ts) = T (t .0) × Passed ts
+
+pub all-passed : (ts : List (Bool × ℕ)) → T (all (λ (t : Bool × ℕ). ltb 0 (t .1)) ts) → firstFailing ts ≡ 0 → Passed ts
+all-passed [] p e = tt
+all-passed (t ∷ ts) p e = at (t .0) (t .1) (ltb 0 (t .1)) refl p e (λ q. all-passed ts q)
+  where
+    at : (b : Bool) (m : ℕ) (x : Bool) → ltb 0 m ≡ x → T (x && all (λ (t : Bool × ℕ). ltb 0 (t .1)) ts) → cond b (firstFailing ts) m ≡ 0 → (T (all (λ (t : Bool × ℕ). ltb 0 (t .1)) ts) → firstFailing ts ≡ 0 → Passed ts) → T b × Passed ts
+    at true m true q p e ih = (tt, ih p e)
+    at false m true q p e ih = let l = ltb-true 0 m q in absurd (omega arith)
+    at b m false q p e ih = absurd p
+
+pub few-next : (n : ℕ) (k : Counts) (c : Command) → refusal n k c ≡ 0 → k .divisions ≤ 8 → counted k c .divisions ≤ 8
+few-next n k opens z h = omega arith
+few-next n k (division e) z h = let t = all-passed (testsOf n k (division e)) tt z in let l = ltb→lt (k .divisions) 8 (t .1 .1 .0) in omega arith
+few-next n k (constraint r) z h = h
+
+basics-next : (k : Counts) (c : Command) → counted k c .basics ≤ k .basics + 1
+basics-next k opens = omega arith
+basics-next k (division e) = omega arith
+basics-next k (constraint r) = omega arith
+
+divisions-next : (k : Counts) (c : Command) → counted k c .divisions ≤ k .divisions + 1
+divisions-next k opens = omega arith
+divisions-next k (division e) = omega arith
+divisions-next k (constraint r) = omega arith
+
+constraints-next : (k : Counts) (c : Command) → counted k c .constraints ≤ k .constraints + 1
+constraints-next k opens = omega arith
+constraints-next k (division e) = omega arith
+constraints-next k (constraint r) = omega arith
+
+pub left-stop : (n : ℕ) (s : List ℕ) (at : ℕ) (k : Counts) (m : ℕ) → Left n s at k → at < length s → headRefusal n k (getD s at 0) (drop (at + 1) s) ≡ m → (m ≡ 0 → ⊥) → number (parse n (length s) start s) ≡ m
+left-stop n s at k zero l h e z = absurd (z refl)
+left-stop n s at k (suc m) l h e z = sym (l .same) ∙ go (l .fuel) (l .enough)
+  where
+    go : (f : ℕ) → length s ≤ at + f → number (parse n f k (drop at s)) ≡ suc m
+    go zero q = absurd (omega arith)
+    go (suc f) q =
+        ap (λ (r : List ℕ). number (parse n (suc f) k r)) (drop-cons s at 0 h ∙ ap (λ (i : ℕ). getD s at 0 ∷ drop i s) (sym (add-one at)))
+        ∙ ap number (parse-stop n f k (getD s at 0) (drop (at + 1) s) m e)
+
+pub left-next : (n : ℕ) (s : List ℕ) (at : ℕ) (k : Counts) → Left n s at k → at < length s → headRefusal n k (getD s at 0) (drop (at + 1) s) ≡ 0
+    → Left n s (at + widthOf (getD s at 0)) (counted k (readCommand (getD s at 0) (drop (at + 1) s)))
+left-next n s at k l h e = go (l .fuel) (l .enough) (l .same)
+  where
+    go : (f : ℕ) → length s ≤ at + f → number (parse n f k (drop at s)) ≡ number (parse n (length s) start s) → Left n s (at + widthOf (getD s at 0)) (counted k (readCommand (getD s at 0) (drop (at + 1) s)))
+    go zero q u = absurd (omega arith)
+    go (suc f) q u =
+        let a = accepted n k (getD s at 0) (drop (at + 1) s) e in
+        let w = a .wide in
+        let i : at + 1 + (widthOf (getD s at 0) - 1) ≡ at + widthOf (getD s at 0) = omega arith in
+        record {
+          inside = let o = a .whole in omega (arith, length-drop (at + 1) s);
+          basics = let o = basics-next k (readCommand (getD s at 0) (drop (at + 1) s)) in let v = l .basics in omega arith;
+          divisions = let o = divisions-next k (readCommand (getD s at 0) (drop (at + 1) s)) in let v = l .divisions in omega arith;
+          constraints = let o = constraints-next k (readCommand (getD s at 0) (drop (at + 1) s)) in let v = l .constraints in omega arith;
+          few = few-next n k (readCommand (getD s at 0) (drop (at + 1) s)) (a .none) (l .few);
+          fuel = f;
+          enough = omega arith;
+          same =
+              ap (λ (r : List ℕ). number (parse n f (counted k (readCommand (getD s at 0) (drop (at + 1) s))) r)) (sym (ap (λ (j : ℕ). drop j s) i) ∙ sym (drop-drop (widthOf (getD s at 0) - 1) (at + 1) s))
+              ∙ sym (number-after (readCommand (getD s at 0) (drop (at + 1) s)) (parse n f (counted k (readCommand (getD s at 0) (drop (at + 1) s))) (drop (widthOf (getD s at 0) - 1) (drop (at + 1) s))))
+              ∙ ap number (sym (parse-next n f k (getD s at 0) (drop (at + 1) s) e))
+              ∙ ap (λ (r : List ℕ). number (parse n (suc f) k r)) (sym (drop-cons s at 0 h ∙ ap (λ (i : ℕ). getD s at 0 ∷ drop i s) (sym (add-one at))))
+              ∙ u;
+        }
+
+number-set : (a : Answer (List Command)) → number (setOf a) ≡ number a
+number-set (refused m) = refl
+number-set (gives cs) = refl
+
+pub decode-bad : (n : ℕ) (s : List ℕ) → axesFit n ≡ false → number (decode n s) ≡ 1
+unfolding decode
+decode-bad n s e = rw e
+
+pub decode-good : (n : ℕ) (s : List ℕ) → axesFit n ≡ true → number (decode n s) ≡ number (parse n (length s) start s)
+unfolding decode
+decode-good n s e = rw e (number-set (parse n (length s) start s))
+
+pub axes-zero : (n : ℕ) → n ≡ 0 → axesFit n ≡ false
+axes-zero n e = first-no (leb n 8) (le-ltb 0 n (omega arith))
+
+pub axes-over : (n : ℕ) → 8 < n → axesFit n ≡ false
+axes-over n e = second-no (lt-ltb 0 n (omega arith)) (lt-leb n 8 e)
+
+pub axes-in : (n : ℕ) → (n ≡ 0 → ⊥) → n ≤ 8 → axesFit n ≡ true
+axes-in n e h = both (pos-ltb n e) (le-leb n 8 h)
+
+pub left-same : (n : ℕ) (s : List ℕ) (at v w : ℕ) (k l : Counts) → v ≡ w → k ≡ l → Left n s (at + w) l → Left n s (at + v) k
+left-same n s at v w k l p q h = mathlib.Core.Path.subst₂ (λ (x : ℕ) (y : Counts). Left n s (at + x) y) (sym p) (sym q) h

@@ -1,0 +1,175 @@
+-- The bytes of a set, the refusals, and the operations on bytes (document 01, "Bytes of a set", "Refused").
+use mathlib.Core.Bool.{Bool, true, false, not, _&&_, _||_, cond}
+use mathlib.Core.List.{List, [], _∷_, _++_, map}
+use Prim.Native.Nat.{ℕ, zero, suc, _+_, _-_, _*_, _/_, _%_, _^_}
+use lib.IntN.{ℤ, pos, negsuc}
+use lib.Dec.{leb, ltb, eqb}
+use lib.Signed.{leZ}
+use lib.ListN.{length, take, drop}
+use Rattle.model.specs.Lists.{all, concatMap}
+use Rattle.model.specs.Sets.{Division, Kind, equality, inequality, Constraint, BasicSet, Set, absent}
+
+-- a refusal with its number, or a result
+pub data Answer {ℓ} (A : Type ℓ) : Type ℓ where
+  refused : ℕ → Answer A
+  gives : A → Answer A
+
+-- ---- numbers, little-endian
+
+abbrev pub bytesOf : ℕ → ℕ → List ℕ
+bytesOf zero n = []
+bytesOf (suc k) n = n % 256 ∷ bytesOf k (n / 256)
+
+abbrev pub valueOf : List ℕ → ℕ
+valueOf [] = 0
+valueOf (b ∷ bs) = b + 256 * valueOf bs
+
+-- two's complement at k bytes
+abbrev pub unsigned : ℕ → ℤ → ℕ
+unsigned k (pos n) = n
+unsigned k (negsuc n) = 256 ^ k - suc n
+
+abbrev pub signed : ℕ → ℕ → ℤ
+signed k n = cond (ltb (2 * n) (256 ^ k)) (pos n) (negsuc (256 ^ k - suc n))
+
+abbrev pub signedBytes : ℕ → ℤ → List ℕ
+signedBytes k z = bytesOf k (unsigned k z)
+
+-- ---- commands
+
+pub data Command : Type 0 where
+  opens : Command
+  division : Division → Command
+  constraint : Constraint → Command
+
+abbrev pub opcode : Kind → ℕ
+opcode equality = 0x13
+opcode inequality = 0x14
+
+abbrev pub encodeCommand : Command → List ℕ
+encodeCommand opens = 0x11 ∷ []
+encodeCommand (division e) = 0x12 ∷ bytesOf 2 (e .divisor) ++ signedBytes 4 (e .constant) ++ concatMap (signedBytes 2) (e .axes)
+encodeCommand (constraint r) = opcode (r .kind) ∷ signedBytes 4 (r .constant) ++ concatMap (signedBytes 2) (r .axes) ++ concatMap (signedBytes 2) (r .divisions)
+
+abbrev pub commands : Set → List Command
+commands s = concatMap (λ (b : BasicSet). opens ∷ map division (b .divisions) ++ map constraint (b .constraints)) s
+
+unfoldable pub encode : Set → List ℕ
+encode s = concatMap encodeCommand (commands s)
+
+-- k signed numbers of 2 bytes each
+abbrev pub signedList : ℕ → List ℕ → List ℤ
+signedList zero s = []
+signedList (suc k) s = signed 2 (valueOf (take 2 s)) ∷ signedList k (drop 2 s)
+
+abbrev pub readDivision : List ℕ → Division
+readDivision s = record { divisor = valueOf (take 2 s); constant = signed 4 (valueOf (take 4 (drop 2 s))); axes = signedList 8 (drop 6 s) }
+
+abbrev pub readConstraint : Kind → List ℕ → Constraint
+readConstraint k s = record { kind = k; constant = signed 4 (valueOf (take 4 s)); axes = signedList 8 (drop 4 s); divisions = signedList 8 (drop 20 s) }
+
+-- ---- the refusals of one command, in their order; 0 is none
+
+-- how far the set has come: its basic sets, and of the last one the divisions and rules
+pub record Counts : Type 0 where
+  pub basics : ℕ
+  pub divisions : ℕ
+  pub constraints : ℕ
+
+abbrev pub within : ℤ → ℤ → ℤ → Bool
+within l h z = leZ l z && leZ z h
+
+abbrev pub coefficient : ℤ → Bool
+coefficient z = within (negsuc 32766) (pos 32767) z
+
+-- the number of the first test that fails
+abbrev pub firstFailing : List (Bool × ℕ) → ℕ
+firstFailing [] = 0
+firstFailing (t ∷ ts) = cond (t .0) (firstFailing ts) (t .1)
+
+abbrev pub constantFits : Kind → ℤ → Bool
+constantFits equality z = leZ (negsuc 2147483646) z
+constantFits inequality z = true
+
+abbrev pub testsOf : ℕ → Counts → Command → List (Bool × ℕ)
+testsOf n k opens = (ltb (k .basics) 32, 9) ∷ []
+testsOf n k (division e) =
+    (ltb 0 (k .basics), 4)
+    ∷ (eqb (k .constraints) 0, 5)
+    ∷ (ltb (k .divisions) 8, 9)
+    ∷ (ltb 0 (e .divisor) && leb (e .divisor) 32767, 6)
+    ∷ (within (negsuc 999999999) (pos 1000000000) (e .constant) && all coefficient (e .axes), 7)
+    ∷ (absent n (e .axes), 8)
+    ∷ []
+testsOf n k (constraint r) =
+    (ltb 0 (k .basics), 4)
+    ∷ (ltb (k .constraints) 48, 9)
+    ∷ (constantFits (r .kind) (r .constant) && (all coefficient (r .axes) && all coefficient (r .divisions)), 7)
+    ∷ (absent n (r .axes) && absent (k .divisions) (r .divisions), 8)
+    ∷ []
+
+abbrev pub refusal : ℕ → Counts → Command → ℕ
+refusal n k c = firstFailing (testsOf n k c)
+
+abbrev pub counted : Counts → Command → Counts
+counted k opens = record { basics = k .basics + 1; divisions = 0; constraints = 0 }
+counted k (division e) = record { basics = k .basics; divisions = k .divisions + 1; constraints = k .constraints }
+counted k (constraint r) = record { basics = k .basics; divisions = k .divisions; constraints = k .constraints + 1 }
+
+-- ---- decoding
+
+-- the command at the head of the bytes after its first; how many it has with its first; 0: unknown
+abbrev pub widthOf : ℕ → ℕ
+widthOf b = cond (eqb b 0x11) 1 (cond (eqb b 0x12) 23 (cond (eqb b 0x13 || eqb b 0x14) 37 0))
+
+abbrev pub kindOf : ℕ → Kind
+kindOf b = cond (eqb b 0x13) equality inequality
+
+abbrev pub readCommand : ℕ → List ℕ → Command
+readCommand b s = cond (eqb b 0x11) opens (cond (eqb b 0x12) (division (readDivision s)) (constraint (readConstraint (kindOf b) s)))
+
+-- divisions and rules that follow, up to the next basic set, and the basic sets from there on
+pub record Built : Type 0 where
+  pub divisions : List Division
+  pub constraints : List Constraint
+  pub rest : Set
+
+abbrev pub build : List Command → Built
+build [] = record { divisions = []; constraints = []; rest = [] }
+build (opens ∷ cs) = let b : Built = build cs in record { divisions = []; constraints = []; rest = record { divisions = b .divisions; constraints = b .constraints } ∷ b .rest }
+build (division e ∷ cs) = let b : Built = build cs in record { divisions = e ∷ b .divisions; constraints = b .constraints; rest = b .rest }
+build (constraint r ∷ cs) = let b : Built = build cs in record { divisions = b .divisions; constraints = r ∷ b .constraints; rest = b .rest }
+
+abbrev pub after : Command → Answer (List Command) → Answer (List Command)
+after c (refused m) = refused m
+after c (gives cs) = gives (c ∷ cs)
+
+-- the number that refuses the command b with the bytes s after it, 0 for none
+unfoldable pub headRefusal : ℕ → Counts → ℕ → List ℕ → ℕ
+headRefusal n k b s =
+    firstFailing ((ltb 0 (widthOf b), 2) ∷ (leb (widthOf b) (suc (length s)), 3) ∷ (eqb (refusal n k (readCommand b s)) 0, refusal n k (readCommand b s)) ∷ [])
+
+-- the commands of the bytes, or the number of the first that is refused. The first number bounds the length
+unfoldable pub parse : ℕ → ℕ → Counts → List ℕ → Answer (List Command)
+parse n zero k s = gives []
+parse n (suc f) k [] = gives []
+parse n (suc f) k (b ∷ s) =
+    elim (headRefusal n k b s) [
+      | zero ↦ after (readCommand b s) (parse n f (counted k (readCommand b s)) (drop (widthOf b - 1) s))
+      | suc m ↦ refused (suc m)
+    ]
+
+abbrev pub setOf : Answer (List Command) → Answer Set
+setOf (refused m) = refused m
+setOf (gives cs) = gives (build cs .rest)
+
+abbrev pub axesFit : ℕ → Bool
+axesFit n = ltb 0 n && leb n 8
+
+unfoldable pub decode : ℕ → List ℕ → Answer Set
+decode n s = cond (axesFit n) (setOf (parse n (length s) (record { basics = 0; divisions = 0; constraints = 0 }) s)) (refused 1)
+
+-- the number of a refusal, 0 for none
+abbrev pub number : {A : Type 0} → Answer A → ℕ
+number (refused m) = m
+number (gives a) = 0

@@ -1,0 +1,197 @@
+-- Division of integers: toward zero (`quotZ`, `remZ`, as `/` and `%` compute it), rounded down (`floorZ`), and exact. Assumes nothing.
+use mathlib.Core.Path.{_≡_, refl, sym, ap, ap₂, _∙_, subst, subst₂}
+use mathlib.Core.Logic.{_⊎_, inl, inr, ⊎-elim}
+use mathlib.Core.List.{List, [], _∷_}
+use Prim.Native.Nat.{ℕ, zero, suc, _+_, _-_, _*_, _/_, _%_, _^_, _≤_, _<_}
+use native.Mathlib.Omega.{arith}
+use native.Mathlib.Nat.{div-add-mod', mod-lt, mod-le, div-le-self, le-trans, lt-of-le-of-lt, le-of-eq}
+use lib.Dec.{T, ltb→lt, lt→ltb}
+use lib.IntN.{ℤ, pos, negsuc, negℤ, natAbs, _+ℤ_, _-ℤ_, _*ℤ_}
+use lib.Signed.{_≤ℤ_, _<ℤ_, mag, quotZ, remZ, shrZ, mag-shr, mag-rem}
+use mir.Syntax.{Width}
+use mir.Val.{SFits}
+use Rattle.integers.specs.Z.{Within}
+use Rattle.integers.specs.Ring.{ring, quote}
+use Rattle.integers.specs.Lin.{le, lt, eq, fits, abs, lin, lia-le, lia-lt, lia-eq, lia-no, lia-abs, lia-fits}
+use Rattle.integers.specs.Order.{≤ℤ-antisymm, mul-le-right, lt-of-mul-lt, <ℤ-≤ℤ, pos-nonneg, mul-cancel}
+use Rattle.integers.specs.Size.{natAbs-neg}
+
+-- ---- toward zero
+nat-split : (a b : ℕ) → pos (a / b) *ℤ pos b +ℤ pos (a % b) ≡ pos a
+nat-split a b = ap pos (div-add-mod' a b)
+
+-- Int.tdiv_add_tmod
+pub quot-rem : (n d : ℤ) → quotZ n d *ℤ d +ℤ remZ n d ≡ n
+quot-rem (pos a) (pos b) = nat-split a b
+quot-rem (pos a) (negsuc b) = ring (pos (a / suc b) ∷ pos (suc b) ∷ pos (a % suc b) ∷ []) {a = negℤ (pos (a / suc b)) *ℤ negℤ (pos (suc b)) +ℤ pos (a % suc b)} {b = pos (a / suc b) *ℤ pos (suc b) +ℤ pos (a % suc b)} (search quote depth 30) tt ∙ nat-split a (suc b)
+quot-rem (negsuc a) (pos b) = ring (pos (suc a / b) ∷ pos b ∷ pos (suc a % b) ∷ []) {a = negℤ (pos (suc a / b)) *ℤ pos b +ℤ negℤ (pos (suc a % b))} {b = negℤ (pos (suc a / b) *ℤ pos b +ℤ pos (suc a % b))} (search quote depth 30) tt ∙ ap negℤ (nat-split (suc a) b)
+quot-rem (negsuc a) (negsuc b) = ring (pos (suc a / suc b) ∷ pos (suc b) ∷ pos (suc a % suc b) ∷ []) {a = pos (suc a / suc b) *ℤ negℤ (pos (suc b)) +ℤ negℤ (pos (suc a % suc b))} {b = negℤ (pos (suc a / suc b) *ℤ pos (suc b) +ℤ pos (suc a % suc b))} (search quote depth 30) tt ∙ ap negℤ (nat-split (suc a) (suc b))
+
+pub rem-size : (n d : ℤ) → 0 < natAbs d → natAbs (remZ n d) < natAbs d
+rem-size (pos a) d h = mod-lt a h
+rem-size (negsuc a) d h = lt-of-le-of-lt (le-of-eq (natAbs-neg (pos (suc a % natAbs d)))) (mod-lt (suc a) h)
+
+neg-nonpos : (n : ℕ) → negℤ (pos n) ≤ℤ pos 0
+neg-nonpos n = lia-le (pos n ∷ []) (le (pos-nonneg n) ∷ []) (search lin depth 30) (omega arith)
+
+pub rem-nonneg : {n : ℤ} (d : ℤ) → pos 0 ≤ℤ n → pos 0 ≤ℤ remZ n d
+rem-nonneg {n = pos a} d h = pos-nonneg (a % natAbs d)
+rem-nonneg {n = negsuc a} d h = absurd (h .le)
+
+pub rem-nonpos : {n : ℤ} (d : ℤ) → n <ℤ pos 0 → remZ n d ≤ℤ pos 0
+rem-nonpos {n = pos zero} d h = absurd (h .lt)
+rem-nonpos {n = pos (suc a)} d h = absurd (lia-no (pos (suc a) ∷ []) (lt h ∷ le (pos-nonneg (suc a)) ∷ []) (search lin depth 30) (omega arith))
+rem-nonpos {n = negsuc a} d h = neg-nonpos (suc a % natAbs d)
+
+-- a quotient is no larger than the dividend
+pub quot-size : (n d : ℤ) → natAbs (quotZ n d) ≤ natAbs n
+quot-size (pos a) (pos b) = div-le-self a b
+quot-size (pos a) (negsuc b) = le-trans (le-of-eq (natAbs-neg (pos (a / suc b)))) (div-le-self a (suc b))
+quot-size (negsuc a) (pos b) = le-trans (le-of-eq (natAbs-neg (pos (suc a / b)))) (div-le-self (suc a) b)
+quot-size (negsuc a) (negsuc b) = div-le-self (suc a) (suc b)
+
+-- ---- rounded down
+-- q is n / d rounded down, for d > 0
+pub record Floor (n d q : ℤ) : Type 0 where
+  pub low : (q *ℤ d) ≤ℤ n
+  pub high : n <ℤ ((q +ℤ pos 1) *ℤ d)
+
+abbrev pub floorZ : ℤ → ℤ → ℤ
+floorZ n d = shrZ n (natAbs d)
+
+-- there is one
+pub floor-unique : {n d q r : ℤ} → pos 0 <ℤ d → Floor n d q → Floor n d r → q ≡ r
+floor-unique {n} {d} {q} {r} h f g = ≤ℤ-antisymm (one-way f g) (one-way g f)
+  where
+    one-way : {q r : ℤ} → Floor n d q → Floor n d r → q ≤ℤ r
+    one-way {q} {r} f g =
+        let l : q <ℤ (r +ℤ pos 1) = lt-of-mul-lt (<ℤ-≤ℤ h) (lia-lt (n ∷ d ∷ q ∷ r ∷ []) (le (f .low) ∷ lt (g .high) ∷ []) (search lin depth 30) (omega arith)) in
+        lia-le (q ∷ r ∷ []) (lt l ∷ []) (search lin depth 30) (omega arith)
+
+-- from the quotient toward zero: the test is of the remainder
+pub floor-quot : {n d : ℤ} → pos 0 <ℤ d → pos 0 ≤ℤ remZ n d → Floor n d (quotZ n d)
+floor-quot {n} {d} h k =
+    let q = quotZ n d in let r = remZ n d in
+    let s : r <ℤ d = rem-below n d h in
+    record {
+      low = lia-le (n ∷ d ∷ q ∷ r ∷ []) (eq (quot-rem n d) ∷ le k ∷ []) (search lin depth 30) (omega arith);
+      high = lia-lt (n ∷ d ∷ q ∷ r ∷ []) (eq (quot-rem n d) ∷ lt s ∷ []) (search lin depth 30) (omega arith);
+    }
+  where
+    rem-below : (n d : ℤ) → pos 0 <ℤ d → remZ n d <ℤ d
+    rem-below n (pos b) h = let z = rem-size n (pos b) (ltb→lt 0 b (h .lt)) in
+        lia-lt (remZ n (pos b) ∷ pos b ∷ pos (natAbs (remZ n (pos b))) ∷ []) (abs {a = remZ n (pos b)} {n = natAbs (remZ n (pos b))} (record { size = omega arith }) ∷ []) (search lin depth 30) (omega arith)
+    rem-below n (negsuc b) h = absurd (h .lt)
+
+pub floor-quot-less : {n d : ℤ} → pos 0 <ℤ d → remZ n d <ℤ pos 0 → Floor n d (quotZ n d -ℤ pos 1)
+floor-quot-less {n} {d} h k =
+    let q = quotZ n d in let r = remZ n d in
+    let s : negℤ d <ℤ r = rem-above n d h in
+    record {
+      low = lia-le (n ∷ d ∷ q ∷ r ∷ []) (eq (quot-rem n d) ∷ lt s ∷ []) (search lin depth 30) (omega arith);
+      high = lia-lt (n ∷ d ∷ q ∷ r ∷ []) (eq (quot-rem n d) ∷ lt k ∷ []) (search lin depth 30) (omega arith);
+    }
+  where
+    rem-above : (n d : ℤ) → pos 0 <ℤ d → negℤ d <ℤ remZ n d
+    rem-above n (pos b) h = let z = rem-size n (pos b) (ltb→lt 0 b (h .lt)) in
+        lia-lt (remZ n (pos b) ∷ pos b ∷ []) (abs {a = remZ n (pos b)} {n = natAbs (remZ n (pos b))} (record { size = omega arith }) ∷ []) (search lin depth 30) (omega arith)
+    rem-above n (negsuc b) h = absurd (h .lt)
+
+-- `floorZ` is it
+pub floorZ-is : (n : ℤ) {d : ℤ} → pos 0 <ℤ d → Floor n d (floorZ n d)
+floorZ-is (pos a) {d = pos b} h =
+    let e = nat-split a b in let m = mod-lt a (ltb→lt 0 b (h .lt)) in
+    record {
+      low = lia-le (pos (a / b) ∷ pos b ∷ pos (a % b) ∷ pos a ∷ []) (eq {a = pos (a / b) *ℤ pos b +ℤ pos (a % b)} e ∷ []) (search lin depth 30) (omega arith);
+      high = lia-lt (pos (a / b) ∷ pos b ∷ pos (a % b) ∷ pos a ∷ []) (eq {a = pos (a / b) *ℤ pos b +ℤ pos (a % b)} e ∷ []) (search lin depth 30) (omega arith);
+    }
+floorZ-is (negsuc a) {d = pos b} h =
+    let e = nat-split a b in let m = mod-lt a (ltb→lt 0 b (h .lt)) in
+    let f : negℤ (pos a) -ℤ pos 1 ≡ negsuc a = neg-suc a in let g : negℤ (pos (a / b)) -ℤ pos 1 ≡ negsuc (a / b) = neg-suc (a / b) in
+    subst₂ (λ (n q : ℤ). Floor n (pos b) q) f g
+    (record {
+      low = lia-le (pos (a / b) ∷ pos b ∷ pos (a % b) ∷ pos a ∷ []) (eq {a = pos (a / b) *ℤ pos b +ℤ pos (a % b)} e ∷ []) (search lin depth 30) (omega arith);
+      high = lia-lt (pos (a / b) ∷ pos b ∷ pos (a % b) ∷ pos a ∷ []) (eq {a = pos (a / b) *ℤ pos b +ℤ pos (a % b)} e ∷ []) (search lin depth 30) (omega arith);
+    })
+  where
+    neg-suc : (a : ℕ) → negℤ (pos a) -ℤ pos 1 ≡ negsuc a
+    neg-suc zero = refl
+    neg-suc (suc a) = ap negsuc (omega arith)
+floorZ-is n {d = negsuc b} h = absurd (h .lt)
+
+-- ---- exact
+pub exact : (n d : ℤ) → remZ n d ≡ pos 0 → quotZ n d *ℤ d ≡ n
+exact n d e = lia-eq (quotZ n d ∷ d ∷ n ∷ remZ n d ∷ []) (eq (quot-rem n d) ∷ eq e ∷ []) (search lin depth 30) (omega arith)
+
+pub exact-unique : {n d q r : ℤ} → pos 0 <ℤ d → q *ℤ d ≡ n → r *ℤ d ≡ n → q ≡ r
+exact-unique {n} {d} {q} {r} h e f = mul-cancel h (e ∙ sym f)
+
+-- ---- as code computes it, and that it fits
+pub quot-is-floor : (n d : ℤ) → pos 0 <ℤ d → pos 0 ≤ℤ remZ n d → quotZ n d ≡ floorZ n d
+quot-is-floor n d h k = floor-unique h (floor-quot h k) (floorZ-is n h)
+
+pub quot-less-is-floor : (n d : ℤ) → pos 0 <ℤ d → remZ n d <ℤ pos 0 → quotZ n d -ℤ pos 1 ≡ floorZ n d
+quot-less-is-floor n d h k = floor-unique h (floor-quot-less h k) (floorZ-is n h)
+
+mag-neg : (r a : ℕ) → r ≤ suc a → mag (negℤ (pos r)) ≤ a
+mag-neg zero a h = omega arith
+mag-neg (suc r) a h = omega arith
+
+pub quot-mag : (n : ℤ) {d : ℤ} → pos 0 <ℤ d → mag (quotZ n d) ≤ mag n
+quot-mag (pos a) {d = pos b} h = div-le-self a b
+quot-mag (negsuc a) {d = pos b} h = mag-neg (suc a / b) a (div-le-self (suc a) b)
+quot-mag n {d = negsuc b} h = absurd (h .lt)
+
+pub quot-fits : {w : Width} {n d : ℤ} → SFits w n → pos 0 <ℤ d → SFits w (quotZ n d)
+quot-fits {w} {n} {d} f h = record { sfits = lt-of-le-of-lt (quot-mag n h) (f .sfits) }
+
+pub floor-fits : {w : Width} {n : ℤ} (d : ℤ) → SFits w n → SFits w (floorZ n d)
+floor-fits {w} {n} d f = record { sfits = lt-of-le-of-lt (mag-shr n (natAbs d)) (f .sfits) }
+
+pub rem-fits : {w : Width} {n : ℤ} (d : ℤ) → SFits w n → SFits w (remZ n d)
+rem-fits {w} {n} d f = record { sfits = lt-of-le-of-lt (mag-rem n d) (f .sfits) }
+
+pub rem-abs : (n d : ℤ) → natAbs (remZ n d) ≡ natAbs n % natAbs d
+rem-abs (pos a) d = refl
+rem-abs (negsuc a) d = natAbs-neg (pos (suc a % natAbs d))
+
+-- the other code for it, below 0: −((−n + d − 1) / d)
+pub neg-ceil-is-floor : (n d : ℤ) → pos 0 <ℤ d → n <ℤ pos 0 → negℤ (quotZ (negℤ n +ℤ d -ℤ pos 1) d) ≡ floorZ n d
+neg-ceil-is-floor n d h k =
+    let m = negℤ n +ℤ d -ℤ pos 1 in let q = quotZ m d in let r = remZ m d in
+    let hm : pos 0 ≤ℤ m = lia-le (n ∷ d ∷ []) (lt h ∷ lt k ∷ []) (search lin depth 30) (omega arith) in
+    let f = floor-quot {n = m} h (rem-nonneg d hm) in
+    floor-unique h
+    (record {
+      low = lia-le (n ∷ d ∷ q ∷ []) (lt (f .high) ∷ []) (search lin depth 30) (omega arith);
+      high = lia-lt (n ∷ d ∷ q ∷ []) (le (f .low) ∷ []) (search lin depth 30) (omega arith);
+    })
+    (floorZ-is n h)
+
+-- ---- a bound by a quotient is a bound by its floor: x·d ≤ n where and only where x ≤ ⌊n / d⌋
+pub le-floor : {n d x : ℤ} → pos 0 <ℤ d → (x *ℤ d) ≤ℤ n → x ≤ℤ floorZ n d
+le-floor {n} {d} {x} h k =
+    let q = floorZ n d in let f = floorZ-is n h in
+    let l : x <ℤ (q +ℤ pos 1) = lt-of-mul-lt (<ℤ-≤ℤ h) (lia-lt (n ∷ d ∷ x ∷ q ∷ []) (le k ∷ lt (f .high) ∷ []) (search lin depth 30) (omega arith)) in
+    lia-le (x ∷ q ∷ []) (lt l ∷ []) (search lin depth 30) (omega arith)
+
+pub floor-le : (n : ℤ) {d x : ℤ} → pos 0 <ℤ d → x ≤ℤ floorZ n d → (x *ℤ d) ≤ℤ n
+floor-le n {d} {x} h k =
+    let q = floorZ n d in let f = floorZ-is n h in
+    lia-le (n ∷ d ∷ x ∷ q ∷ []) (le (mul-le-right (<ℤ-≤ℤ h) k) ∷ le (f .low) ∷ []) (search lin depth 30) (omega arith)
+
+-- rounded up
+abbrev pub ceilZ : ℤ → ℤ → ℤ
+ceilZ n d = negℤ (floorZ (negℤ n) d)
+
+pub ceil-le : {n d x : ℤ} → pos 0 <ℤ d → n ≤ℤ (x *ℤ d) → ceilZ n d ≤ℤ x
+ceil-le {n} {d} {x} h k =
+    let q = floorZ (negℤ n) d in
+    let l : negℤ x ≤ℤ q = le-floor {n = negℤ n} {x = negℤ x} h (lia-le (n ∷ d ∷ x ∷ []) (le k ∷ []) (search lin depth 30) (omega arith)) in
+    lia-le (x ∷ q ∷ []) (le l ∷ []) (search lin depth 30) (omega arith)
+
+pub le-ceil : (n : ℤ) {d x : ℤ} → pos 0 <ℤ d → ceilZ n d ≤ℤ x → n ≤ℤ (x *ℤ d)
+le-ceil n {d} {x} h k =
+    let q = floorZ (negℤ n) d in
+    let l : (negℤ x *ℤ d) ≤ℤ negℤ n = floor-le (negℤ n) {x = negℤ x} h (lia-le (x ∷ q ∷ []) (le k ∷ []) (search lin depth 30) (omega arith)) in
+    lia-le (n ∷ d ∷ x ∷ []) (le l ∷ []) (search lin depth 30) (omega arith)

@@ -1,0 +1,149 @@
+-- What a need of a function with signed locals asks and is told, in terms of integers. A signed local holds bits: a value read is `toZ w bits`, a result
+-- written is `ofZ w z`, and a test is an equation of `ltZ` or `leZ`. Quoting goes through `toZ w (ofZ w z)` where z fits (`q-back`), and through
+-- `toZ w n` of an unsigned n that is small (`q-cast`): `search mach` is `search lin` with these. Assumes nothing.
+use mathlib.Core.Path.{_≡_, refl, sym, ap, ap₂, _∙_, subst, subst₂}
+use mathlib.Core.Bool.{Bool, true, false, not}
+use mathlib.Core.List.{List, [], _∷_}
+use Prim.Native.Nat.{ℕ, zero, suc, _+_, _-_, _*_, _^_, _≤_, _<_}
+use native.Mathlib.Omega.{arith}
+use native.Mathlib.Nat.{lt-of-lt-of-le}
+use lib.Dec.{T, leb, ltb, leb→le, ltb→lt}
+use lib.IntN.{ℤ, pos, negsuc, negℤ, natAbs, _+ℤ_, _-ℤ_, _*ℤ_}
+use lib.Signed.{_≤ℤ_, _<ℤ_, leZ, ltZ, ltZ-yes, leZ-yes, ltZ-no, mag, nonNeg, quotZ, remZ}
+use mir.Syntax.{Width}
+use mir.Val.{SFits, Fits, hbits, bits, toZ, ofZ}
+use lib.Dec as D
+use mir.ValLaws as L
+use Rattle.integers.specs.Ring.{Quote}
+use Rattle.integers.specs.Lin.{lin, lt, le, lia-le, lia-lt}
+
+-- ---- tests. The two numbers are explicit, since `ltZ` computes: where the goal does not show them, write them
+pub ltZ-true : (a b : ℤ) → ltZ a b ≡ true → a <ℤ b
+ltZ-true a b e = ltZ-yes (subst T (sym e) tt)
+
+pub ltZ-false : (a b : ℤ) → ltZ a b ≡ false → b ≤ℤ a
+ltZ-false a b e = ltZ-no (subst (λ (t : Bool). T (not t)) (sym e) tt)
+
+pub leZ-true : (a b : ℤ) → leZ a b ≡ true → a ≤ℤ b
+leZ-true a b e = leZ-yes (subst T (sym e) tt)
+
+nle : (a b : ℤ) → T (not (leZ a b)) → b <ℤ a
+nle (pos a) (pos b) t = record { lt = D.lt→ltb b a (D.nleb→lt a b t) }
+nle (pos a) (negsuc b) t = record { lt = tt }
+nle (negsuc a) (pos b) t = absurd t
+nle (negsuc a) (negsuc b) t = record { lt = D.lt→ltb a b (D.nleb→lt b a t) }
+
+pub leZ-false : (a b : ℤ) → leZ a b ≡ false → b <ℤ a
+leZ-false a b e = nle a b (subst (λ (t : Bool). T (not t)) (sym e) tt)
+
+-- ---- what a local's bits stand for
+pub toZ-ofZ : {w : Width} {z : ℤ} → SFits w z → toZ w (ofZ w z) ≡ z
+toZ-ofZ {w} {z} h = L.toZ-ofZ w z h
+
+-- an unsigned number that is below a bound, cast to a signed type
+pub toZ-nat : (w : Width) (n m : ℕ) → n < m → T (leb m (2 ^ hbits w)) → toZ w n ≡ pos n
+toZ-nat w n m h t = L.toZ-pos w n (lt-of-lt-of-le h (leb→le m (2 ^ hbits w) t))
+
+-- ---- quoting
+abbrev pub q-back : {l : List ℤ} {w : Width} {z : ℤ} → SFits w z → Quote l z → Quote l (toZ w (ofZ w z))
+q-back h x = record { e = x .e; is = x .is ∙ sym (toZ-ofZ h) }
+
+abbrev pub q-cast : {l : List ℤ} (w : Width) (n m : ℕ) → n < m → T (leb m (2 ^ hbits w)) → Quote l (pos n) → Quote l (toZ w n)
+q-cast w n m h t x = record { e = x .e; is = x .is ∙ sym (toZ-nat w n m h t) }
+
+-- ---- two naturals, compared as integers
+pub lt-nat : {a b : ℕ} → pos a <ℤ pos b → a < b
+lt-nat {a} {b} h = ltb→lt a b (h .lt)
+
+pub le-nat : {a b : ℕ} → pos a ≤ℤ pos b → a ≤ b
+le-nat {a} {b} h = leb→le a b (h .le)
+
+-- a call's result, from the range that the call gives: `result-is w64 _ (c .f .ok) : toZ w64 (ofZ w64 (c .f .result)) ≡ c .f .result`
+pub result-is : (w : Width) (z : ℤ) → mag z < 2 ^ hbits w → toZ w (ofZ w z) ≡ z
+result-is w z h = toZ-ofZ (record { sfits = h })
+
+-- ---- a cast to an unsigned type, of what is known to be a natural number
+pub cast-nat : (w : Width) (z : ℤ) (n : ℕ) → z ≡ pos n → n < 2 ^ bits w → T (nonNeg z) × Fits w (natAbs z)
+cast-nat w z n e h = subst (λ (x : ℤ). T (nonNeg x) × Fits w (natAbs x)) (sym e) (tt, record { fits = h })
+
+-- ---- a divisor
+pub divisor-pos : (w : Width) {d : ℤ} → pos 0 <ℤ d → 0 < ofZ w d
+divisor-pos w {d = pos n} h = ltb→lt 0 n (h .lt)
+divisor-pos w {d = negsuc n} h = absurd (h .lt)
+
+-- the bits are 0 where the number is
+pub toZ-zero : (w : Width) (n : ℕ) → Fits w n → toZ w n ≡ pos 0 → n ≡ 0
+toZ-zero w n f e = sym (L.ofZ-toZ w n f) ∙ ap (ofZ w) e
+
+-- a test that both passed and failed
+pub clash {ℓ} : {X : Type ℓ} {t : Bool} → t ≡ true → t ≡ false → X
+clash p q = absurd (subst T (sym p ∙ q) tt)
+
+-- ---- the bits n stand for z. Each operation has two lemmas: what it asks (`ask-mul`), and what its result stands for (`b-mul`)
+pub record Bits (w : Width) (n : ℕ) (z : ℤ) : Type 0 where
+  pub is : toZ w n ≡ z
+
+-- a parameter, an element, a call's result
+pub b-of : {w : Width} {z : ℤ} → SFits w z → Bits w (ofZ w z) z
+b-of h = record { is = toZ-ofZ h }
+
+-- an unsigned number, cast
+pub b-nat : (w : Width) (n m : ℕ) → n < m → T (leb m (2 ^ hbits w)) → Bits w n (pos n)
+b-nat w n m h t = record { is = toZ-nat w n m h t }
+
+module _ {w : Width} {x y : ℕ} {a b : ℤ} (p : Bits w x a) (q : Bits w y b) where
+  pub ask-add : SFits w (a +ℤ b) → SFits w (toZ w x +ℤ toZ w y)
+  ask-add h = subst₂ (λ (u v : ℤ). SFits w (u +ℤ v)) (sym (p .is)) (sym (q .is)) h
+
+  pub ask-sub : SFits w (a -ℤ b) → SFits w (toZ w x -ℤ toZ w y)
+  ask-sub h = subst₂ (λ (u v : ℤ). SFits w (u -ℤ v)) (sym (p .is)) (sym (q .is)) h
+
+  pub ask-mul : SFits w (a *ℤ b) → SFits w (toZ w x *ℤ toZ w y)
+  ask-mul h = subst₂ (λ (u v : ℤ). SFits w (u *ℤ v)) (sym (p .is)) (sym (q .is)) h
+
+  pub ask-quot : 0 < y → SFits w (quotZ a b) → (0 < y) × SFits w (quotZ (toZ w x) (toZ w y))
+  ask-quot k h = (k, subst₂ (λ (u v : ℤ). SFits w (quotZ u v)) (sym (p .is)) (sym (q .is)) h)
+
+  pub b-add : SFits w (a +ℤ b) → Bits w (ofZ w (toZ w x +ℤ toZ w y)) (a +ℤ b)
+  b-add h = record { is = toZ-ofZ (ask-add h) ∙ ap₂ _+ℤ_ (p .is) (q .is) }
+
+  pub b-sub : SFits w (a -ℤ b) → Bits w (ofZ w (toZ w x -ℤ toZ w y)) (a -ℤ b)
+  b-sub h = record { is = toZ-ofZ (ask-sub h) ∙ ap₂ (λ (u v : ℤ). u -ℤ v) (p .is) (q .is) }
+
+  pub b-mul : SFits w (a *ℤ b) → Bits w (ofZ w (toZ w x *ℤ toZ w y)) (a *ℤ b)
+  b-mul h = record { is = toZ-ofZ (ask-mul h) ∙ ap₂ _*ℤ_ (p .is) (q .is) }
+
+  pub b-quot : SFits w (quotZ a b) → Bits w (ofZ w (quotZ (toZ w x) (toZ w y))) (quotZ a b)
+  b-quot h = record { is = toZ-ofZ (subst₂ (λ (u v : ℤ). SFits w (quotZ u v)) (sym (p .is)) (sym (q .is)) h) ∙ ap₂ quotZ (p .is) (q .is) }
+
+  pub b-rem : SFits w (remZ a b) → Bits w (ofZ w (remZ (toZ w x) (toZ w y))) (remZ a b)
+  b-rem h = record { is = toZ-ofZ (subst₂ (λ (u v : ℤ). SFits w (remZ u v)) (sym (p .is)) (sym (q .is)) h) ∙ ap₂ remZ (p .is) (q .is) }
+
+  -- the tests
+  pub is-lt : ltZ (toZ w x) (toZ w y) ≡ true → a <ℤ b
+  is-lt e = ltZ-true a b (ap₂ ltZ (sym (p .is)) (sym (q .is)) ∙ e)
+
+  pub is-ge : ltZ (toZ w x) (toZ w y) ≡ false → b ≤ℤ a
+  is-ge e = ltZ-false a b (ap₂ ltZ (sym (p .is)) (sym (q .is)) ∙ e)
+
+  pub is-le : leZ (toZ w x) (toZ w y) ≡ true → a ≤ℤ b
+  is-le e = leZ-true a b (ap₂ leZ (sym (p .is)) (sym (q .is)) ∙ e)
+
+  pub is-gt : leZ (toZ w x) (toZ w y) ≡ false → b <ℤ a
+  is-gt e = leZ-false a b (ap₂ leZ (sym (p .is)) (sym (q .is)) ∙ e)
+
+-- a literal
+pub b-lit : (w : Width) (n : ℕ) {z : ℤ} → toZ w n ≡ z → Bits w n z
+b-lit w n e = record { is = e }
+
+-- the quoting of a local, by what its bits stand for
+abbrev pub q-bits : {l : List ℤ} {w : Width} {n : ℕ} {z : ℤ} → Bits w n z → Quote l z → Quote l (toZ w n)
+q-bits h x = record { e = x .e; is = x .is ∙ sym (h .is) }
+
+-- `search mach` quotes what a need says of signed locals, where in reach are: `SFits w z` for each `toZ w (ofZ w z)`, `n < m` for each `toZ w n` of a cast
+-- natural number, and `Bits w n z` for each local n
+pub ruleset mach = (lin, q-back, q-cast, q-bits)
+
+-- two numbers with the same bits, as `x == y` tells
+pub ofZ-same : {w : Width} {a b : ℤ} → SFits w a → SFits w b → ofZ w a ≡ ofZ w b → a ≡ b
+ofZ-same {w} h k e = sym (toZ-ofZ h) ∙ ap (toZ w) e ∙ toZ-ofZ k

@@ -1,0 +1,134 @@
+-- Member and the first-point search (document 01, "Asking").
+use mathlib.Core.Bool.{Bool, true, false, not, _&&_, _||_, cond}
+use mathlib.Core.List.{List, [], _∷_, _++_, map}
+use mathlib.Core.Option.{Option, none, some}
+use Prim.Native.Nat.{ℕ, zero, suc, _+_}
+use lib.IntN.{ℤ, pos, negsuc, natAbs, _+ℤ_, _-ℤ_, _*ℤ_}
+use lib.Dec.{leb, ltb}
+use lib.Signed.{nonNeg, leZ}
+use lib.ListN.{take, drop}
+use Rattle.model.specs.Lists.{all, any}
+use Rattle.model.specs.Sets.{Division, Kind, equality, inequality, Constraint, BasicSet, Set, absent, floorDiv, inSet}
+use Rattle.codec.specs.Bytes.{Answer, refused, gives, decode, within}
+
+-- from low to high
+pub record Interval : Type 0 where
+  pub low : ℤ
+  pub high : ℤ
+
+-- ---- the least and the greatest value over sides
+
+abbrev pub only : ℤ → Interval
+only z = record { low = z; high = z }
+
+abbrev pub plus : Interval → Interval → Interval
+plus s t = record { low = s .low +ℤ t .low; high = s .high +ℤ t .high }
+
+abbrev pub times : ℤ → Interval → Interval
+times a s = record { low = a *ℤ cond (nonNeg a) (s .low) (s .high); high = a *ℤ cond (nonNeg a) (s .high) (s .low) }
+
+abbrev pub dotSides : List ℤ → List Interval → Interval
+dotSides [] ss = only (pos 0)
+dotSides (a ∷ us) [] = only (pos 0)
+dotSides (a ∷ us) (s ∷ ss) = plus (times a s) (dotSides us ss)
+
+abbrev pub quotientSide : List Interval → Division → Interval
+quotientSide ss e =
+    let n : Interval = plus (only (e .constant)) (dotSides (e .axes) ss) in
+    record { low = floorDiv (n .low) (e .divisor); high = floorDiv (n .high) (e .divisor) }
+
+abbrev pub valueSide : List Interval → List Interval → Constraint → Interval
+valueSide xs qs r = plus (only (r .constant)) (plus (dotSides (r .axes) xs) (dotSides (r .divisions) qs))
+
+abbrev pub canMeet : Kind → Interval → Bool
+canMeet equality s = leZ (s .low) (pos 0) && nonNeg (s .high)
+canMeet inequality s = nonNeg (s .high)
+
+abbrev pub canHold : List Interval → BasicSet → Bool
+canHold xs b = all (λ (r : Constraint). canMeet (r .kind) (valueSide xs (map (quotientSide xs) (b .divisions)) r)) (b .constraints)
+
+-- in some basic set every rule can still hold, with the prefix p fixed and the sides ss open
+abbrev pub passes : Set → List ℤ → List Interval → Bool
+passes s p ss = any (canHold (map only p ++ ss)) s
+
+-- ---- the walk with no limit: the first passing prefix of full length, and how many prefixes were tested
+
+pub record Walk : Type 0 where
+  pub found : Option (List ℤ)
+  pub tested : ℕ
+
+-- w, then v if w found nothing
+abbrev pub orElse : Walk → Walk → Walk
+orElse w v = elim (w .found) [ some p ↦ w | none ↦ record { found = v .found; tested = w .tested + v .tested } ]
+
+abbrev pub oneMore : Walk → Walk
+oneMore w = record { found = w .found; tested = suc (w .tested) }
+
+-- k values upward from x, each tested and gone below if it passes
+abbrev pub upward : (ℤ → Bool) → (ℤ → Walk) → ℕ → ℤ → Walk
+upward ok inside zero x = record { found = none; tested = 0 }
+upward ok inside (suc k) x =
+    elim (ok x) [
+      | true ↦ oneMore (orElse (inside x) (upward ok inside k (x +ℤ pos 1)))
+      | false ↦ oneMore (upward ok inside k (x +ℤ pos 1))
+    ]
+
+-- how many values a side has
+abbrev pub width : Interval → ℕ
+width s = cond (leZ (s .low) (s .high)) (suc (natAbs (s .high -ℤ s .low))) 0
+
+unfoldable pub walk : Set → List ℤ → List Interval → Walk
+walk s p [] = record { found = some p; tested = 0 }
+walk s p (b ∷ bs) = upward (λ (x : ℤ). passes s (p ++ (x ∷ [])) bs) (λ (x : ℤ). walk s (p ++ (x ∷ [])) bs) (width b) (b .low)
+
+-- ---- with the limit: spent if the walk is not known after as many
+
+pub data Found : Type 0 where
+  at : List ℤ → Found
+  nothing spent : Found
+
+pub record Tallied : Type 0 where
+  pub found : Found
+  pub tested : ℕ
+
+abbrev pub foundOf : Option (List ℤ) → Found
+foundOf none = nothing
+foundOf (some p) = at p
+
+unfoldable pub firstPoint : Set → List Interval → ℕ → Tallied
+firstPoint s box limit =
+    let w : Walk = walk s [] box in
+    cond (leb (w .tested) limit) (record { found = foundOf (w .found); tested = w .tested }) (record { found = spent; tested = limit })
+
+-- ---- on bytes, with the refusals 12 and 13
+
+abbrev pub coordinate : ℤ → Bool
+coordinate z = within (negsuc 1048575) (pos 1048576) z
+
+abbrev pub pointFits : ℕ → List ℤ → Bool
+pointFits n x = all coordinate x && absent n x
+
+unfoldable pub memberBytes : ℕ → List ℕ → List ℤ → Answer Bool
+memberBytes n a x = onSet (decode n a)
+  where
+    onSet : Answer Set → Answer Bool
+    onSet (refused m) = refused m
+    onSet (gives s) = cond (pointFits n x) (gives (inSet (take n x) s)) (refused 12)
+
+abbrev pub boxOf : List ℤ → List ℤ → List Interval
+boxOf [] hs = []
+boxOf (l ∷ ls) [] = []
+boxOf (l ∷ ls) (h ∷ hs) = record { low = l; high = h } ∷ boxOf ls hs
+
+abbrev pub boxFits : ℕ → List ℤ → List ℤ → Bool
+boxFits n ls hs = pointFits n ls && (pointFits n hs && all (λ (s : Interval). leZ (s .low) (s .high)) (boxOf ls hs))
+
+unfoldable pub searchBytes : ℕ → List ℕ → List ℤ → List ℤ → ℕ → Answer Tallied
+searchBytes n a ls hs limit = onSet (decode n a)
+  where
+    onSet : Answer Set → Answer Tallied
+    onSet (refused m) = refused m
+    onSet (gives s) =
+        cond (boxFits n ls hs)
+        (cond (ltb 0 limit && leb limit 1000000) (gives (firstPoint s (take n (boxOf ls hs)) limit)) (refused 13))
+        (refused 12)

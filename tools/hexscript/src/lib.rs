@@ -1,0 +1,6 @@
+//! Stored scripts and calls as readable text: text to bytes, bytes to text, and a runner.
+
+pub mod describe;
+pub mod files;
+pub mod runner;
+pub mod tokens;

@@ -1,0 +1,187 @@
+//! "Cutting rules": union, intersection, difference, complement.
+
+use crate::model::{
+    BasicSet, Kind, Rule, Set, MAX_BASIC_SETS, MAX_DIVISIONS, MAX_RULES,
+};
+use crate::refusal;
+use crate::test::{test, Outcome};
+
+/// Is shown every candidate tested, with its answer, in the order of testing.
+pub type Watch<'a> = dyn FnMut(&BasicSet, Outcome) + 'a;
+
+/// A watch for those who need none.
+pub fn unwatched(_: &BasicSet, _: Outcome) {}
+
+/// The opposites of a rule, in order. Constants stay within 32 bits, as an
+/// equality's is at least −2,147,483,647.
+pub fn opposites(rule: &Rule) -> Vec<Rule> {
+    let below = Rule {
+        kind: Kind::Inequality,
+        constant: -rule.constant - 1,
+        axes: rule.axes.map(|k| -k),
+        divs: rule.divs.map(|k| -k),
+    };
+    match rule.kind {
+        Kind::Inequality => vec![below],
+        Kind::Equality => {
+            let above = Rule {
+                kind: Kind::Inequality,
+                constant: rule.constant - 1,
+                ..rule.clone()
+            };
+            vec![above, below]
+        }
+    }
+}
+
+/// A's divisions with B's joined to them, and B's rules moved accordingly.
+/// A join over 8 divisions is refused.
+pub fn join(a: &BasicSet, b: &BasicSet) -> Result<(BasicSet, Vec<Rule>), u8> {
+    let mut joined = a.clone();
+    let mut taken = vec![false; a.divisions.len()];
+    let mut places = Vec::new();
+    for division in &b.divisions {
+        // Only A's own divisions can be shared, each with one of B's.
+        let shared = (0..a.divisions.len())
+            .find(|&i| !taken[i] && a.divisions[i] == *division);
+        match shared {
+            Some(i) => {
+                taken[i] = true;
+                places.push(i);
+            }
+            None => {
+                places.push(joined.divisions.len());
+                joined.divisions.push(division.clone());
+            }
+        }
+    }
+    if joined.divisions.len() > MAX_DIVISIONS {
+        return Err(refusal::TOO_MANY_RESULTING);
+    }
+    let moved = b.rules.iter().map(|rule| move_rule(rule, &places)).collect();
+    Ok((joined, moved))
+}
+
+fn move_rule(rule: &Rule, places: &[usize]) -> Rule {
+    let mut moved = rule.clone();
+    moved.divs = [0; MAX_DIVISIONS];
+    for (old, &new) in places.iter().enumerate() {
+        moved.divs[new] = rule.divs[old];
+    }
+    moved
+}
+
+/// Tests a candidate, or refuses one over 48 rules, whatever the test would
+/// say (reading 8).
+fn try_candidate(n: usize, candidate: &BasicSet, watch: &mut Watch) -> Result<bool, u8> {
+    if candidate.rules.len() > MAX_RULES {
+        return Err(refusal::TOO_MANY_RESULTING);
+    }
+    let outcome = test(n, candidate);
+    watch(candidate, outcome);
+    Ok(outcome.kept())
+}
+
+/// Adds to a result; a 33rd basic set is refused.
+fn push_result(result: &mut Set, basic: BasicSet) -> Result<(), u8> {
+    if result.basics.len() == MAX_BASIC_SETS {
+        return Err(refusal::TOO_MANY_RESULTING);
+    }
+    result.basics.push(basic);
+    Ok(())
+}
+
+/// First set's basic sets, then the second's, untested.
+pub fn union(a: &Set, b: &Set) -> Result<Set, u8> {
+    let mut result = Set::empty(a.n);
+    for basic in a.basics.iter().chain(&b.basics) {
+        push_result(&mut result, basic.clone())?;
+    }
+    Ok(result)
+}
+
+/// Every pair joined and tested, the first set's basic sets outermost.
+pub fn intersection(a: &Set, b: &Set, watch: &mut Watch) -> Result<Set, u8> {
+    let mut result = Set::empty(a.n);
+    for first in &a.basics {
+        for second in &b.basics {
+            let (mut candidate, moved) = join(first, second)?;
+            candidate.rules.extend(moved);
+            if try_candidate(a.n, &candidate, watch)? {
+                push_result(&mut result, candidate)?;
+            }
+        }
+    }
+    Ok(result)
+}
+
+/// "One cut": the pieces left of a basic set after one cutter.
+pub fn cut(
+    n: usize,
+    basic: &BasicSet,
+    cutter: &BasicSet,
+    watch: &mut Watch,
+) -> Result<Vec<BasicSet>, u8> {
+    let (mut working, moved) = join(basic, cutter)?;
+    let mut pieces = Vec::new();
+    for rule in moved {
+        let before = pieces.len();
+        for opposite in opposites(&rule) {
+            let mut candidate = working.clone();
+            candidate.rules.push(opposite);
+            if try_candidate(n, &candidate, watch)? {
+                pieces.push(candidate);
+            }
+        }
+        if pieces.len() > before {
+            working.rules.push(rule);
+        }
+    }
+    Ok(pieces)
+}
+
+/// Pieces wait on a stack with the number of cutters they have met, so that
+/// the pieces between two cutters, which have no limit, take little room.
+/// Any refusal met is 10, so it does not matter which is met first.
+pub fn difference(a: &Set, b: &Set, watch: &mut Watch) -> Result<Set, u8> {
+    let mut result = Set::empty(a.n);
+    let mut waiting: Vec<(BasicSet, usize)> =
+        a.basics.iter().rev().map(|basic| (basic.clone(), 0)).collect();
+    while let Some((piece, met)) = waiting.pop() {
+        match b.basics.get(met) {
+            None => push_result(&mut result, piece)?,
+            Some(cutter) => {
+                let pieces = cut(a.n, &piece, cutter, watch)?;
+                waiting.extend(pieces.into_iter().rev().map(|p| (p, met + 1)));
+            }
+        }
+    }
+    Ok(result)
+}
+
+/// The difference of the rule-less basic set and the set.
+pub fn complement(a: &Set, watch: &mut Watch) -> Result<Set, u8> {
+    difference(&Set::everything(a.n), a, watch)
+}
+
+/// "Pieces cut from one basic set are those left of it after the same
+/// cutter": element k holds those left after cutter k + 1. Other than
+/// `difference` this keeps all pieces of a stage at once.
+pub fn pieces_after_each_cutter(
+    n: usize,
+    basic: &BasicSet,
+    cutters: &[BasicSet],
+    watch: &mut Watch,
+) -> Result<Vec<Vec<BasicSet>>, u8> {
+    let mut stages: Vec<Vec<BasicSet>> = Vec::new();
+    let mut pieces = vec![basic.clone()];
+    for cutter in cutters {
+        let mut left = Vec::new();
+        for piece in &pieces {
+            left.extend(cut(n, piece, cutter, watch)?);
+        }
+        stages.push(left.clone());
+        pieces = left;
+    }
+    Ok(stages)
+}

@@ -1,0 +1,180 @@
+//! "Bytes of a set": reading with refusals 1 to 9, and writing.
+
+use crate::model::{
+    BasicSet, Division, Kind, Rule, Set, MAX_AXES, MAX_BASIC_SETS, MAX_DIVISIONS, MAX_RULES,
+};
+use crate::refusal;
+
+pub const OPEN: u8 = 0x11;
+pub const DIVISION: u8 = 0x12;
+pub const EQUALITY: u8 = 0x13;
+pub const INEQUALITY: u8 = 0x14;
+
+pub const DIVISION_BYTES: usize = 23;
+pub const RULE_BYTES: usize = 37;
+
+const LARGEST_COEFFICIENT: i64 = 32_767;
+const LARGEST_DIVISOR: i64 = 32_767;
+const LARGEST_DIVISION_CONSTANT: i64 = 1_000_000_000;
+const LEAST_EQUALITY_CONSTANT: i64 = -2_147_483_647;
+
+/// Refusal 1: n not 1 to 8.
+pub fn check_axes(n: u8) -> Result<usize, u8> {
+    match usize::from(n) {
+        axes @ 1..=MAX_AXES => Ok(axes),
+        _ => Err(refusal::AXES),
+    }
+}
+
+/// The set that the bytes give, or the first refusal, 1 to 9.
+pub fn parse(n: u8, bytes: &[u8]) -> Result<Set, u8> {
+    let n = check_axes(n)?;
+    let mut set = Set::empty(n);
+    let mut rest = bytes;
+    while let Some((&command, after)) = rest.split_first() {
+        // "within one 2, 3, 4, 5, 9, 6, 7, 8": 2 and 3 here.
+        let length = command_length(command)?;
+        if rest.len() < length {
+            return Err(refusal::CUT_OFF);
+        }
+        let body = &after[..length - 1];
+        match command {
+            OPEN => open_basic(&mut set)?,
+            DIVISION => add_division(&mut set, body)?,
+            EQUALITY => add_rule(&mut set, Kind::Equality, body)?,
+            _ => add_rule(&mut set, Kind::Inequality, body)?,
+        }
+        rest = &rest[length..];
+    }
+    Ok(set)
+}
+
+fn command_length(command: u8) -> Result<usize, u8> {
+    match command {
+        OPEN => Ok(1),
+        DIVISION => Ok(DIVISION_BYTES),
+        EQUALITY | INEQUALITY => Ok(RULE_BYTES),
+        _ => Err(refusal::UNKNOWN_COMMAND),
+    }
+}
+
+fn refuse_if(condition: bool, number: u8) -> Result<(), u8> {
+    if condition {
+        Err(number)
+    } else {
+        Ok(())
+    }
+}
+
+fn open_basic(set: &mut Set) -> Result<(), u8> {
+    refuse_if(set.basics.len() == MAX_BASIC_SETS, refusal::TOO_MANY_GIVEN)?;
+    set.basics.push(BasicSet::default());
+    Ok(())
+}
+
+fn add_division(set: &mut Set, body: &[u8]) -> Result<(), u8> {
+    let n = set.n;
+    let basic = set.basics.last_mut().ok_or(refusal::NO_BASIC_SET)?;
+    refuse_if(!basic.rules.is_empty(), refusal::DIVISION_AFTER_RULE)?;
+    refuse_if(basic.divisions.len() == MAX_DIVISIONS, refusal::TOO_MANY_GIVEN)?;
+    let division = Division {
+        d: i64::from(u16::from_le_bytes([body[0], body[1]])),
+        c: read_i32(&body[2..]),
+        axes: read_coefficients(&body[6..]),
+    };
+    refuse_if(division.d == 0 || division.d > LARGEST_DIVISOR, refusal::DIVISOR)?;
+    refuse_if(division.c.abs() > LARGEST_DIVISION_CONSTANT, refusal::NUMBER_RANGE)?;
+    refuse_if(out_of_range(&division.axes), refusal::NUMBER_RANGE)?;
+    refuse_if(not_all_zero(&division.axes[n..]), refusal::ABSENT_PLACE)?;
+    basic.divisions.push(division);
+    Ok(())
+}
+
+fn add_rule(set: &mut Set, kind: Kind, body: &[u8]) -> Result<(), u8> {
+    let n = set.n;
+    let basic = set.basics.last_mut().ok_or(refusal::NO_BASIC_SET)?;
+    refuse_if(basic.rules.len() == MAX_RULES, refusal::TOO_MANY_GIVEN)?;
+    let rule = Rule {
+        kind,
+        constant: read_i32(body),
+        axes: read_coefficients(&body[4..]),
+        divs: read_coefficients(&body[20..]),
+    };
+    let low = kind == Kind::Equality && rule.constant < LEAST_EQUALITY_CONSTANT;
+    refuse_if(low, refusal::NUMBER_RANGE)?;
+    // Reading 3: 7 at any place, absent ones too, before 8.
+    refuse_if(out_of_range(&rule.axes), refusal::NUMBER_RANGE)?;
+    refuse_if(out_of_range(&rule.divs), refusal::NUMBER_RANGE)?;
+    refuse_if(not_all_zero(&rule.axes[n..]), refusal::ABSENT_PLACE)?;
+    let absent = &rule.divs[basic.divisions.len()..];
+    refuse_if(not_all_zero(absent), refusal::ABSENT_PLACE)?;
+    basic.rules.push(rule);
+    Ok(())
+}
+
+/// The first four bytes as a signed number.
+fn read_i32(bytes: &[u8]) -> i64 {
+    i64::from(i32::from_le_bytes([bytes[0], bytes[1], bytes[2], bytes[3]]))
+}
+
+/// The first sixteen bytes as eight signed numbers.
+fn read_coefficients(bytes: &[u8]) -> [i64; 8] {
+    std::array::from_fn(|i| {
+        i64::from(i16::from_le_bytes([bytes[2 * i], bytes[2 * i + 1]]))
+    })
+}
+
+fn out_of_range(coefficients: &[i64]) -> bool {
+    coefficients.iter().any(|k| k.abs() > LARGEST_COEFFICIENT)
+}
+
+fn not_all_zero(places: &[i64]) -> bool {
+    places.iter().any(|&k| k != 0)
+}
+
+/// The bytes of a set. Reading gives back the same set, and the bytes of a
+/// set that was read are those that were read: every byte is kept.
+///
+/// The casts lose nothing: what is read fits its place, and an opposite of a
+/// rule fits it too ("Cutting rules" negates coefficients within ±32,767 and
+/// makes constants −c − 1 or c − 1, the latter of c ≥ −2,147,483,647 only).
+pub fn encode(set: &Set) -> Vec<u8> {
+    let mut out = Vec::with_capacity(encoded_length(set));
+    for basic in &set.basics {
+        encode_basic(basic, &mut out);
+    }
+    out
+}
+
+fn encode_basic(basic: &BasicSet, out: &mut Vec<u8>) {
+    out.push(OPEN);
+    for division in &basic.divisions {
+        out.push(DIVISION);
+        out.extend((division.d as u16).to_le_bytes());
+        out.extend((division.c as i32).to_le_bytes());
+        encode_coefficients(&division.axes, out);
+    }
+    for rule in &basic.rules {
+        out.push(match rule.kind {
+            Kind::Equality => EQUALITY,
+            Kind::Inequality => INEQUALITY,
+        });
+        out.extend((rule.constant as i32).to_le_bytes());
+        encode_coefficients(&rule.axes, out);
+        encode_coefficients(&rule.divs, out);
+    }
+}
+
+fn encode_coefficients(coefficients: &[i64; 8], out: &mut Vec<u8>) {
+    for &k in coefficients {
+        out.extend((k as i16).to_le_bytes());
+    }
+}
+
+pub fn basic_length(basic: &BasicSet) -> usize {
+    1 + DIVISION_BYTES * basic.divisions.len() + RULE_BYTES * basic.rules.len()
+}
+
+pub fn encoded_length(set: &Set) -> usize {
+    set.basics.iter().map(basic_length).sum()
+}

@@ -1,0 +1,231 @@
+//! Line mode: one library call a line, one answer a line.
+
+use crate::algebra::{complement, difference, intersection, union, unwatched};
+use crate::ask::{holder, member, part, search, Sides, Table};
+use crate::bytes::{encode, parse};
+use crate::model::{Point, Set};
+use crate::refusal;
+use crate::script::search_words;
+use crate::test::test;
+
+/// A table's size is any up to this; a longer one makes a bad line.
+pub const LARGEST_ROOM: usize = 1_000_000;
+
+/// The answer to one line, without a newline.
+pub fn run_call(line: &str) -> String {
+    answer(line).unwrap_or_else(|| "bad line".to_string())
+}
+
+/// None for an ill-formed line.
+fn answer(line: &str) -> Option<String> {
+    let (name, rest) = line.split_once(' ')?;
+    let mut fields = Fields(rest.split(' ').collect());
+    let n = fields.axes()?;
+    let answer = match name {
+        "member" => call_member(n, &mut fields)?,
+        "search" => call_search(n, &mut fields)?,
+        "union" | "intersection" | "difference" => call_pair(name, n, &mut fields)?,
+        "complement" => call_complement(n, &mut fields)?,
+        "test" => call_test(n, &mut fields)?,
+        "check" => call_check(n, &mut fields)?,
+        "part" => call_part(n, &mut fields)?,
+        "holder" => call_holder(n, &mut fields)?,
+        _ => return None,
+    };
+    Some(answer)
+}
+
+fn call_member(n: u8, fields: &mut Fields) -> Option<String> {
+    let set = fields.bytes()?;
+    let point = fields.point()?;
+    fields.end()?;
+    let inside = parse(n, &set).and_then(|set| member(&set, &point));
+    Some(match inside {
+        Ok(true) => "in".to_string(),
+        Ok(false) => "out".to_string(),
+        Err(number) => format!("refused {number}"),
+    })
+}
+
+fn call_search(n: u8, fields: &mut Fields) -> Option<String> {
+    let set = fields.bytes()?;
+    let limit = fields.limit()?;
+    let sides = Sides { low: fields.point()?, high: fields.point()? };
+    fields.end()?;
+    let found = parse(n, &set).and_then(|set| search(&set, &sides, limit));
+    Some(match found {
+        Ok(found) => search_words(&found),
+        Err(number) => format!("refused {number}"),
+    })
+}
+
+fn call_pair(name: &str, n: u8, fields: &mut Fields) -> Option<String> {
+    let room = fields.room()?;
+    let (first, second) = (fields.bytes()?, fields.bytes()?);
+    fields.end()?;
+    let run = || {
+        let (a, b) = (parse(n, &first)?, parse(n, &second)?);
+        match name {
+            "union" => union(&a, &b),
+            "intersection" => intersection(&a, &b, &mut unwatched),
+            _ => difference(&a, &b, &mut unwatched),
+        }
+    };
+    Some(fill_table(room, run()))
+}
+
+fn call_complement(n: u8, fields: &mut Fields) -> Option<String> {
+    let room = fields.room()?;
+    let source = fields.bytes()?;
+    fields.end()?;
+    let result = parse(n, &source).and_then(|set| complement(&set, &mut unwatched));
+    Some(fill_table(room, result))
+}
+
+/// "Result tables are all 0 after a refusal, and 0 past the result after
+/// success"; a result longer than its table is 11.
+fn fill_table(room: usize, result: Result<Set, u8>) -> String {
+    let mut table = vec![0; room];
+    let placed = result.and_then(|set| {
+        let bytes = encode(&set);
+        let place = table.get_mut(..bytes.len()).ok_or(refusal::TABLE_FULL)?;
+        place.copy_from_slice(&bytes);
+        Ok(bytes.len())
+    });
+    match placed {
+        Ok(length) => format!("gives {length} {}", hex(&table)),
+        Err(number) => format!("refused {number} {}", hex(&table)),
+    }
+}
+
+/// Divisions and rules of basic set k are tested as they are stored.
+fn call_test(n: u8, fields: &mut Fields) -> Option<String> {
+    let bytes = fields.bytes()?;
+    let k = fields.count()?;
+    fields.end()?;
+    let set = match parse(n, &bytes) {
+        Ok(set) => set,
+        Err(number) => return Some(format!("refused {number}")),
+    };
+    let index = k.checked_sub(1).and_then(|k| usize::try_from(k).ok());
+    Some(match index.and_then(|index| set.basics.get(index)) {
+        None => "none".to_string(),
+        Some(basic) => {
+            let outcome = test(set.n, basic);
+            format!("{} {}", outcome.answer.word(), outcome.pivots)
+        }
+    })
+}
+
+fn call_check(n: u8, fields: &mut Fields) -> Option<String> {
+    let bytes = fields.bytes()?;
+    fields.end()?;
+    Some(parse(n, &bytes).err().unwrap_or(0).to_string())
+}
+
+fn call_part(n: u8, fields: &mut Fields) -> Option<String> {
+    let bytes = fields.bytes()?;
+    let k = fields.count()?;
+    fields.end()?;
+    let part = part(n, &bytes, k);
+    Some(format!("{} {}", part.offset, part.length))
+}
+
+fn call_holder(n: u8, fields: &mut Fields) -> Option<String> {
+    let (first, second) = (fields.bytes()?, fields.bytes()?);
+    let point = fields.point()?;
+    fields.end()?;
+    let (table, part) = holder(n, &first, &second, &point);
+    let word = match table {
+        Table::First => "first",
+        Table::Second => "second",
+    };
+    Some(format!("{word} {} {}", part.offset, part.length))
+}
+
+/// The fields still to be read, each one giving None where it is ill-formed.
+struct Fields<'a>(std::collections::VecDeque<&'a str>);
+
+impl<'a> Fields<'a> {
+    fn next(&mut self) -> Option<&'a str> {
+        self.0.pop_front()
+    }
+
+    fn end(&self) -> Option<()> {
+        self.0.is_empty().then_some(())
+    }
+
+    /// Digits only.
+    fn count(&mut self) -> Option<u64> {
+        let field = self.next()?;
+        let digits = field.bytes().all(|b| b.is_ascii_digit());
+        digits.then(|| field.parse().ok())?
+    }
+
+    fn axes(&mut self) -> Option<u8> {
+        u8::try_from(self.count()?).ok()
+    }
+
+    fn limit(&mut self) -> Option<u32> {
+        u32::try_from(self.count()?).ok()
+    }
+
+    fn room(&mut self) -> Option<usize> {
+        let room = usize::try_from(self.count()?).ok()?;
+        (room <= LARGEST_ROOM).then_some(room)
+    }
+
+    /// Digits with at most one minus sign before them.
+    fn coordinate(&mut self) -> Option<i32> {
+        let field = self.next()?;
+        let digits = field.strip_prefix('-').unwrap_or(field);
+        let well_formed = digits.bytes().all(|b| b.is_ascii_digit());
+        well_formed.then(|| field.parse().ok())?
+    }
+
+    fn point(&mut self) -> Option<Point> {
+        let mut point: Point = [0; 8];
+        for coordinate in &mut point {
+            *coordinate = self.coordinate()?;
+        }
+        Some(point)
+    }
+
+    fn bytes(&mut self) -> Option<Vec<u8>> {
+        unhex(self.next()?)
+    }
+}
+
+/// Lower-case hex; `-` for the empty string.
+pub fn hex(bytes: &[u8]) -> String {
+    const DIGITS: [char; 16] = [
+        '0', '1', '2', '3', '4', '5', '6', '7', '8', '9', 'a', 'b', 'c', 'd', 'e', 'f',
+    ];
+    if bytes.is_empty() {
+        return "-".to_string();
+    }
+    let pair = |b: &u8| [DIGITS[usize::from(b >> 4)], DIGITS[usize::from(b & 15)]];
+    bytes.iter().flat_map(pair).collect()
+}
+
+/// The bytes of lower-case hex or `-`; None where it is neither.
+pub fn unhex(text: &str) -> Option<Vec<u8>> {
+    if text == "-" {
+        return Some(Vec::new());
+    }
+    if text.is_empty() || text.len() % 2 != 0 {
+        return None;
+    }
+    text.as_bytes()
+        .chunks(2)
+        .map(|pair| Some(nibble(pair[0])? << 4 | nibble(pair[1])?))
+        .collect()
+}
+
+fn nibble(digit: u8) -> Option<u8> {
+    match digit {
+        b'0'..=b'9' => Some(digit - b'0'),
+        b'a'..=b'f' => Some(digit - b'a' + 10),
+        _ => None,
+    }
+}

@@ -1,0 +1,44 @@
+//! Exact arithmetic in 128 bits, every operation checked.
+//!
+//! No operation here can overflow within the documented ranges, so none of
+//! the `expect`s can be reached:
+//! * A numerator of a division is at most 8 · 32,767 · 2^20 + 10^9 < 2^39 in
+//!   size at any point or box of "Asking"; a division's value is no larger; a
+//!   rule is at most 2^31 + 8 · 2^15 · 2^20 + 8 · 2^15 · 2^39 < 2^58.
+//! * In the test for fractions step 4 lets only numbers of at most 2^31 − 1
+//!   into an exchange, which makes sums of two products: below 2^63. Numbers
+//!   that are larger are only looked at (sign, zero or not, beyond the bound).
+
+pub fn add(a: i128, b: i128) -> i128 {
+    a.checked_add(b).expect("sum within 128 bits")
+}
+
+pub fn mul(a: i128, b: i128) -> i128 {
+    a.checked_mul(b).expect("product within 128 bits")
+}
+
+/// Division rounded towards minus infinity, for a positive divisor.
+pub fn floor_div(numerator: i128, d: i128) -> i128 {
+    let quotient = numerator / d;
+    if numerator % d < 0 {
+        quotient - 1
+    } else {
+        quotient
+    }
+}
+
+/// Greatest common divisor; gcd(0, a) = a.
+pub fn gcd(a: u128, b: u128) -> u128 {
+    match (u64::try_from(a), u64::try_from(b)) {
+        (Ok(a), Ok(b)) => u128::from(gcd64(a, b)),
+        _ if b == 0 => a,
+        _ => gcd(b, a % b),
+    }
+}
+
+fn gcd64(mut a: u64, mut b: u64) -> u64 {
+    while b != 0 {
+        (a, b) = (b, a % b);
+    }
+    a
+}
