@@ -1,35 +1,16 @@
 -- Values of expressions and constraints at a point.
-use mathlib.Core.Path.{_≡_, refl, sym, ap, ap₂, _∙_, subst}
-use mathlib.Core.Bool.{Bool, true, false, not, _&&_, _||_, cond}
-use mathlib.Core.List.{List, [], _∷_, _++_, map, append-assoc, append-nil}
-use mathlib.Core.Logic.{_⊎_, inl, inr}
-use mathlib.Core.Option.{Option, none, some}
-use Prim.Native.Nat.{ℕ, zero, suc, _+_, _≤_, _<_, zero-le, suc-le-suc}
-use native.Mathlib.Nat.{add-zero, zero-add, add-suc, suc-add}
-use native.Mathlib.Omega.{arith}
-use lib.Dec.{T, ltb, lt→ltb, eqb, eqb→eq, eqb·suc-zero}
-use lib.IntN.{ℤ, pos, negsuc, negℤ, _+ℤ_, _-ℤ_, _*ℤ_, -ℤ-one, predℤ, +ℤ-idl, +ℤ-idr, -ℤ-+ℤ-cancel, *ℤ-zero}
-use lib.Signed.{nonNeg}
-use lib.ListN.{length, getD, replicate, drop, length-append, length-map}
-use lib.Seq.{getD-append-seam}
+use mathlib.Core.Path.{_≡_, refl, ap, ap₂, _∙_}
+use mathlib.Core.Bool.{Bool}
+use mathlib.Core.List.{List, [], _∷_, _++_, map}
+use lib.Dec.{T, ltb, eqb→eq}
+use lib.IntN.{ℤ, pos, negsuc, negℤ, _+ℤ_, _*ℤ_}
+use lib.Signed.{nonNeg, _≤ℤ_}
+use lib.ListN.{length}
 use Rattle.integers.specs.Ring.{ring, quote}
+use Rattle.integers.specs.Order.{pos-nonneg}
 use Rattle.model.specs.Lists.{all}
 use Rattle.model.specs.Sets.{dot, Division, Constraint, isZero, absent}
 use Rattle.model.proofs.Count.{and-left, and-right}
-use mathlib.Core.Path.{_≡_, refl, sym, ap, ap₂, _∙_, subst}
-use mathlib.Core.Bool.{Bool, true, false, not, _&&_, _||_, cond}
-use mathlib.Core.List.{List, [], _∷_, _++_, map, tail}
-use mathlib.Core.Option.{Option, none, some}
-use Prim.Native.Nat.{ℕ, zero, suc, _+_, _*_, _≤_, _<_, zero-le, suc-le-suc}
-use native.Mathlib.Nat.{le-refl, le-of-suc-le-suc, not-suc-le-zero, zero-lt-suc, add-zero, zero-add, add-suc, suc-add}
-use native.Mathlib.Omega.{arith}
-use lib.Dec.{T, not-T, T-not, lt→ltb, ltb, ltb→lt, nltb→le}
-use lib.IntN.{ℤ, pos, negsuc, negℤ, natAbs, _+ℤ_, _-ℤ_, _*ℤ_, *ℤ-zero}
-use lib.Signed.{nonNeg, _≤ℤ_, _<ℤ_, yes-nonNeg}
-use lib.ListN.{length, getD, set}
-use Rattle.integers.specs.Ring.{ring, quote}
-use Rattle.integers.specs.Lin.{le, lt, eq, lin, lia-le, lia-lt, lia-eq, lia-no}
-use Rattle.integers.specs.Order.{mul-nonneg, mul-pos-pos, mul-nonpos, pos-nonneg, add-le, <ℤ-≤ℤ}
 
 pub dot-neg : (cs xs : List ℤ) → dot (map negℤ cs) xs ≡ negℤ (dot cs xs)
 dot-neg [] xs = refl
@@ -56,6 +37,7 @@ fits ds r = absent (length ds) (r .divisions)
 pub nn : {z : ℤ} → T (nonNeg z) → pos 0 ≤ℤ z
 nn {z = pos n} t = pos-nonneg n
 nn {z = negsuc n} t = absurd t
+
 -- an absent division counts nothing
 pub dot-absent : (cs us vs : List ℤ) → T (absent (length us) cs) → dot cs (us ++ vs) ≡ dot cs us
 dot-absent [] us vs t = refl

@@ -1,12 +1,6 @@
 -- Lists under a test or a function.
 use mathlib.Core.Bool.{Bool, true, false, _&&_, _||_}
-use mathlib.Core.List.{List, [], _∷_, _++_, map}
-use Prim.Native.Nat.{ℕ, zero, suc, _-_, _/_}
-use lib.IntN.{ℤ, pos, negsuc, negℤ, _+ℤ_, _-ℤ_, _*ℤ_}
-use lib.Signed.{nonNeg}
-use lib.Dec.{eqb}
-use lib.Dec.{ltb}
-use lib.ListN.{length, drop}
+use mathlib.Core.List.{List, [], _∷_, _++_}
 
 module _ {ℓ} {A : Type ℓ} where
   abbrev pub all : (A → Bool) → List A → Bool
@@ -34,4 +28,3 @@ module _ {ℓ} {A : Type ℓ} where
   abbrev pub isNil : List A → Bool
   isNil [] = true
   isNil (a ∷ l) = false
-

@@ -1,12 +1,11 @@
--- Points, divisions, rules, basic sets and sets (document 01, "Points, rules, sets").
--- A coefficient list has 8 places, a point as many coordinates as there are axes; what a list lacks counts as 0.
-use mathlib.Core.Bool.{Bool, true, false, _&&_, _||_}
+-- Points, divisions, constraints, basic sets and sets (document 01, "Points, rules, sets").
+-- Coefficients have 8 places, a point has as many coordinates as there are axes; what a list lacks counts as 0.
+use mathlib.Core.Bool.{Bool, true, false, _&&_}
 use mathlib.Core.List.{List, [], _∷_, _++_, map}
-use Prim.Native.Nat.{ℕ, zero, suc, _-_, _/_}
+use Prim.Native.Nat.{ℕ, zero, suc, _/_}
 use lib.IntN.{ℤ, pos, negsuc, negℤ, _+ℤ_, _-ℤ_, _*ℤ_}
 use lib.Signed.{nonNeg}
-use lib.Dec.{eqb}
-use lib.Dec.{ltb}
+use lib.Dec.{eqb, ltb}
 use lib.ListN.{length, drop}
 use Rattle.model.specs.Lists.{all, any}
 
@@ -16,12 +15,12 @@ dot [] xs = pos 0
 dot (a ∷ us) [] = pos 0
 dot (a ∷ us) (x ∷ xs) = a *ℤ x +ℤ dot us xs
 
--- z / d rounded towards minus infinity: −(a + 1) / d is −(a / d + 1)
+-- floor(z / d), rounded towards minus infinity: of −(a + 1) it is −(a / d + 1)
 abbrev pub floorDiv : ℤ → ℕ → ℤ
 floorDiv (pos a) d = pos (a / d)
 floorDiv (negsuc a) d = negsuc (a / d)
 
--- floor((b₁·x₁ + .. + c) / d)
+-- "A division is q = floor((b₁·x₁ + .. + bₙ·xₙ + c) / d)"
 pub record Division : Type 0 where
   pub divisor : ℕ
   pub constant : ℤ
@@ -30,7 +29,7 @@ pub record Division : Type 0 where
 pub data Kind : Type 0 where
   equality inequality : Kind
 
--- constant + axes·x + divisions·q, that is = 0 or ≥ 0
+-- a rule: "an expression, constant plus coefficients times axes and divisions, that is = 0 (equality) or ≥ 0 (inequality)"
 pub record Constraint : Type 0 where
   pub kind : Kind
   pub constant : ℤ
@@ -41,6 +40,7 @@ pub record BasicSet : Type 0 where
   pub divisions : List Division
   pub constraints : List Constraint
 
+-- "A set is a list of .. basic sets"
 abbrev pub Set : Type 0
 Set = List BasicSet
 
@@ -56,44 +56,46 @@ abbrev pub isZero : ℤ → Bool
 isZero (pos n) = eqb n 0
 isZero (negsuc n) = false
 
--- the kind's condition on a value
+-- a value is = 0, or ≥ 0
 abbrev pub meets : Kind → ℤ → Bool
 meets equality z = isZero z
 meets inequality z = nonNeg z
 
--- the value of a rule at numerators x and q over the denominator D (over 1: at the integers x and q)
+-- the value of a constraint, times D, at numerators x and q over the denominator D; over 1: at the whole numbers x and q
 abbrev pub value : ℤ → List ℤ → List ℤ → Constraint → ℤ
 value D x q r = r .constant *ℤ D +ℤ (dot (r .axes) x +ℤ dot (r .divisions) q)
 
 abbrev pub holds : ℤ → List ℤ → List ℤ → Constraint → Bool
 holds D x q r = meets (r .kind) (value D x q r)
 
--- the rules hold with the divisions worked out from the point
+-- "all rules hold with the divisions worked out from the point"
 abbrev pub inConstraints : List ℤ → List Division → List Constraint → Bool
 inConstraints x ds rs = all (holds (pos 1) x (quotients ds x)) rs
 
 abbrev pub inBasic : List ℤ → BasicSet → Bool
 inBasic x b = inConstraints x (b .divisions) (b .constraints)
 
+-- "a point is in it when it is in one of them"
 abbrev pub inSet : List ℤ → Set → Bool
 inSet x s = any (inBasic x) s
 
--- what a decoded set has: positive divisors, and no coefficient of an absent division
+-- the coefficients past the first n are 0
 abbrev pub absent : ℕ → List ℤ → Bool
 absent n cs = all isZero (drop n cs)
 
+-- what each decoded basic set has: positive divisors, and no coefficient for a division that it does not have
 abbrev pub wellFormed : BasicSet → Bool
 wellFormed b =
     all (λ (e : Division). ltb 0 (e .divisor)) (b .divisions) && all (λ (r : Constraint). absent (length (b .divisions)) (r .divisions)) (b .constraints)
 
--- ---- points with fractions
+-- ---- rational points ("points with fractions")
 
 -- z at place i
 abbrev pub unit : ℕ → ℤ → List ℤ
 unit zero z = z ∷ []
 unit (suc i) z = pos 0 ∷ unit i z
 
--- the two bounds of the division at place i, as rules: numerator − d·q ≥ 0 and d·q − numerator + d − 1 ≥ 0
+-- the two bounds of the division at place i, as constraints: numerator − d·q ≥ 0, then d·q − numerator + d − 1 ≥ 0
 abbrev pub lower : ℕ → Division → Constraint
 lower i e = record { kind = inequality; constant = e .constant; axes = e .axes; divisions = unit i (negℤ (pos (e .divisor))) }
 
@@ -104,15 +106,16 @@ abbrev pub bounds : ℕ → List Division → List Constraint
 bounds i [] = []
 bounds i (e ∷ es) = lower i e ∷ upper i e ∷ bounds (suc i) es
 
--- what a point with fractions has to meet: the bounds of the divisions in order, then the rules
+-- what a rational point has to meet, in the order of "The test for fractions": the divisions' bounds, then the constraints
 abbrev pub conditions : BasicSet → List Constraint
 conditions b = bounds 0 (b .divisions) ++ b .constraints
 
--- numerators x for the axes and q for the divisions, over one positive denominator
+-- "one whole numerator for each axis and division over one positive denominator": x for the axes, q for the divisions
 pub record RationalPoint : Type 0 where
   pub denominator : ℕ
   pub x : List ℤ
   pub q : List ℤ
 
+-- "its rules hold and each division lies between its two bounds"
 abbrev pub meetsBasic : RationalPoint → BasicSet → Bool
 meetsBasic p b = all (holds (pos (p .denominator)) (p .x) (p .q)) (conditions b)

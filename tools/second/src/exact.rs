@@ -4,17 +4,25 @@
 //! the `expect`s can be reached:
 //! * A numerator of a division is at most 8 · 32,767 · 2^20 + 10^9 < 2^39 in
 //!   size at any point or box of "Asking"; a division's value is no larger; a
-//!   rule is at most 2^31 + 8 · 2^15 · 2^20 + 8 · 2^15 · 2^39 < 2^58.
+//!   rule is at most 2^31 + 8 · 2^15 · 2^20 + 8 · 2^15 · 2^39 < 2^58. (Even
+//!   coordinates of any 32 bits would keep a rule below 2^70.)
 //! * In the test for fractions step 4 lets only numbers of at most 2^31 − 1
 //!   into an exchange, which makes sums of two products: below 2^63. Numbers
 //!   that are larger are only looked at (sign, zero or not, beyond the bound).
 
+#[inline]
 pub fn add(a: i128, b: i128) -> i128 {
     a.checked_add(b).expect("sum within 128 bits")
 }
 
+/// Two factors of 64 bits have a product of 128 bits; only others need the
+/// (slower) check.
+#[inline]
 pub fn mul(a: i128, b: i128) -> i128 {
-    a.checked_mul(b).expect("product within 128 bits")
+    match (i64::try_from(a), i64::try_from(b)) {
+        (Ok(a), Ok(b)) => i128::from(a) * i128::from(b),
+        _ => a.checked_mul(b).expect("product within 128 bits"),
+    }
 }
 
 /// Division rounded towards minus infinity, for a positive divisor.

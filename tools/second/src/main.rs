@@ -13,17 +13,22 @@ fn main() -> ExitCode {
         [] => script_mode(),
         ["calls"] => line_mode(),
         _ => {
-            eprintln!("usage: second < script, or: second calls < lines");
+            complain("usage: second < script, or: second calls < lines");
             return ExitCode::from(2);
         }
     };
     match done {
         Ok(()) => ExitCode::SUCCESS,
         Err(error) => {
-            eprintln!("second: {error}");
+            complain(&format!("second: {error}"));
             ExitCode::FAILURE
         }
     }
+}
+
+/// Unlike `eprintln!` this does not panic where nobody listens.
+fn complain(message: &str) {
+    let _ = writeln!(io::stderr(), "{message}");
 }
 
 fn script_mode() -> io::Result<()> {

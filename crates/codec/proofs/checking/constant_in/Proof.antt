@@ -1,0 +1,17 @@
+use borrow.Author.Tests.{ne-eqb, eq-eqb, lt-ltb, le-ltb, le-leb, lt-leb}
+use native.Mathlib.Omega.{arith}
+use mathlib.Core.Path.{_≡_, refl, sym, ap, ap₂, _∙_}
+use Prim.Native.Nat.{ℕ, _+_, _-_, _*_, _≤_, _<_}
+use lib.ListN.{length, take, drop, getD, length-drop}
+use Rattle.codec.proofs.Parsing.{constant-low, constant-high}
+use Rattle.codec.proofs.checking.constant_in.Statement.{statement}
+use Rattle.codec.proofs.checking.constant_in.Tie as tie
+
+returns : tie.Need-returns
+returns c = sym (constant-low _ (c .if1 .taken))
+
+returns-2 : tie.Need-returns-2
+returns-2 c = sym (constant-high _ (c .before .pre) (c .if1 .left))
+
+pub constant-in-spec : {M : Type 1} → statement M
+constant-in-spec = tie.close (tie.spec returns returns-2)

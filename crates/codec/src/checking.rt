@@ -1,0 +1,228 @@
+// The refusal of the bytes of a set (document 01, "Refused"), in one pass and without a copy.
+ghost use mathlib.Core.Path.{_≡_};
+ghost use mathlib.Core.List.{List};
+ghost use Prim.Native.Nat.{ℕ, _+_, _*_, _≤_, _<_};
+ghost use lib.ListN.{length, take, drop, getD};
+ghost use lib.IntN.{pos, negsuc};
+ghost use Rattle.model.specs.Lists.{all};
+ghost use Rattle.model.specs.Sets.{isZero};
+ghost use Rattle.codec.specs.Bytes as B;
+ghost use Rattle.codec.specs.Bytes.{signed, signedList, coefficient, within, constantFits, readDivision, readConstraint, readCommand, constraint, division, opens, refusal, headRefusal, decode, number, kindOf};
+ghost use Rattle.codec.specs.Checking.{countsOf};
+use crate::readers::tail;
+use crate::readers::u16_at;
+use crate::readers::u32_at;
+use crate::readers::width;
+
+// How far a set has come: its basic sets, and of the last one the divisions and constraints.
+pub struct Counts {
+    pub basics: usize,
+    pub divisions: usize,
+    pub constraints: usize,
+}
+
+// Whether `count` numbers of 16 bits from p on are all in the range of a coefficient.
+fn plain(t: &[u8], p: usize, count: usize) -> bool
+    requires { ⌜ p + 2 * count ≤ length (now t) ⌝ }
+    ensures { λ r. ⌜ r ≡ all coefficient (signedList count (drop p (now (t .entry)))) ⌝ }
+{
+    let mut q = p;
+    let mut left = count;
+    while left != 0 {
+        let v = u16_at(t, q);
+        if v == 32768 {
+            return false;
+        }
+        q += 2;
+        left -= 1;
+    }
+    true
+}
+
+// Whether they are all 0.
+fn zeros(t: &[u8], p: usize, count: usize) -> bool
+    requires { ⌜ p + 2 * count ≤ length (now t) ⌝ }
+    ensures { λ r. ⌜ r ≡ all isZero (signedList count (drop p (now (t .entry)))) ⌝ }
+{
+    let mut q = p;
+    let mut left = count;
+    while left != 0 {
+        let v = u16_at(t, q);
+        if v != 0 {
+            return false;
+        }
+        q += 2;
+        left -= 1;
+    }
+    true
+}
+
+fn constant_in(v: u64) -> bool
+    requires { ⌜ v < 4294967296 ⌝ }
+    ensures { λ r. ⌜ r ≡ within (negsuc 999999999) (pos 1000000000) (signed 4 v) ⌝ }
+{
+    if v < 2147483648 {
+        v <= 1000000000
+    } else {
+        3294967296 <= v
+    }
+}
+
+fn constraint_constant_in(b: u8, v: u64) -> bool
+    requires { ⌜ v < 4294967296 ⌝ }
+    ensures { λ r. ⌜ r ≡ constantFits (kindOf b) (signed 4 v) ⌝ }
+{
+    if b == 19 {
+        return v != 2147483648;
+    }
+    true
+}
+
+fn opens_refusal(n: usize, k: Counts) -> u32
+    ensures { λ r. ⌜ r ≡ refusal n (countsOf k) opens ⌝ }
+{
+    if k.basics < 32 {
+        return 0;
+    }
+    9
+}
+
+// The refusal of a division whose bytes after the first are t.
+fn division_refusal(n: usize, k: Counts, t: &[u8]) -> u32
+    requires { ⌜ (22 ≤ length (now t)) × (n ≤ 8) ⌝ }
+    ensures { λ r. ⌜ r ≡ refusal n (countsOf k) (division (readDivision (now (t .entry)))) ⌝ }
+{
+    if k.basics == 0 {
+        return 4;
+    }
+    if k.constraints != 0 {
+        return 5;
+    }
+    if 8 <= k.divisions {
+        return 9;
+    }
+    let d = u16_at(t, 0);
+    if d == 0 {
+        return 6;
+    }
+    if 32767 < d {
+        return 6;
+    }
+    if !constant_in(u32_at(t, 2)) {
+        return 7;
+    }
+    if !plain(t, 6, 8) {
+        return 7;
+    }
+    if !zeros(t, 6 + 2 * n, 8 - n) {
+        return 8;
+    }
+    0
+}
+
+// The refusal of a constraint whose command is b and whose bytes after it are t.
+fn constraint_refusal(n: usize, k: Counts, b: u8, t: &[u8]) -> u32
+    requires { ⌜ (36 ≤ length (now t)) × (n ≤ 8) × (k .divisions ≤ 8) ⌝ }
+    ensures { λ r. ⌜ r ≡ refusal n (countsOf k) (constraint (readConstraint (kindOf b) (now (t .entry)))) ⌝ }
+{
+    let d = k.divisions;
+    if k.basics == 0 {
+        return 4;
+    }
+    if 48 <= k.constraints {
+        return 9;
+    }
+    if !constraint_constant_in(b, u32_at(t, 0)) {
+        return 7;
+    }
+    if !plain(t, 4, 8) {
+        return 7;
+    }
+    if !plain(t, 20, 8) {
+        return 7;
+    }
+    if !zeros(t, 4 + 2 * n, 8 - n) {
+        return 8;
+    }
+    if !zeros(t, 20 + 2 * d, 8 - d) {
+        return 8;
+    }
+    0
+}
+
+// The refusal of the command at `at`, 0 for none.
+fn head_refusal(n: usize, k: Counts, s: &[u8], at: usize) -> u32
+    requires { ⌜ (at < length (now s)) × (n ≤ 8) × (k .divisions ≤ 8) ⌝ }
+    ensures { λ r. ⌜ r ≡ headRefusal n (countsOf k) (getD (now (s .entry)) at 0) (drop (at + 1) (now (s .entry))) ⌝ }
+{
+    let b = s[at];
+    let w = width(b);
+    if w == 0 {
+        return 2;
+    }
+    if s.len() - at < w {
+        return 3;
+    }
+    let t = tail(s, at + 1);
+    if b == 17 {
+        return opens_refusal(n, k);
+    }
+    if b == 18 {
+        return division_refusal(n, k, t);
+    }
+    constraint_refusal(n, k, b, t)
+}
+
+// The counts after the command b.
+fn counted(k: Counts, b: u8) -> Counts
+    requires { ⌜ (k .basics < 18446744073709551615) × (k .divisions < 18446744073709551615) × (k .constraints < 18446744073709551615) ⌝ }
+    ensures { λ r. ⌜ ((t : List ℕ) → countsOf r ≡ B.counted (countsOf k) (readCommand b t)) ⌝ }
+{
+    if b == 17 {
+        return Counts {
+            basics: k.basics + 1,
+            divisions: 0,
+            constraints: 0,
+        };
+    }
+    if b == 18 {
+        return Counts {
+            basics: k.basics,
+            divisions: k.divisions + 1,
+            constraints: k.constraints,
+        };
+    }
+    Counts {
+        basics: k.basics,
+        divisions: k.divisions,
+        constraints: k.constraints + 1,
+    }
+}
+
+// 0, or the number that refuses the bytes of a set.
+pub fn check(n: usize, s: &[u8]) -> u32
+    ensures { λ r. ⌜ r ≡ number (decode n (now (s .entry))) ⌝ }
+{
+    if n == 0 {
+        return 1;
+    }
+    if 8 < n {
+        return 1;
+    }
+    let mut at = 0;
+    let mut k = Counts {
+        basics: 0,
+        divisions: 0,
+        constraints: 0,
+    };
+    while at < s.len() {
+        let r = head_refusal(n, k, s, at);
+        if r != 0 {
+            return r;
+        }
+        let b = s[at];
+        k = counted(k, b);
+        at += width(b);
+    }
+    0
+}

@@ -1,0 +1,83 @@
+//! `compare PROGRAM COUNT SEED`                a script program against `second` on generated scripts
+//! `compare calls PROGRAM COUNT SEED [KIND..]` a line-mode program against `second` on generated calls
+//!
+//! PROGRAM is one argument; blanks in it part the program from its own arguments (`"second calls"`).
+//! PROGRAM has to end with status 0: document 01 gives refusals a line of output and no status.
+
+use generate::{calls, scripts};
+use hexscript::describe;
+use hexscript::runner::{difference, output_of, Score};
+use std::process::ExitCode;
+
+const USAGE: &str = "compare PROGRAM COUNT SEED | compare calls PROGRAM COUNT SEED [KIND..]";
+
+/// Calls fed to one run of PROGRAM: if it breaks off, only the rest of these goes unanswered.
+const BATCH: u64 = 500;
+
+fn program(words: &str) -> Vec<String> {
+    words.split_whitespace().map(str::to_string).collect()
+}
+
+fn compare_scripts(program: &[String], count: u64, seed: u64) -> ExitCode {
+    let mut score = Score::default();
+    for index in 0..count {
+        let script = scripts::script(seed, index);
+        let expected = second::run_script(&script);
+        let found = output_of(program, &script);
+        let good = found.as_ref() == Ok(&expected);
+        score.add(good, || {
+            let story = match found {
+                Ok(found) => difference(&expected, &found),
+                Err(e) => format!("{e}\n"),
+            };
+            format!("script {index} of seed {seed}: {story}  script:\n{}", describe::script(&script))
+        });
+    }
+    score.finish()
+}
+
+fn compare_calls(program: &[String], count: u64, seed: u64, kinds: &[&str]) -> Result<ExitCode, String> {
+    if let Some(kind) = kinds.iter().find(|k| !calls::KINDS.contains(k)) {
+        return Err(format!("no kind '{kind}'; kinds: {}", calls::KINDS.join(" ")));
+    }
+    let kinds = if kinds.is_empty() { &calls::KINDS[..] } else { kinds };
+    let mut score = Score::default();
+    for start in (0..count).step_by(BATCH as usize) {
+        let lines: Vec<String> = (start..count.min(start + BATCH)).map(|i| calls::call(seed, i, kinds)).collect();
+        let input = lines.iter().map(|l| format!("{l}\n")).collect::<String>();
+        let output = output_of(program, input.as_bytes()).unwrap_or_else(|e| format!("({e})").into_bytes());
+        let output = String::from_utf8_lossy(&output);
+        let mut answers = output.lines();
+        for (i, line) in lines.iter().enumerate() {
+            let (expected, found) = (second::run_call(line), answers.next().unwrap_or("(no line)"));
+            score.add(found == expected, || {
+                let at = start + i as u64;
+                format!("call {at} of seed {seed}:\n{}\n  expected {expected}\n  found    {found}", describe::call(line))
+            });
+        }
+        let more = answers.count();
+        if more > 0 {
+            score.add(false, || format!("{more} lines more than calls"));
+        }
+    }
+    Ok(score.finish())
+}
+
+fn run(words: &[&str]) -> Result<ExitCode, String> {
+    let number = |w: &str| w.parse::<u64>().map_err(|_| format!("'{w}' is no number"));
+    match words {
+        ["calls", name, count, seed, kinds @ ..] => compare_calls(&program(name), number(count)?, number(seed)?, kinds),
+        [name, count, seed] => Ok(compare_scripts(&program(name), number(count)?, number(seed)?)),
+        _ => Err(USAGE.to_string()),
+    }
+}
+
+fn main() -> ExitCode {
+    let arguments: Vec<String> = std::env::args().skip(1).collect();
+    let words: Vec<&str> = arguments.iter().map(String::as_str).collect();
+    run(&words).unwrap_or_else(|e| {
+        eprintln!("{e}");
+        println!("0 passed, 1 failed");
+        ExitCode::FAILURE
+    })
+}

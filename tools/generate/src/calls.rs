@@ -1,0 +1,143 @@
+//! Seeded calls for the line mode.
+
+use crate::damage::damaged;
+use crate::hard;
+use crate::model::{encode, Set};
+use crate::queries::{any_box, any_limit, any_point};
+use crate::rng::Rng;
+use crate::sets::World;
+use hexscript::tokens::hex;
+
+pub const KINDS: [&str; 10] = [
+    "check", "part", "member", "holder", "search", "test", "union", "intersection", "difference", "complement",
+];
+
+/// Bytes of the set, damaged for a part of the calls.
+fn bytes(rng: &mut Rng, set: &Set, bad_percent: usize) -> String {
+    if rng.chance(bad_percent) {
+        hex(&damaged(rng, set))
+    } else {
+        hex(&encode(set))
+    }
+}
+
+/// The number of axes that the call names: seldom another than the set's.
+fn axes(rng: &mut Rng, n: usize) -> usize {
+    match rng.below(50) {
+        0 => rng.pick(&[0, 9, 255]),
+        1 => 1 + rng.below(8),
+        _ => n,
+    }
+}
+
+fn point_words(point: &[i32; 8]) -> String {
+    point.iter().map(i32::to_string).collect::<Vec<_>>().join(" ")
+}
+
+fn check(rng: &mut Rng, world: &World) -> String {
+    let set = if rng.chance(15) { world.near_limit(rng, true) } else { world.any(rng) };
+    format!("check {} {}", axes(rng, world.n), bytes(rng, &set, 70))
+}
+
+fn part(rng: &mut Rng, world: &World) -> String {
+    let set = if rng.chance(15) { world.near_limit(rng, true) } else { world.any(rng) };
+    let k = if rng.chance(80) { rng.below(5) } else { rng.below(35) };
+    format!("part {} {} {k}", axes(rng, world.n), bytes(rng, &set, 15))
+}
+
+fn member(rng: &mut Rng, world: &World) -> String {
+    let set = world.any(rng);
+    format!("member {} {} {}", axes(rng, world.n), bytes(rng, &set, 8), point_words(&any_point(rng, world.n)))
+}
+
+fn holder(rng: &mut Rng, world: &World) -> String {
+    let (a, b) = (world.any(rng), world.any(rng));
+    let (a, b) = (bytes(rng, &a, 8), bytes(rng, &b, 8));
+    format!("holder {} {a} {b} {}", axes(rng, world.n), point_words(&any_point(rng, world.n)))
+}
+
+/// Half of the limits lie at the tally itself, one before or one behind.
+fn search(rng: &mut Rng, world: &World) -> String {
+    let set = world.any(rng);
+    let (low, high) = any_box(rng, world.n);
+    let (n, set) = (axes(rng, world.n), bytes(rng, &set, 5));
+    let line = |limit: u32| format!("search {n} {set} {limit} {} {}", point_words(&low), point_words(&high));
+    if rng.chance(50) {
+        return line(any_limit(rng));
+    }
+    let answer = second::run_call(&line(1_000_000));
+    let tally: i64 = answer.rsplit(' ').next().and_then(|t| t.parse().ok()).unwrap_or(1);
+    line((tally + rng.range(-1, 1)).max(0) as u32)
+}
+
+fn test(rng: &mut Rng, world: &World) -> String {
+    let (n, set): (usize, Set) = match rng.below(20) {
+        0 => {
+            let (n, basic) = hard::near(rng);
+            (n, vec![basic])
+        }
+        1 => (world.n, world.near_limit(rng, false)),
+        2..=6 => (world.n, vec![world.dense(rng)]),
+        7..=10 => (world.n, vec![world.wide(rng)]),
+        11 => (world.n, world.any(rng)),
+        _ => (world.n, vec![world.small(rng), vec![world.boxed(rng)]].concat()),
+    };
+    let k = if rng.chance(97) { 1 + rng.below(set.len().max(1)) } else { rng.pick(&[0, 33, set.len() + 1]) };
+    format!("test {} {} {k}", axes(rng, n), bytes(rng, &set, 2))
+}
+
+/// The two sets of an operation and their number of axes.
+fn operands(rng: &mut Rng, world: &World) -> (usize, Set, Set) {
+    match rng.below(40) {
+        0 => {
+            let (n, basic) = hard::near(rng);
+            let other = World::with_axes(rng, n);
+            (n, vec![basic], vec![other.boxed(rng)])
+        }
+        1..=6 => {
+            let first = world.near_limit(rng, false);
+            let second = if rng.chance(50) { world.near_limit(rng, false) } else { world.small(rng) };
+            (world.n, first, second)
+        }
+        7..=10 => (world.n, vec![world.wide(rng)], world.small(rng)),
+        _ => (world.n, world.any(rng), world.any(rng)),
+    }
+}
+
+/// A table that fits, is one byte short or long, has no byte, or any size.
+fn room(rng: &mut Rng, line: impl Fn(usize) -> String) -> String {
+    if rng.chance(25) {
+        return line(rng.pick(&[0, 1, 74, 75, 300, 8_000]));
+    }
+    let answer = second::run_call(&line(65_000));
+    let length: i64 = answer.split(' ').nth(1).and_then(|w| w.parse().ok()).unwrap_or(0);
+    let length = if answer.starts_with("gives") { length } else { rng.range(0, 200) };
+    let spare = rng.pick(&[-1, -1, 0, 0, 0, 1, 2, 40]);
+    line((length + spare).max(0) as usize)
+}
+
+fn operation(rng: &mut Rng, world: &World, kind: &str) -> String {
+    let (n, a, b) = operands(rng, world);
+    let n = axes(rng, n);
+    let (a, b) = (bytes(rng, &a, 4), bytes(rng, &b, 4));
+    if kind == "complement" {
+        return room(rng, |room| format!("complement {n} {room} {a}"));
+    }
+    room(rng, |room| format!("{kind} {n} {room} {a} {b}"))
+}
+
+/// Call number `index` of a seed, of one of the kinds.
+pub fn call(seed: u64, index: u64, kinds: &[&str]) -> String {
+    // Another stream than that of the scripts.
+    let rng = &mut Rng::of(seed ^ 0xCA11, index);
+    let world = &World::new(rng);
+    match rng.pick(kinds) {
+        "check" => check(rng, world),
+        "part" => part(rng, world),
+        "member" => member(rng, world),
+        "holder" => holder(rng, world),
+        "search" => search(rng, world),
+        "test" => test(rng, world),
+        kind => operation(rng, world, kind),
+    }
+}

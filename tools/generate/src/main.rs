@@ -1,0 +1,75 @@
+//! `generate scripts COUNT SEED DIR|-`   scripts as files `000000.bin` .. in DIR, or as hex lines
+//! `generate calls COUNT SEED [KIND..]`  line-mode calls
+//! `generate histogram COUNT SEED`       what COUNT scripts and as many calls reach
+
+use generate::{calls, histogram, scripts};
+use hexscript::tokens::hex;
+use std::io::Write;
+use std::process::ExitCode;
+
+const USAGE: &str = "generate scripts COUNT SEED DIR|- | calls COUNT SEED [KIND..] | histogram COUNT SEED";
+
+fn write_scripts(count: u64, seed: u64, place: &str) -> Result<ExitCode, String> {
+    let mut out = std::io::BufWriter::new(std::io::stdout().lock());
+    for index in 0..count {
+        let script = scripts::script(seed, index);
+        let done = if place == "-" {
+            writeln!(out, "{}", hex(&script))
+        } else {
+            std::fs::write(format!("{place}/{index:06}.bin"), &script)
+        };
+        done.map_err(|e| format!("{place}: {e}"))?;
+    }
+    Ok(ExitCode::SUCCESS)
+}
+
+fn write_calls(count: u64, seed: u64, kinds: &[&str]) -> Result<ExitCode, String> {
+    if let Some(kind) = kinds.iter().find(|k| !calls::KINDS.contains(k)) {
+        return Err(format!("no kind '{kind}'; kinds: {}", calls::KINDS.join(" ")));
+    }
+    let kinds = if kinds.is_empty() { &calls::KINDS[..] } else { kinds };
+    let mut out = std::io::BufWriter::new(std::io::stdout().lock());
+    for index in 0..count {
+        writeln!(out, "{}", calls::call(seed, index, kinds)).map_err(|e| e.to_string())?;
+    }
+    Ok(ExitCode::SUCCESS)
+}
+
+/// Each wanted name is a check: it must occur among the scripts and among the calls (14 and 15 are of scripts only).
+fn print_histogram(count: u64, seed: u64) -> ExitCode {
+    let by_scripts = histogram::of_scripts(count, seed);
+    let by_calls = histogram::of_calls(count, seed);
+    let mut names = histogram::wanted();
+    names.extend(by_calls.keys().filter(|k| !histogram::wanted().contains(k)).cloned());
+    println!("{:<20} {:>9} {:>9}", "", "scripts", "calls");
+    let (mut passed, mut failed) = (0, 0);
+    for name in &names {
+        let (s, c) = (by_scripts.get(name).copied().unwrap_or(0), by_calls.get(name).copied().unwrap_or(0));
+        println!("{name:<20} {s:>9} {c:>9}");
+        let script_only = name == "refused 14" || name == "refused 15";
+        let good = !histogram::wanted().contains(name) || (s > 0 && (c > 0 || script_only));
+        passed += usize::from(good);
+        failed += usize::from(!good);
+    }
+    println!("{passed} passed, {failed} failed");
+    ExitCode::from(u8::from(failed > 0))
+}
+
+fn run(words: &[&str]) -> Result<ExitCode, String> {
+    let number = |w: &str| w.parse::<u64>().map_err(|_| format!("'{w}' is no number"));
+    match words {
+        ["scripts", count, seed, place] => write_scripts(number(count)?, number(seed)?, place),
+        ["calls", count, seed, kinds @ ..] => write_calls(number(count)?, number(seed)?, kinds),
+        ["histogram", count, seed] => Ok(print_histogram(number(count)?, number(seed)?)),
+        _ => Err(USAGE.to_string()),
+    }
+}
+
+fn main() -> ExitCode {
+    let arguments: Vec<String> = std::env::args().skip(1).collect();
+    let words: Vec<&str> = arguments.iter().map(String::as_str).collect();
+    run(&words).unwrap_or_else(|e| {
+        eprintln!("{e}");
+        ExitCode::FAILURE
+    })
+}

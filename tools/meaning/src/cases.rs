@@ -1,0 +1,278 @@
+//! A case: random small sets and a box, the calls to make, and how to judge each answer by meaning.
+
+use crate::fractions::has_point;
+use crate::sets::{holds, read, Basic, Set};
+use crate::walk::Walk;
+use generate::model::{self, encode, Rule};
+use generate::rng::Rng;
+use generate::sets::World;
+use hexscript::tokens::{hex, unhex};
+use std::rc::Rc;
+
+/// What an answer is found to be.
+pub enum Verdict {
+    Good,
+    /// Allowed, but nothing can be told by this method.
+    Untold,
+    Bad(String),
+}
+
+pub struct Check {
+    pub call: String,
+    pub judge: Box<dyn Fn(&str) -> Verdict>,
+}
+
+/// The sets of a case with all points of its box.
+struct Case {
+    n: usize,
+    low: [i32; 8],
+    high: [i32; 8],
+    points: Vec<[i32; 8]>,
+    a: model::Set,
+    b: model::Set,
+}
+
+const ROOM: usize = 4_000;
+
+fn verdict(good: bool, story: impl FnOnce() -> String) -> Verdict {
+    if good { Verdict::Good } else { Verdict::Bad(story()) }
+}
+
+fn meaning(set: &[model::Basic]) -> Set {
+    read(&encode(set)).expect("the generator's own bytes")
+}
+
+/// All points of a box in dictionary order.
+fn points(n: usize, low: &[i32; 8], high: &[i32; 8]) -> Vec<[i32; 8]> {
+    let mut out = vec![[0; 8]];
+    for axis in 0..n {
+        let grown = out.iter().flat_map(|p| {
+            (low[axis]..=high[axis]).map(move |x| {
+                let mut next = *p;
+                next[axis] = x;
+                next
+            })
+        });
+        out = grown.collect();
+    }
+    out
+}
+
+/// The result's set and its length, if the answer is a table as it should be: 0 past the result.
+fn result(answer: &str) -> Option<Set> {
+    let words: Vec<&str> = answer.split(' ').collect();
+    let ["gives", length, table] = words[..] else { return None };
+    let (length, table) = (length.parse::<usize>().ok()?, unhex(table)?);
+    let good = table.len() == ROOM && table.get(length..)?.iter().all(|&b| b == 0);
+    if good { read(&table[..length]) } else { None }
+}
+
+/// An upper bound on pieces and on a piece's bytes decides whether 10 or 11 may come.
+fn may_refuse(first: &[model::Basic], cutters: &[model::Basic]) -> bool {
+    let opposites = |b: &model::Basic| b.rules.iter().map(|r| 1 + usize::from(r.equality)).sum::<usize>();
+    let pieces = cutters.iter().map(opposites).fold(first.len(), |p, o| p.saturating_mul(o.max(1)));
+    let most = |f: fn(&model::Basic) -> usize| {
+        first.iter().map(f).max().unwrap_or(0) + cutters.iter().map(f).sum::<usize>()
+    };
+    let (divisions, rules) = (most(|b| b.divisions.len()), most(|b| b.rules.len()));
+    let bytes = pieces.saturating_mul(1 + 23 * divisions + 37 * (rules + cutters.len()));
+    pieces > 32 || divisions > 8 || rules > 40 || bytes > ROOM
+}
+
+/// A kept candidate has a point with fractions: on sets this small the test is never wide.
+fn kept_have_points(n: usize, set: &[Basic]) -> Result<(), String> {
+    for (i, basic) in set.iter().enumerate() {
+        let small = n + basic.divisions.len() <= 6;
+        if small && has_point(n, basic) == Some(false) {
+            return Err(format!("basic set {} of the result has no point with fractions", i + 1));
+        }
+    }
+    Ok(())
+}
+
+impl Case {
+    fn new(rng: &mut Rng) -> Case {
+        let n = 1 + rng.below(3);
+        let world = World::with_axes(rng, n);
+        let set = |rng: &mut Rng| match rng.below(4) {
+            0 => vec![world.boxed(rng)],
+            1 => [world.small(rng), vec![world.boxed(rng)]].concat(),
+            _ => world.small(rng),
+        };
+        let (a, b) = (set(rng), set(rng));
+        let half = [12, 5, 3][n - 1];
+        let (mut low, mut high) = ([0; 8], [0; 8]);
+        for axis in 0..n {
+            low[axis] = -half + rng.range(-2, 2) as i32;
+            high[axis] = half + rng.range(-2, 2) as i32;
+        }
+        let points = points(n, &low, &high);
+        Case { n, low, high, points, a, b }
+    }
+
+    /// Membership of every point of the box in the result against the definition.
+    fn operation(self: &Rc<Case>, kind: &'static str) -> Check {
+        let (a, b) = (hex(&encode(&self.a)), hex(&encode(&self.b)));
+        let complement = kind == "complement";
+        let call = if complement { format!("{kind} {} {ROOM} {a}", self.n) } else { format!("{kind} {} {ROOM} {a} {b}", self.n) };
+        let case = Rc::clone(self);
+        let allowed = match kind {
+            "union" => self.a.len() + self.b.len() > 32,
+            "intersection" => self.a.len() * self.b.len() > 10,
+            "complement" => may_refuse(&[model::Basic::default()], &self.a),
+            _ => may_refuse(&self.a, &self.b),
+        };
+        Check { call, judge: Box::new(move |answer| case.judge_operation(kind, answer, allowed)) }
+    }
+
+    fn judge_operation(&self, kind: &str, answer: &str, allowed: bool) -> Verdict {
+        let Some(found) = result(answer) else {
+            let refused = answer.starts_with("refused 10 ") || answer.starts_with("refused 11 ");
+            return if allowed && refused { Verdict::Untold } else { Verdict::Bad("no result".to_string()) };
+        };
+        let (a, b) = (meaning(&self.a), meaning(&self.b));
+        let tested = match kind {
+            "intersection" => true,
+            "difference" => !b.is_empty(),
+            "complement" => !a.is_empty(),
+            _ => false,
+        };
+        if let (true, Err(story)) = (tested, kept_have_points(self.n, &found)) {
+            return Verdict::Bad(story);
+        }
+        let wrong = self.points.iter().find(|p| {
+            let (in_a, in_b) = (holds(&a, p), holds(&b, p));
+            let right = match kind {
+                "union" => in_a || in_b,
+                "intersection" => in_a && in_b,
+                "difference" => in_a && !in_b,
+                _ => !in_a,
+            };
+            holds(&found, p) != right
+        });
+        verdict(wrong.is_none(), || format!("wrong at point {wrong:?}"))
+    }
+
+    /// Pieces cut from one basic set by the first `cutters` basic sets of the second set: no point in two.
+    fn pieces(self: &Rc<Case>, basic: usize, cutters: usize) -> Check {
+        let (first, second) = (&self.a[basic..=basic], &self.b[..cutters]);
+        let call = format!("difference {} {ROOM} {} {}", self.n, hex(&encode(first)), hex(&encode(second)));
+        let allowed = may_refuse(first, second);
+        let case = Rc::clone(self);
+        Check {
+            call,
+            judge: Box::new(move |answer| match result(answer) {
+                None if allowed && answer.starts_with("refused 1") => Verdict::Untold,
+                None => Verdict::Bad("no result".to_string()),
+                Some(found) => {
+                    let twice = case.points.iter().find(|p| found.iter().filter(|b| b.holds(p)).count() > 1);
+                    verdict(twice.is_none(), || format!("two pieces hold {twice:?}"))
+                }
+            }),
+        }
+    }
+
+    /// The tally of the whole walk decides which limits are worth asking for.
+    fn search(self: &Rc<Case>, rng: &mut Rng) -> Check {
+        let set = meaning(&self.a);
+        let walk = |limit| Walk { set: &set, n: self.n, low: self.low, high: self.high, limit, tally: 0 };
+        let mut whole = walk(1_000_000);
+        whole.answer();
+        let limit = match rng.below(3) {
+            0 => 1_000_000,
+            1 => rng.range(1, i64::from(whole.tally) + 2) as u32,
+            _ => (whole.tally + rng.below(3) as u32).max(2) - 1,
+        };
+        let expected = walk(limit).answer();
+        let words = |p: &[i32; 8]| p.map(|x| x.to_string()).join(" ");
+        let (low, high) = (words(&self.low), words(&self.high));
+        let call = format!("search {} {} {limit} {low} {high}", self.n, hex(&encode(&self.a)));
+        let first = self.points.iter().find(|p| holds(&set, *p)).map(|p| p[..self.n].to_vec());
+        Check { call, judge: Box::new(move |answer| judge_search(answer, &expected, &first)) }
+    }
+
+    fn member(self: &Rc<Case>, rng: &mut Rng) -> Check {
+        let point = self.points[rng.below(self.points.len())];
+        let words = point.map(|x| x.to_string()).join(" ");
+        let call = format!("member {} {} {words}", self.n, hex(&encode(&self.a)));
+        let expected = if holds(&meaning(&self.a), &point) { "in" } else { "out" };
+        Check { call, judge: Box::new(move |answer| verdict(answer == expected, || format!("should be {expected}"))) }
+    }
+
+    fn holder(self: &Rc<Case>, rng: &mut Rng) -> Check {
+        let point = self.points[rng.below(self.points.len())];
+        let words = point.map(|x| x.to_string()).join(" ");
+        let call = format!("holder {} {} {} {words}", self.n, hex(&encode(&self.a)), hex(&encode(&self.b)));
+        let find = |name: &str, set: &[model::Basic]| {
+            let set = meaning(set);
+            set.iter().find(|b| b.holds(&point)).map(|b| format!("{name} {} {}", b.offset, b.length))
+        };
+        let found = find("first", &self.a).or_else(|| find("second", &self.b));
+        let expected = found.unwrap_or("first 0 0".to_string());
+        Check { call, judge: Box::new(move |answer| verdict(answer == expected, || format!("should be {expected}"))) }
+    }
+}
+
+fn judge_search(answer: &str, expected: &str, first: &Option<Vec<i32>>) -> Verdict {
+    let words: Vec<&str> = answer.split(' ').collect();
+    let by_points = match (words[0], first) {
+        ("none", point) => point.is_none(),
+        ("at", Some(point)) => words[1..words.len() - 1] == point.iter().map(i32::to_string).collect::<Vec<_>>(),
+        ("spent", _) => true,
+        _ => false,
+    };
+    verdict(by_points && answer == expected, || format!("should be {expected}; first point by enumeration {first:?}"))
+}
+
+/// A candidate of a cut: rules of one basic set, some rules of another, and the opposite of one more.
+/// Divisions are only appended: sharing them is not the test's matter.
+fn candidate(rng: &mut Rng, first: &model::Basic, cutter: &model::Basic) -> model::Basic {
+    let mut out = first.clone();
+    let shift = first.divisions.len();
+    out.divisions.extend(&cutter.divisions);
+    let moved = |rule: &Rule| {
+        let mut divisions = [0; 8];
+        divisions[shift..].copy_from_slice(&rule.divisions[..8 - shift]);
+        Rule { divisions, ..*rule }
+    };
+    let count = rng.below(cutter.rules.len() + 1);
+    out.rules.extend(cutter.rules[..count].iter().map(moved));
+    if let Some(rule) = cutter.rules.get(count).map(moved) {
+        let (axes, divisions) = (rule.axes.map(|k| -k), rule.divisions.map(|k| -k));
+        out.rules.push(Rule { equality: false, constant: -rule.constant - 1, axes, divisions });
+    }
+    out
+}
+
+/// A test's answer against elimination. No number of such a tableau passes a determinant of at most 8 rows
+/// with numbers of at most 9 and 3, so by Hadamard's inequality none is over 12^8: wide is wrong here.
+fn test(n: usize, basic: model::Basic) -> Check {
+    let call = format!("test {n} {} 1", hex(&encode(std::slice::from_ref(&basic))));
+    let judge = move |answer: &str| {
+        let set = meaning(std::slice::from_ref(&basic));
+        match (answer.split(' ').next(), has_point(n, &set[0])) {
+            (Some("point"), Some(found)) => verdict(found, || "has no point with fractions".to_string()),
+            (Some("dropped"), Some(found)) => verdict(!found, || "has a point with fractions".to_string()),
+            (Some("point" | "dropped"), None) => Verdict::Untold,
+            _ if answer == "long 200" => Verdict::Untold,
+            _ => Verdict::Bad("neither point nor dropped".to_string()),
+        }
+    };
+    Check { call, judge: Box::new(judge) }
+}
+
+/// The checks of case number `index` of a seed.
+pub fn checks(seed: u64, index: u64) -> Vec<Check> {
+    let rng = &mut Rng::of(seed ^ 0x3EA9, index);
+    let case = Rc::new(Case::new(rng));
+    let mut out: Vec<Check> = ["union", "intersection", "difference", "complement"].map(|k| case.operation(k)).into();
+    for basic in 0..case.a.len() {
+        out.extend((1..=case.b.len()).map(|cutters| case.pieces(basic, cutters)));
+    }
+    out.extend([case.search(rng), case.search(rng), case.member(rng), case.holder(rng)]);
+    for first in &case.a {
+        out.push(test(case.n, first.clone()));
+        out.extend(case.b.iter().map(|cutter| test(case.n, candidate(rng, first, cutter))));
+    }
+    out
+}

@@ -1,0 +1,73 @@
+//! The first-point search by recursion over the axes (document 01, "Asking").
+
+use crate::sets::{Basic, Rule};
+
+pub struct Walk<'a> {
+    pub set: &'a [Basic],
+    pub n: usize,
+    pub low: [i32; 8],
+    pub high: [i32; 8],
+    pub limit: u32,
+    pub tally: u32,
+}
+
+/// Least and greatest value of a sum over sides.
+fn span(start: i128, coefficients: &[i128], sides: &[(i128, i128)]) -> (i128, i128) {
+    coefficients.iter().zip(sides).fold((start, start), |(least, most), (k, (low, high))| {
+        let (a, b) = (k * low, k * high);
+        (least + a.min(b), most + a.max(b))
+    })
+}
+
+fn can_hold(rule: &Rule, axes: &[(i128, i128)], divisions: &[(i128, i128)]) -> bool {
+    let (least, most) = span(rule.constant, &rule.places[..8], axes);
+    let (less, more) = span(0, &rule.places[8..], divisions);
+    most + more >= 0 && (!rule.equality || least + less <= 0)
+}
+
+impl Walk<'_> {
+    fn passes(&self, prefix: &[i32]) -> bool {
+        let side = |i: usize| match prefix.get(i) {
+            Some(&x) => (i128::from(x), i128::from(x)),
+            None => (i128::from(self.low[i]), i128::from(self.high[i])),
+        };
+        let axes: Vec<_> = (0..8).map(side).collect();
+        self.set.iter().any(|basic| {
+            let floors = |d: &crate::sets::Division| {
+                let (least, most) = span(d.c, &d.axes, &axes);
+                (least.div_euclid(d.d), most.div_euclid(d.d))
+            };
+            let divisions: Vec<_> = basic.divisions.iter().map(floors).collect();
+            basic.rules.iter().all(|rule| can_hold(rule, &axes, &divisions))
+        })
+    }
+
+    /// The answer's words if it is known at or below this prefix.
+    fn below(&mut self, prefix: &mut Vec<i32>) -> Option<String> {
+        let axis = prefix.len();
+        for x in self.low[axis]..=self.high[axis] {
+            if self.tally == self.limit {
+                return Some("spent".to_string());
+            }
+            self.tally += 1;
+            prefix.push(x);
+            if self.passes(prefix) {
+                if prefix.len() == self.n {
+                    let words: Vec<String> = prefix.iter().map(i32::to_string).collect();
+                    return Some(format!("at {}", words.join(" ")));
+                }
+                if let Some(answer) = self.below(prefix) {
+                    return Some(answer);
+                }
+            }
+            prefix.pop();
+        }
+        None
+    }
+
+    /// The answer line of the search.
+    pub fn answer(&mut self) -> String {
+        let words = self.below(&mut Vec::new()).unwrap_or("none".to_string());
+        format!("{words} {}", self.tally)
+    }
+}

@@ -1,0 +1,107 @@
+//! What the tests share: sets from listing lines, scripts piece by piece.
+#![allow(dead_code)]
+
+use second::calls::hex;
+use second::listing::read_set;
+use second::{encode, run_call, run_script};
+
+/// The bytes of a set given as listing lines with `;` between them, each
+/// basic set opened by `basic`.
+pub fn set(n: usize, lines: &str) -> Vec<u8> {
+    let set = read_set(n, &lines.replace(';', "\n")).expect("listing lines");
+    encode(&set)
+}
+
+pub fn set_hex(n: usize, lines: &str) -> String {
+    hex(&set(n, lines))
+}
+
+/// A is 0 ≤ x ≤ 2186.
+pub fn a() -> Vec<u8> {
+    set(1, "basic; ge 0 1; ge 2186 -1")
+}
+
+/// The same part of a set a number of times.
+pub fn times(count: usize, lines: &str) -> String {
+    vec![lines; count].join(";")
+}
+
+/// Coordinates filled up with zeros, as fields of a line.
+pub fn eight(x: &[i32]) -> String {
+    let words: Vec<String> = (0..8)
+        .map(|i| x.get(i).copied().unwrap_or(0).to_string())
+        .collect();
+    words.join(" ")
+}
+
+pub fn call(line: String) -> String {
+    run_call(&line)
+}
+
+pub fn check(n: u8, bytes: &[u8]) -> String {
+    call(format!("check {n} {}", hex(bytes)))
+}
+
+pub fn member(n: u8, bytes: &[u8], x: &[i32]) -> String {
+    call(format!("member {n} {} {}", hex(bytes), eight(x)))
+}
+
+pub fn search(n: u8, bytes: &[u8], limit: u32, low: &[i32], high: &[i32]) -> String {
+    let (set, low, high) = (hex(bytes), eight(low), eight(high));
+    call(format!("search {n} {set} {limit} {low} {high}"))
+}
+
+pub fn tested(n: u8, bytes: &[u8]) -> String {
+    call(format!("test {n} {} 1", hex(bytes)))
+}
+
+/// An operation with two sets; the answer without the table's bytes.
+pub fn short(name: &str, n: u8, room: usize, first: &[u8], second: &[u8]) -> String {
+    let whole = call(format!("{name} {n} {room} {} {}", hex(first), hex(second)));
+    whole.rsplit_once(' ').expect("a table").0.to_string()
+}
+
+/// A script, command by command.
+pub struct Script(pub Vec<u8>);
+
+impl Script {
+    pub fn new(n: u8) -> Script {
+        Script(vec![0x10, n])
+    }
+
+    pub fn raw(mut self, bytes: &[u8]) -> Script {
+        self.0.extend(bytes);
+        self
+    }
+
+    pub fn load(self, number: u8, bytes: &[u8]) -> Script {
+        let length = (bytes.len() as u16).to_le_bytes();
+        self.raw(&[0x40, number]).raw(&length).raw(bytes)
+    }
+
+    pub fn numbers(self, numbers: &[i32]) -> Script {
+        (0..8).fold(self, |script, i| {
+            let x = numbers.get(i).copied().unwrap_or(0);
+            script.raw(&x.to_le_bytes())
+        })
+    }
+
+    pub fn member(self, number: u8, x: &[i32]) -> Script {
+        self.raw(&[0x46, number]).numbers(x)
+    }
+
+    pub fn search(self, number: u8, limit: u32, low: &[i32], high: &[i32]) -> Script {
+        let opened = self.raw(&[0x47, number]).raw(&limit.to_le_bytes());
+        opened.numbers(low).numbers(high)
+    }
+
+    /// Runs without a closing `00`.
+    pub fn run(self) -> String {
+        String::from_utf8(run_script(&self.0)).expect("text")
+    }
+
+    /// Runs with it.
+    pub fn end(self) -> String {
+        self.raw(&[0]).run()
+    }
+}

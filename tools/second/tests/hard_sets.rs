@@ -1,0 +1,52 @@
+//! hard-sets.txt: known pivot counts without the limit of 200, and what the
+//! limit makes of them.
+
+use second::listing::read_basic;
+use second::test::{test, test_limited};
+use second::BasicSet;
+
+struct Hard {
+    n: usize,
+    pivots: u32,
+    answer: String,
+    basic: BasicSet,
+}
+
+fn hard_sets() -> Vec<Hard> {
+    let text = include_str!("hard-sets.txt");
+    text.split("# axes ").skip(1).map(read_hard).collect()
+}
+
+fn read_hard(block: &str) -> Hard {
+    let (heading, lines) = block.split_once('\n').expect("a heading");
+    let words: Vec<&str> = heading.split(' ').collect();
+    let n = words[0].parse().expect("axes");
+    Hard {
+        n,
+        pivots: words[2].parse().expect("pivots"),
+        answer: words[3].to_string(),
+        basic: read_basic(n, lines).expect("listing lines"),
+    }
+}
+
+#[test]
+fn without_the_limit_as_the_headings_say() {
+    let sets = hard_sets();
+    let counts: Vec<u32> = sets.iter().map(|hard| hard.pivots).collect();
+    assert_eq!(counts, [199, 200, 201, 243]);
+    for hard in sets {
+        let outcome = test_limited(hard.n, &hard.basic, None);
+        assert_eq!((outcome.answer.word(), outcome.pivots), (&*hard.answer, hard.pivots));
+    }
+}
+
+/// Step 3 stands after steps 1 and 2: the 200 that end in dropped are not long.
+#[test]
+fn with_the_limit() {
+    let outcomes: Vec<String> = hard_sets()
+        .iter()
+        .map(|hard| test(hard.n, &hard.basic))
+        .map(|outcome| format!("{} {}", outcome.answer.word(), outcome.pivots))
+        .collect();
+    assert_eq!(outcomes, ["point 199", "dropped 200", "long 200", "long 200"]);
+}
