@@ -3,3 +3,4 @@ pub mod Cutting
 pub mod Kept
 pub mod Closed
 pub mod Contracts
+pub mod Levels

@@ -1,5 +1,5 @@
--- Opposites, joined divisions, and the four operations on sets (document 01, "Cutting rules").
--- Whether a candidate is kept is a parameter here: `keeps` of the test for fractions, or any other.
+-- Opposites, joined divisions, and the four operations on sets (document 01, "Cutting rules"); a rule is a constraint here.
+-- Whether a candidate is kept is a parameter: `keeps` of the test for fractions, or any other.
 use mathlib.Core.Bool.{Bool, true, false, not, _&&_, _||_, cond}
 use mathlib.Core.List.{List, [], _∷_, _++_, map}
 use mathlib.Core.Option.{Option, none, some}
@@ -11,7 +11,7 @@ use Rattle.model.specs.Lists.{all, any, concatMap, filter, isNil}
 use Rattle.model.specs.Sets.{Division, Kind, equality, inequality, Constraint, BasicSet, Set, isZero}
 use Rattle.simplex.specs.Tableau.{Verdict, point, dropped, long, wide, test}
 
--- ---- opposites
+-- ---- opposites: "The opposite of e ≥ 0 is −e − 1 ≥ 0. An equality e = 0 has two opposites, first e − 1 ≥ 0, then −e − 1 ≥ 0."
 
 -- e − 1 ≥ 0
 abbrev pub above : Constraint → Constraint
@@ -28,7 +28,8 @@ oppositesAt inequality r = below r ∷ []
 abbrev pub opposites : Constraint → List Constraint
 opposites r = oppositesAt (r .kind) r
 
--- ---- joined divisions
+-- ---- joined divisions: "B's divisions are appended after A's, except that one equal in d, c and all coefficients to a division of A
+-- that no earlier division of B has taken is that one (the first such). B's coefficients move accordingly."
 
 abbrev pub sameℤ : ℤ → ℤ → Bool
 sameℤ a b = isZero (a -ℤ b)
@@ -47,7 +48,7 @@ abbrev pub seek : Division → List ℕ → ℕ → List Division → Option ℕ
 seek e taken i [] = none
 seek e taken i (f ∷ ds) = cond (sameDivision e f && not (any (eqb i) taken)) (some i) (seek e taken (suc i) ds)
 
--- the divisions `joined` so far, of A's `ds` those taken, and where each further division of B goes
+-- the divisions of both, and the place of each division of B among them
 pub record Joined : Type 0 where
   pub all : List Division
   pub places : List ℕ
@@ -55,6 +56,7 @@ pub record Joined : Type 0 where
 abbrev pub placed : ℕ → Joined → Joined
 placed i j = record { all = j .all; places = i ∷ j .places }
 
+-- A's divisions ds, the places of them that are taken, what is joined so far, and the divisions of B that are left
 abbrev pub joinFrom : List Division → List ℕ → List Division → List Division → Joined
 joinFrom ds taken joined [] = record { all = joined; places = [] }
 joinFrom ds taken joined (e ∷ es) =
@@ -73,7 +75,7 @@ addAt zero c (z ∷ zs) = (c +ℤ z) ∷ zs
 addAt (suc i) c [] = pos 0 ∷ addAt i c []
 addAt (suc i) c (z ∷ zs) = z ∷ addAt i c zs
 
--- each coefficient at its new place
+-- each of B's division coefficients at its new place, of 8
 abbrev pub move : List ℕ → List ℤ → List ℤ
 move [] cs = replicate 8 (pos 0)
 move (i ∷ is) [] = replicate 8 (pos 0)
@@ -84,34 +86,39 @@ moveConstraint is r = record { kind = r .kind; constant = r .constant; axes = r 
 
 -- ---- the operations, with no limits
 
+-- "first set's basic sets, then the second's, untested"
 abbrev pub union : Set → Set → Set
 union s t = s ++ t
 
--- the divisions of the joined pair, and B's rules moved
+-- the divisions of the joined pair, and B's constraints moved
 abbrev pub joinedDivisions : BasicSet → BasicSet → List Division
 joinedDivisions a b = join (a .divisions) (b .divisions) .all
 
 abbrev pub movedConstraints : BasicSet → BasicSet → List Constraint
 movedConstraints a b = map (moveConstraint (join (a .divisions) (b .divisions) .places)) (b .constraints)
 
+-- "divisions joined, rules of the first then of the second"
 abbrev pub both : BasicSet → BasicSet → BasicSet
 both a b = record { divisions = joinedDivisions a b; constraints = a .constraints ++ movedConstraints a b }
 
 module _ (keep : BasicSet → Bool) where
-  -- the kept candidates of one rule, over divisions ds and working rules w
+  -- the kept candidates of one constraint's opposites os: "working rules, then the opposite", over divisions ds
   abbrev pub kept : List Division → List Constraint → List Constraint → List BasicSet
   kept ds w os = filter keep (map (λ (o : Constraint). record { divisions = ds; constraints = w ++ (o ∷ []) }) os)
 
+  -- "for each rule of the cutter in order, each opposite gives a candidate ..; then the rule joins the working rules unless all its
+  -- candidates were dropped. The pieces are the kept candidates in order." w: the working constraints, then those of the cutter left
   abbrev pub cutBy : List Division → List Constraint → List Constraint → List BasicSet
   cutBy ds w [] = []
   cutBy ds w (r ∷ rs) =
       let k : List BasicSet = kept ds w (opposites r) in
       k ++ cutBy ds (cond (isNil k) w (w ++ (r ∷ []))) rs
 
-  -- the pieces of a that one cutter leaves
+  -- one cut: the pieces of a that the cutter c leaves; the constraints of a are the first working ones
   unfoldable pub cut : BasicSet → BasicSet → List BasicSet
   cut a c = cutBy (joinedDivisions a c) (a .constraints) (movedConstraints a c)
 
+  -- each piece is cut by the remaining cutters in turn; no cutters: the basic set stays as it is
   unfoldable pub cutAll : List BasicSet → BasicSet → List BasicSet
   cutAll [] a = a ∷ []
   cutAll (c ∷ cs) a = concatMap (cutAll cs) (cut a c)
@@ -119,13 +126,16 @@ module _ (keep : BasicSet → Bool) where
   unfoldable pub difference : Set → Set → Set
   difference s t = concatMap (cutAll t) s
 
+  -- "for each basic set of the first, each of the second .. Each candidate is tested."
   unfoldable pub intersection : Set → Set → Set
   intersection s t = filter keep (concatMap (λ (a : BasicSet). map (both a) t) s)
 
+  -- "the difference of the rule-less basic set and the set"
   unfoldable pub complement : Set → Set
   complement s = difference (record { divisions = []; constraints = [] } ∷ []) s
 
-  -- ---- their limits (refusal 10)
+  -- ---- their limits (refusal 10): "a join over 8 divisions, a candidate over 48 rules, or a 33rd basic set in the result (pieces
+  -- between two cutters don't count)". A candidate counts whether or not the test would drop it
 
   abbrev pub joinFits : BasicSet → BasicSet → Bool
   joinFits a b = leb (length (joinedDivisions a b)) 8
@@ -161,7 +171,7 @@ module _ (keep : BasicSet → Bool) where
   abbrev pub complementFits : Set → Bool
   complementFits s = differenceFits (record { divisions = []; constraints = [] } ∷ []) s
 
--- ---- kept by the test for fractions: all but dropped
+-- ---- kept by the test for fractions: point, long and wide; only dropped is not
 
 abbrev pub isKept : Verdict → Bool
 isKept point = true

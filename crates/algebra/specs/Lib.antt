@@ -1,3 +1,4 @@
 pub mod Cut
 pub mod Operations
 pub mod Result
+pub mod Levels

@@ -1,4 +1,5 @@
--- The four operations on the bytes of sets (document 01, "Cutting rules", "Refused").
+-- The four operations on the bytes of sets, n axes and a result table of `room` bytes (document 01, "Cutting rules", "Refused").
+-- Order of the refusals: 1; those of the first set; those of the second; 10; 11.
 use mathlib.Core.Bool.{Bool, true, false, not, _&&_, _||_, cond}
 use mathlib.Core.List.{List, [], _∷_, _++_, map}
 use Prim.Native.Nat.{ℕ, zero, suc, _+_, _-_, _*_, _/_, _%_, _^_}
@@ -10,8 +11,7 @@ use Rattle.model.specs.Sets.{Set}
 use Rattle.codec.specs.Bytes.{Answer, refused, gives, encode, decode}
 use Rattle.algebra.specs.Cut.{keeps, union, unionFits, intersection, intersectionFits, difference, differenceFits, complement, complementFits}
 
--- ---- the operations on bytes: a result that fits the limits and a table of `room` bytes
-
+-- 10 where a limit is passed, else 11 where the bytes are more than the table has, else the bytes
 abbrev pub result : Bool → ℕ → Set → Answer (List ℕ)
 result fits room s = cond fits (cond (leb (length (encode s)) room) (gives (encode s)) (refused 11)) (refused 10)
 

@@ -181,7 +181,7 @@ abbrev pub Bytes : List ℕ → Type 0
 Bytes [] = Unit {0}
 Bytes (b ∷ s) = (b < 256) × Bytes s
 
-clean-start : (n : ℕ) (k : Counts) (cs : List Command) → Unrefused n k cs → k .basics ≡ 0 → (build cs .divisions ≡ []) × (build cs .constraints ≡ [])
+pub clean-start : (n : ℕ) (k : Counts) (cs : List Command) → Unrefused n k cs → k .basics ≡ 0 → (build cs .divisions ≡ []) × (build cs .constraints ≡ [])
 clean-start n k [] u e = (refl, refl)
 clean-start n k (opens ∷ cs) u e = (refl, refl)
 clean-start n k (division d ∷ cs) u e = absurd (clash (ltb→lt 0 (k .basics) (all-passed (testsOf n k (division d)) tt (u .0) .0)) e)

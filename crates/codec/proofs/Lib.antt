@@ -2,3 +2,7 @@ pub mod Parsing
 pub mod Split
 pub mod Encoded
 pub mod Decoded
+pub mod Walking
+mod Filling
+pub mod Boundaries
+pub mod Valid

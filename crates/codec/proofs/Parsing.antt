@@ -7,11 +7,12 @@ use native.Mathlib.Numerals.{add-one}
 use native.Mathlib.Omega.{arith}
 use borrow.Author.Tests.{ltb-true, ltb-false, lt-ltb, le-ltb, le-leb, lt-leb, eq-eqb, ne-eqb, leb-true, eqb-true}
 use lib.Dec.{T, ltb, leb, eqb}
-use lib.IntN.{ℤ, pos, negsuc}
+use lib.IntN.{ℤ, pos, negsuc, _-ℤ_}
 use lib.Signed.{leZ}
 use lib.ListN.{length, take, drop, getD, drop-of-length-le, length-drop}
 use lib.Seq.{drop-cons, drop-drop}
 use lib.Dec.{ltb→lt}
+use Rattle.integers.specs.Lin.{lin, lia-eq}
 use Rattle.model.specs.Lists.{all}
 use Rattle.model.specs.Sets.{isZero, absent, equality}
 use Rattle.codec.specs.Bytes.{Answer, refused, gives, valueOf, signed, signedList, coefficient, within, constantFits, Command, opens, division, constraint, kindOf, Counts, firstFailing, testsOf, refusal, counted, widthOf, readDivision, readConstraint, readCommand, headRefusal, after, parse, setOf, axesFit, decode, number}
@@ -69,6 +70,38 @@ by P false f g = g refl
 
 pub signed-ind : (k : ℕ) (P : ℤ → Type 0) (v : ℕ) → (2 * v < 256 ^ k → P (pos v)) → (256 ^ k ≤ 2 * v → P (negsuc (256 ^ k - suc v))) → P (signed k v)
 signed-ind k P v f g = by (λ (b : Bool). P (cond b (pos v) (negsuc (256 ^ k - suc v)))) (ltb (2 * v) (256 ^ k)) (λ e. f (ltb-true _ _ e)) (λ e. g (ltb-false _ _ e))
+
+-- ---- signed numbers
+pub signed-low : (k v : ℕ) → 2 * v < 256 ^ k → signed k v ≡ pos v
+signed-low k v h = signed-ind k (λ (z : ℤ). z ≡ pos v) v (λ l. refl) (λ l. absurd (clash (256 ^ k) h l))
+  where
+    clash : (W : ℕ) → 2 * v < W → W ≤ 2 * v → ⊥
+    clash W h l = omega arith
+
+pub signed-high : (k v W : ℕ) → 256 ^ k ≡ W → W ≤ 2 * v → v < W → signed k v ≡ pos v -ℤ pos W
+signed-high k v W e h u = signed-ind k (λ (z : ℤ). z ≡ pos v -ℤ pos W) v (λ l. absurd (clash (256 ^ k) e l)) (λ l. ap (λ (x : ℕ). negsuc (x - suc v)) e ∙ same)
+  where
+    clash : (x : ℕ) → x ≡ W → 2 * v < x → ⊥
+    clash x e l = omega arith
+
+    same : negsuc (W - suc v) ≡ pos v -ℤ pos W
+    same = let m = W - suc v in lia-eq (pos v ∷ pos W ∷ pos m ∷ []) [] (search lin depth 30) (omega arith)
+
+-- eight coefficients, each read at its place
+pub eight : (t : List ℕ) (p : ℕ) → (f : ℕ → ℤ) → ((q : ℕ) → f q ≡ signed 2 (valueOf (take 2 (drop q t))))
+    → f p ∷ f (p + 2) ∷ f (p + 4) ∷ f (p + 6) ∷ f (p + 8) ∷ f (p + 10) ∷ f (p + 12) ∷ f (p + 14) ∷ [] ≡ signedList 8 (drop p t)
+eight t p f h =
+    let a : p + 4 ≡ p + 2 + 2 = omega arith in let b : p + 6 ≡ p + 2 + 2 + 2 = omega arith in let c : p + 8 ≡ p + 2 + 2 + 2 + 2 = omega arith in
+    let d : p + 10 ≡ p + 2 + 2 + 2 + 2 + 2 = omega arith in let g : p + 12 ≡ p + 2 + 2 + 2 + 2 + 2 + 2 = omega arith in let k : p + 14 ≡ p + 2 + 2 + 2 + 2 + 2 + 2 + 2 = omega arith in
+    (λ i. f p ∷ f (p + 2) ∷ f (a i) ∷ f (b i) ∷ f (c i) ∷ f (d i) ∷ f (g i) ∷ f (k i) ∷ []) ∙ more 8 p (drop p t) refl
+  where
+    listed : ℕ → ℕ → List ℤ
+    listed zero q = []
+    listed (suc m) q = f q ∷ listed m (q + 2)
+
+    more : (m q : ℕ) (l : List ℕ) → l ≡ drop q t → listed m q ≡ signedList m l
+    more zero q l e = refl
+    more (suc m) q l e = ap₂ (λ (z : ℤ) (r : List ℤ). z ∷ r) (h q ∙ ap (λ (r : List ℕ). signed 2 (valueOf (take 2 r))) (sym e)) (more m (q + 2) (drop 2 l) (ap (drop 2) e ∙ drop-drop 2 q t))
 
 same-and-true : (b : Bool) → (b && true) ≡ b
 same-and-true true = refl

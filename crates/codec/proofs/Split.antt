@@ -7,13 +7,8 @@ use native.Mathlib.Omega.{arith}
 use lib.ListN.{length, drop, length-drop}
 use Rattle.model.specs.Sets.{Set}
 use Rattle.codec.specs.Bytes.{Answer, refused, gives, Command, Counts, counted, widthOf, readCommand, headRefusal, build, after, parse, setOf, axesFit, decode}
+use Rattle.codec.specs.Places.{commandsOf}
 use Rattle.codec.proofs.Parsing.{start, parse-next, parse-stop}
-
--- the commands of the bytes, whether or not they are refused
-unfoldable pub commandsOf : ℕ → List ℕ → List Command
-commandsOf zero s = []
-commandsOf (suc f) [] = []
-commandsOf (suc f) (b ∷ s) = readCommand b s ∷ commandsOf f (drop (widthOf b - 1) s)
 
 -- the number of the first command that is refused, 0 for none
 unfoldable pub refusalOf : ℕ → ℕ → Counts → List ℕ → ℕ

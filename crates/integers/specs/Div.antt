@@ -7,7 +7,7 @@ use native.Mathlib.Omega.{arith}
 use native.Mathlib.Nat.{div-add-mod', mod-lt, mod-le, div-le-self, le-trans, lt-of-le-of-lt, le-of-eq}
 use lib.Dec.{T, ltb→lt, lt→ltb}
 use lib.IntN.{ℤ, pos, negsuc, negℤ, natAbs, _+ℤ_, _-ℤ_, _*ℤ_}
-use lib.Signed.{_≤ℤ_, _<ℤ_, mag, quotZ, remZ, shrZ, mag-shr, mag-rem}
+use lib.Signed.{_≤ℤ_, _<ℤ_, mag, quotZ, remZ, mag-shr, mag-rem}
 use mir.Syntax.{Width}
 use mir.Val.{SFits}
 use Rattle.integers.specs.Z.{Within}
@@ -56,8 +56,14 @@ pub record Floor (n d q : ℤ) : Type 0 where
   pub low : (q *ℤ d) ≤ℤ n
   pub high : n <ℤ ((q +ℤ pos 1) *ℤ d)
 
+-- z / d rounded towards minus infinity (document 01, "Points, rules, sets"): −(a + 1) / d is −(a / d + 1)
+abbrev pub floorDiv : ℤ → ℕ → ℤ
+floorDiv (pos a) d = pos (a / d)
+floorDiv (negsuc a) d = negsuc (a / d)
+
+-- the same with an integer for the divisor
 abbrev pub floorZ : ℤ → ℤ → ℤ
-floorZ n d = shrZ n (natAbs d)
+floorZ n d = floorDiv n (natAbs d)
 
 -- there is one
 pub floor-unique : {n d q r : ℤ} → pos 0 <ℤ d → Floor n d q → Floor n d r → q ≡ r

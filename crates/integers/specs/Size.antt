@@ -39,6 +39,15 @@ natAbs-nonpos {z = pos zero} h = refl
 natAbs-nonpos {z = pos (suc n)} h = absurd (lia-no (pos n ∷ []) (le {a = pos n +ℤ pos 1} {b = pos 0} (subst (λ (x : ℕ). pos x ≤ℤ pos 0) (omega arith) h) ∷ []) (search lin depth 30) (omega arith))
 natAbs-nonpos {z = negsuc n} h = refl
 
+-- a number by its sign and its `mag`, which counts −1 as 0
+pub mag-nonneg : {z : ℤ} → pos 0 ≤ℤ z → z ≡ pos (mag z)
+mag-nonneg {z = pos n} h = refl
+mag-nonneg {z = negsuc n} h = absurd (h .le)
+
+pub mag-negative : {z : ℤ} → z <ℤ pos 0 → z ≡ negsuc (mag z)
+mag-negative {z = pos n} h = absurd (lia-no (pos n ∷ []) (lt h ∷ []) (search lin depth 30) (omega arith))
+mag-negative {z = negsuc n} h = refl
+
 -- ---- bounds by size
 pub within-self : (z : ℤ) → Within (natAbs z) z
 within-self z = record { size = omega arith }

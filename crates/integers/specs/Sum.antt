@@ -2,7 +2,8 @@
 -- so its invariant is an equation. Sums are additive, scale, may be exchanged, and are ordered and bounded by their terms. Assumes nothing.
 use mathlib.Core.Path.{_≡_, refl, sym, ap, ap₂, _∙_, subst}
 use mathlib.Core.List.{List, [], _∷_}
-use Prim.Native.Nat.{ℕ, zero, suc, _+_, _*_, _<_, _≤_}
+use Prim.Native.Nat.{ℕ, zero, suc, _+_, _*_, _^_, _<_, _≤_}
+use native.Mathlib.Nat.{lt-of-le-of-lt, mul-le-mul, le-refl}
 use native.Mathlib.Omega.{arith}
 use native.Mathlib.Numerals.{add-one}
 use lib.ListN.{length, getD}
@@ -12,7 +13,9 @@ use Rattle.integers.specs.Z.{Within}
 use Rattle.integers.specs.Ring.{ring, quote}
 use Rattle.integers.specs.Lin.{le, lt, eq, lin, lia-eq, lia-le, lia-no}
 use Rattle.integers.specs.Order.{add-le, mul-nonneg, sub-nonneg}
-use Rattle.integers.specs.Size.{within-add, within-mul, within-mono}
+use Rattle.integers.specs.Size.{within-add, within-mul, within-mono, within-fits, fits-within}
+use mir.Syntax.{Width}
+use mir.Val.{SFits, hbits}
 
 unfoldable pub sumTo : ℕ → (ℕ → ℤ) → ℤ
 sumTo zero f = pos 0
@@ -90,6 +93,81 @@ pub record AllWithin (n : ℕ) (xs : List ℤ) : Type 0 where
 
 pub dot-within : {A X : ℕ} {a x : List ℤ} → AllWithin A a → AllWithin X x → (n : ℕ) → Within (n * (A * X)) (dotTo n a x)
 dot-within {A} {X} h k n = sum-within (A * X) n _ (λ i l. within-mul (h .each i) (k .each i))
+
+-- ---- the dot product of two lists
+-- a₁·x₁ + a₂·x₂ + .., as far as both lists go
+abbrev pub dot : List ℤ → List ℤ → ℤ
+dot [] xs = pos 0
+dot (a ∷ us) [] = pos 0
+dot (a ∷ us) (x ∷ xs) = a *ℤ x +ℤ dot us xs
+
+-- by the places of the second
+dot-front : (n : ℕ) (a x : ℤ) (us xs : List ℤ) → dotTo (suc n) (a ∷ us) (x ∷ xs) ≡ a *ℤ x +ℤ dotTo n us xs
+unfolding sumTo
+dot-front zero a x us xs = ring (a ∷ x ∷ []) (search quote depth 30) tt
+dot-front (suc n) a x us xs =
+    let s = dotTo n us xs in let u = at us n in let v = at xs n in
+    ap (λ (z : ℤ). z +ℤ u *ℤ v) (dot-front n a x us xs) ∙ ring (a ∷ x ∷ s ∷ u ∷ v ∷ []) (search quote depth 30) tt
+
+pub dot-is : (a x : List ℤ) → length x ≤ length a → dotTo (length x) a x ≡ dot a x
+dot-is [] [] h = sum-zero _
+dot-is [] (x ∷ xs) h = absurd (omega arith)
+dot-is (a ∷ us) [] h = sum-zero _
+dot-is (a ∷ us) (x ∷ xs) h = dot-front (length xs) a x us xs ∙ ap (λ (z : ℤ). a *ℤ x +ℤ z) (dot-is us xs (omega arith))
+
+-- what the sum asks at width w, with coefficients of width v: a coefficient for each coordinate, and coordinates so small that it fits
+pub record DotFits (v w : Width) (a x : List ℤ) : Type 0 where
+  pub bound : ℕ
+  pub places : length x ≤ length a
+  pub coordinates : AllWithin bound x
+  pub room : length x * (2 ^ hbits v * bound) < 2 ^ hbits w
+
+-- the sum, and its range for coordinates of any bound
+pub record Dotted (v : Width) (a x : List ℤ) (r : ℤ) : Type 0 where
+  pub is : r ≡ dot a x
+  pub size : (B : ℕ) → AllWithin B x → Within (length x * (2 ^ hbits v * B)) r
+
+-- the sum as a loop adds it up: after i places it is z
+pub record Summing (v : Width) (a x : List ℤ) (z : ℤ) (i : ℕ) : Type 0 where
+  pub inside : i ≤ length x
+  pub is : z ≡ dotTo i a x
+  pub size : (B : ℕ) → AllWithin B x → Within (i * (2 ^ hbits v * B)) z
+
+module _ (v : Width) (a x : List ℤ) where
+  pub summing-none : Summing v a x (pos 0) 0
+  summing-none = record { inside = omega arith; is = sym (sum-zero _); size = λ B b. record { size = omega arith } }
+
+  module _ {z : ℤ} {i : ℕ} (s : Summing v a x z i) where
+    pub summing-all : length x ≤ i → length x ≤ length a → Dotted v a x z
+    summing-all h l =
+        let e : i ≡ length x = omega (arith, s .inside) in
+        record { is = s .is ∙ ap (λ (n : ℕ). dotTo n a x) e ∙ dot-is a x l; size = λ B b. subst (λ (n : ℕ). Within (n * (2 ^ hbits v * B)) z) e (s .size B b) }
+
+    module _ (h : i < length x) (k : SFits v (at a i)) where
+      pub summing-next : Summing v a x (z +ℤ at a i *ℤ at x i) (i + 1)
+      summing-next =
+          record {
+            inside = omega arith;
+            is = ap (λ (y : ℤ). y +ℤ at a i *ℤ at x i) (s .is) ∙ sym (sum-more i _);
+            size = λ B b. within-mono (more (2 ^ hbits v * B)) (within-add (s .size B b) (within-mul (fits-within k) (b .each i)));
+          }
+        where
+          more : (P : ℕ) → i * P + P ≤ (i + 1) * P
+          more P = omega arith
+
+      module _ {w : Width} (r : DotFits v w a x) where
+        abbrev P : ℕ
+        P = 2 ^ hbits v * r .bound
+
+        -- so many products lie within the room
+        few : (n : ℕ) → n ≤ length x → n * P < 2 ^ hbits w
+        few n l = lt-of-le-of-lt (mul-le-mul l (le-refl P)) (r .room)
+
+        pub product-fits : SFits w (at a i *ℤ at x i)
+        product-fits = let l = few 1 (omega arith) in within-fits (omega arith) (within-mul (fits-within k) (r .coordinates .each i))
+
+        pub sum-fits : SFits w (z +ℤ at a i *ℤ at x i)
+        sum-fits = within-fits (few (i + 1) (omega arith)) (summing-next .size (r .bound) (r .coordinates))
 
 -- ---- Farkas: multipliers y ≥ 0 of m rows that add up to nothing, and of the bounds to less than 0, refute the rows
 pub farkas : (m n : ℕ) (a : ℕ → List ℤ) (b y : ℕ → ℤ) (x : List ℤ)

@@ -128,7 +128,7 @@ or-right : (a b : Bool) → T b → T (a || b)
 or-right true b t = tt
 or-right false b t = t
 
-can-pass : (zs : List ℤ) (ss : List Interval) (s : Set) → T (all wellFormed s) → In zs ss → T (inSet zs s) → T (any (canHold ss) s)
+pub can-pass : (zs : List ℤ) (ss : List Interval) (s : Set) → T (all wellFormed s) → In zs ss → T (inSet zs s) → T (any (canHold ss) s)
 can-pass zs ss [] ok h t = t
 can-pass zs ss (b ∷ s) ok h t = by (inBasic zs b) refl t (can-pass zs ss s (and-right (wellFormed b) (all wellFormed s) ok) h)
   where
@@ -136,7 +136,7 @@ can-pass zs ss (b ∷ s) ok h t = by (inBasic zs b) refl t (can-pass zs ss s (an
     by true e t ih = or-left (canHold ss b) (any (canHold ss) s) (can-hold zs ss b (and-left (wellFormed b) (all wellFormed s) ok) h (to-T (inBasic zs b) e))
     by false e t ih = or-right (canHold ss b) (any (canHold ss) s) (ih t)
 
-in-prefix : (p zs : List ℤ) (ss : List Interval) → In zs ss → In (p ++ zs) (map only p ++ ss)
+pub in-prefix : (p zs : List ℤ) (ss : List Interval) → In zs ss → In (p ++ zs) (map only p ++ ss)
 in-prefix [] zs ss h = h
 in-prefix (y ∷ p) zs ss h = (self y, in-prefix p zs ss h)
 
@@ -427,6 +427,3 @@ search-right s ok b bs limit = by (leb (walk s [] (b ∷ bs) .tested) limit) ref
         × ((cond {A = Tallied} c (record { found = foundOf (walk s [] (b ∷ bs) .found); tested = walk s [] (b ∷ bs) .tested }) (record { found = spent; tested = limit })) .tested ≤ limit)
     by true e = (says s (b ∷ bs) (walk s [] (b ∷ bs) .found) (walk-right s ok (b ∷ bs) [] tt), leb→le (walk s [] (b ∷ bs) .tested) limit (to-T (leb (walk s [] (b ∷ bs) .tested) limit) e))
     by false e = (tt, le-refl limit)
-
-pub search-none : (s : Set) → T (all wellFormed s) → (b : Interval) (bs : List Interval) (limit : ℕ) → firstPoint s (b ∷ bs) limit .found ≡ nothing → (zs : List ℤ) → In zs (b ∷ bs) → ¬ T (inSet zs s)
-search-none s ok b bs limit e = subst (Says s (b ∷ bs)) e (search-right s ok b bs limit .0)

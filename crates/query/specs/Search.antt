@@ -11,12 +11,12 @@ use Rattle.model.specs.Lists.{all, any}
 use Rattle.model.specs.Sets.{Division, Kind, equality, inequality, Constraint, BasicSet, Set, absent, floorDiv, inSet}
 use Rattle.codec.specs.Bytes.{Answer, refused, gives, decode, within}
 
--- from low to high
+-- a side of a box: from low to high
 pub record Interval : Type 0 where
   pub low : ℤ
   pub high : ℤ
 
--- ---- the least and the greatest value over sides
+-- ---- the least and the greatest value of an expression over intervals, each axis and division by itself
 
 abbrev pub only : ℤ → Interval
 only z = record { low = z; high = z }
@@ -32,6 +32,7 @@ dotSides [] ss = only (pos 0)
 dotSides (a ∷ us) [] = only (pos 0)
 dotSides (a ∷ us) (s ∷ ss) = plus (times a s) (dotSides us ss)
 
+-- "each division the floors of its numerator's least and greatest value"
 abbrev pub quotientSide : List Interval → Division → Interval
 quotientSide ss e =
     let n : Interval = plus (only (e .constant)) (dotSides (e .axes) ss) in
@@ -40,18 +41,21 @@ quotientSide ss e =
 abbrev pub valueSide : List Interval → List Interval → Constraint → Interval
 valueSide xs qs r = plus (only (r .constant)) (plus (dotSides (r .axes) xs) (dotSides (r .divisions) qs))
 
+-- a value between the two can be = 0, or ≥ 0
 abbrev pub canMeet : Kind → Interval → Bool
 canMeet equality s = leZ (s .low) (pos 0) && nonNeg (s .high)
 canMeet inequality s = nonNeg (s .high)
 
+-- every constraint (rule) of a basic set can still hold, each judged by itself
 abbrev pub canHold : List Interval → BasicSet → Bool
 canHold xs b = all (λ (r : Constraint). canMeet (r .kind) (valueSide xs (map (quotientSide xs) (b .divisions)) r)) (b .constraints)
 
--- in some basic set every rule can still hold, with the prefix p fixed and the sides ss open
+-- "A prefix passes if in some basic set every rule can still hold": the prefix p is fixed, the sides ss are open
 abbrev pub passes : Set → List ℤ → List Interval → Bool
 passes s p ss = any (canHold (map only p ++ ss)) s
 
--- ---- the walk with no limit: the first passing prefix of full length, and how many prefixes were tested
+-- ---- the walk with no limit, "in dictionary order, each axis upward", below passing prefixes only: the first passing prefix of
+-- length n, and how many prefixes were tested. The empty prefix is not tested
 
 pub record Walk : Type 0 where
   pub found : Option (List ℤ)
@@ -77,11 +81,12 @@ upward ok inside (suc k) x =
 abbrev pub width : Interval → ℕ
 width s = cond (leZ (s .low) (s .high)) (suc (natAbs (s .high -ℤ s .low))) 0
 
+-- below the prefix p, with the sides that are open
 unfoldable pub walk : Set → List ℤ → List Interval → Walk
 walk s p [] = record { found = some p; tested = 0 }
 walk s p (b ∷ bs) = upward (λ (x : ℤ). passes s (p ++ (x ∷ [])) bs) (λ (x : ℤ). walk s (p ++ (x ∷ [])) bs) (width b) (b .low)
 
--- ---- with the limit: spent if the walk is not known after as many
+-- ---- with the limit: "spent comes when the limit has been tested and neither is yet known"; `nothing` is document 01's none
 
 pub data Found : Type 0 where
   at : List ℤ → Found
@@ -100,11 +105,13 @@ firstPoint s box limit =
     let w : Walk = walk s [] box in
     cond (leb (w .tested) limit) (record { found = foundOf (w .found); tested = w .tested }) (record { found = spent; tested = limit })
 
--- ---- on bytes, with the refusals 12 and 13
+-- ---- on bytes: 1 to 9 of the set, then 12, then 13
 
+-- "coordinates from −1,048,576 to 1,048,576"
 abbrev pub coordinate : ℤ → Bool
 coordinate z = within (negsuc 1048575) (pos 1048576) z
 
+-- 12: "coordinate out of range .. absent axis not 0", of a point of 8 places
 abbrev pub pointFits : ℕ → List ℤ → Bool
 pointFits n x = all coordinate x && absent n x
 
@@ -120,6 +127,7 @@ boxOf [] hs = []
 boxOf (l ∷ ls) [] = []
 boxOf (l ∷ ls) (h ∷ hs) = record { low = l; high = h } ∷ boxOf ls hs
 
+-- 12 of a box: the lows, the highs, "low over high"
 abbrev pub boxFits : ℕ → List ℤ → List ℤ → Bool
 boxFits n ls hs = pointFits n ls && (pointFits n hs && all (λ (s : Interval). leZ (s .low) (s .high)) (boxOf ls hs))
 

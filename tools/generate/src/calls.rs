@@ -3,7 +3,7 @@
 use crate::damage::damaged;
 use crate::hard;
 use crate::model::{encode, Set};
-use crate::queries::{any_box, any_limit, any_point};
+use crate::queries::{any_box, any_limit, any_point, widest_box};
 use crate::rng::Rng;
 use crate::sets::World;
 use hexscript::tokens::hex;
@@ -59,9 +59,13 @@ fn holder(rng: &mut Rng, world: &World) -> String {
 /// Half of the limits lie at the tally itself, one before or one behind.
 fn search(rng: &mut Rng, world: &World) -> String {
     let set = world.any(rng);
-    let (low, high) = any_box(rng, world.n);
+    let widest = rng.chance(5);
+    let (low, high) = if widest { widest_box(world.n) } else { any_box(rng, world.n) };
     let (n, set) = (axes(rng, world.n), bytes(rng, &set, 5));
     let line = |limit: u32| format!("search {n} {set} {limit} {} {}", point_words(&low), point_words(&high));
+    if widest {
+        return line(rng.range(1, 100) as u32);
+    }
     if rng.chance(50) {
         return line(any_limit(rng));
     }
@@ -77,7 +81,10 @@ fn test(rng: &mut Rng, world: &World) -> String {
             (n, vec![basic])
         }
         1 => (world.n, world.near_limit(rng, false)),
-        2..=6 => (world.n, vec![world.dense(rng)]),
+        2..=6 => {
+            let n = 2 + rng.below(5); // more axes, more pivots
+            (n, vec![World::with_axes(rng, n).dense(rng)])
+        }
         7..=10 => (world.n, vec![world.wide(rng)]),
         11 => (world.n, world.any(rng)),
         _ => (world.n, vec![world.small(rng), vec![world.boxed(rng)]].concat()),

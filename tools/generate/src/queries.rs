@@ -41,11 +41,23 @@ pub fn any_box(rng: &mut Rng, n: usize) -> ([i32; 8], [i32; 8]) {
         high[axis] = low[axis] + width as i32;
     }
     match rng.below(40) {
+        3 | 4 => {
+            let shift = rng.pick(&[-1_048_500, 1_048_500]);
+            low[..n].iter_mut().chain(&mut high[..n]).for_each(|x| *x += shift);
+        }
         0 => spoil(rng, n, &mut low),
         1 => spoil(rng, n, &mut high),
         2 => std::mem::swap(&mut low, &mut high),
         _ => {}
     }
+    (low, high)
+}
+
+/// The widest box there is: numbers grow large in it. Only for small limits.
+pub fn widest_box(n: usize) -> ([i32; 8], [i32; 8]) {
+    let (mut low, mut high) = ([0; 8], [0; 8]);
+    low[..n].fill(-1_048_576);
+    high[..n].fill(1_048_576);
     (low, high)
 }
 

@@ -3,7 +3,7 @@
 use crate::damage::{blind, damaged};
 use crate::hard;
 use crate::model::{encode, Basic, Set};
-use crate::queries::{any_box, any_limit, any_point};
+use crate::queries::{any_box, any_limit, any_point, widest_box};
 use crate::rng::Rng;
 use crate::sets::World;
 
@@ -51,9 +51,11 @@ impl Script {
     }
 
     fn search(&mut self, set: usize, rng: &mut Rng) {
-        let (low, high) = any_box(rng, self.n);
+        let widest = rng.chance(5);
+        let (low, high) = if widest { widest_box(self.n) } else { any_box(rng, self.n) };
+        let limit = if widest { rng.range(1, 100) as u32 } else { any_limit(rng) };
         self.bytes.extend([0x47, set as u8]);
-        self.bytes.extend(any_limit(rng).to_le_bytes());
+        self.bytes.extend(limit.to_le_bytes());
         self.numbers(&low);
         self.numbers(&high);
     }

@@ -244,8 +244,9 @@ fn candidate(rng: &mut Rng, first: &model::Basic, cutter: &model::Basic) -> mode
     out
 }
 
-/// A test's answer against elimination. No number of such a tableau passes a determinant of at most 8 rows
-/// with numbers of at most 9 and 3, so by Hadamard's inequality none is over 12^8: wide is wrong here.
+/// A test's answer against elimination. Every number of such a tableau is at most a determinant of 7 rows,
+/// each no longer than 13 (coefficients up to 6 and 3, constants up to 10), so by Hadamard's inequality
+/// at most 13^7, far inside the bound: wide is wrong here.
 fn test(n: usize, basic: model::Basic) -> Check {
     let call = format!("test {n} {} 1", hex(&encode(std::slice::from_ref(&basic))));
     let judge = move |answer: &str| {

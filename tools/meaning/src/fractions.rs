@@ -8,7 +8,7 @@ use std::collections::BTreeSet;
 type Row = Vec<i128>;
 
 /// Above this many rows the elimination is given up.
-const MOST_ROWS: usize = 4_000;
+const MOST_ROWS: usize = 1_000;
 
 /// The rows of a basic set: bounds of divisions and inequalities, and the equalities.
 fn rows(n: usize, basic: &Basic) -> (Vec<Row>, Vec<Row>) {
@@ -97,4 +97,41 @@ pub fn has_point(n: usize, basic: &Basic) -> Option<bool> {
         rows = eliminate(rows, variable)?;
     }
     Some(rows.iter().all(|row| row[0] >= 0))
+}
+
+#[cfg(test)]
+mod tests {
+    use super::has_point;
+    use crate::sets::read;
+    use hexscript::tokens::{bytes, Names};
+
+    fn told(n: usize, text: &str) -> Option<bool> {
+        let set = read(&bytes(text, &Names::new()).expect("good tokens")).expect("a set");
+        has_point(n, &set[0])
+    }
+
+    #[test]
+    fn rules_of_one_axis() {
+        assert_eq!(told(1, "11"), Some(true));
+        assert_eq!(told(1, "11 13 i32:-1 i16:2 zeros:30"), Some(true));
+        assert_eq!(told(1, "11 14 i32:-1 zeros:32"), Some(false));
+        assert_eq!(told(1, "11 14 i32:-5 i16:1 zeros:30 14 i32:4 i16:-1 zeros:30"), Some(false));
+        assert_eq!(told(1, "11 14 i32:-5 i16:1 zeros:30 14 i32:5 i16:-1 zeros:30"), Some(true));
+    }
+
+    #[test]
+    fn bounds_of_divisions_count() {
+        let three = "11 12 u16:2 i32:0 i16:1 zeros:14 13 i32:-3 zeros:16 i16:1 zeros:14";
+        assert_eq!(told(1, &format!("{three} 14 i32:5 i16:-1 zeros:30")), Some(false));
+        assert_eq!(told(1, &format!("{three} 14 i32:6 i16:-1 zeros:30")), Some(true));
+        assert_eq!(told(1, &format!("{three} 14 i32:-8 i16:1 zeros:30")), Some(false));
+    }
+
+    #[test]
+    fn equalities_are_put_in() {
+        let two = "11 13 i32:0 i16:1,0 zeros:28 13 i32:-1 i16:1,1 zeros:28";
+        assert_eq!(told(2, &format!("{two} 14 i32:0 i16:0,-1 zeros:28")), Some(false));
+        assert_eq!(told(2, &format!("{two} 14 i32:-1 i16:0,1 zeros:28")), Some(true));
+        assert_eq!(told(2, &format!("{two} 13 i32:-2 i16:0,2 zeros:28 13 i32:-3 i16:0,2 zeros:28")), Some(false));
+    }
 }

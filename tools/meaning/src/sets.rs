@@ -85,3 +85,26 @@ impl Basic {
 pub fn holds(set: &[Basic], point: &[i32; 8]) -> bool {
     set.iter().any(|basic| basic.holds(point))
 }
+
+#[cfg(test)]
+mod tests {
+    use super::{holds, read};
+    use hexscript::tokens::{bytes, Names};
+
+    /// Document 01: floor(-1/10) is -1, floor(-2186/10) is -219; y is shown as floor(x/10).
+    #[test]
+    fn divisions_round_towards_minus_infinity() {
+        let text = "11 12 u16:10 i32:0 i16:1 zeros:14 13 i32:0 i16:0,1 zeros:12 i16:-1 zeros:14";
+        let set = read(&bytes(text, &Names::new()).expect("good tokens")).expect("a set");
+        let at = |x, y| holds(&set, &[x, y, 0, 0, 0, 0, 0, 0]);
+        assert!(at(-1, -1) && at(-2186, -219) && at(2186, 218));
+        assert!(!at(-1, 0) && !at(-2186, -218));
+    }
+
+    #[test]
+    fn bytes_that_are_no_set_are_told() {
+        for bad in [&[0x99][..], &[0x12; 23], &[0x11, 0x14]] {
+            assert!(read(bad).is_none());
+        }
+    }
+}

@@ -71,3 +71,20 @@ impl Walk<'_> {
         format!("{words} {}", self.tally)
     }
 }
+
+#[cfg(test)]
+mod tests {
+    use super::Walk;
+    use crate::sets::read;
+    use hexscript::tokens::{bytes, Names};
+
+    /// Document 01: {2x - 1 = 0} over 0 to 1: none, 2 tested; with limit 1: spent, 1.
+    #[test]
+    fn the_worked_search() {
+        let set = read(&bytes("11 13 i32:-1 i16:2 zeros:30", &Names::new()).expect("good tokens")).expect("a set");
+        let mut high = [0; 8];
+        high[0] = 1;
+        let walk = |limit| Walk { set: &set, n: 1, low: [0; 8], high, limit, tally: 0 }.answer();
+        assert_eq!([walk(1), walk(2), walk(9)], ["spent 1", "none 2", "none 2"]);
+    }
+}

@@ -1,0 +1,92 @@
+-- Depth first and level by level give the same difference and the same refusal; and the pieces of one basic set after the same cutter,
+-- the first or a later one, share no point.
+use mathlib.Core.Path.{_≡_, refl, sym, ap, ap₂, _∙_, subst}
+use mathlib.Core.Bool.{Bool, true, false, _&&_}
+use mathlib.Core.List.{List, [], _∷_, _++_, append-assoc}
+use Prim.Native.Nat.{ℕ, zero, suc, _≤_, _<_}
+use lib.Dec.{T}
+use lib.IntN.{ℤ}
+use lib.ListN.{length, getD, take}
+use Rattle.model.specs.Lists.{all, concatMap}
+use Rattle.model.specs.Sets.{BasicSet, Set, inBasic, wellFormed}
+use Rattle.algebra.specs.Cut.{keeps, cut, cutAll, cutFits, cutAllFits, sizeFits, difference, differenceFits}
+use Rattle.algebra.specs.Levels.{cutEach, cutLevels, cutLevelsFit, differenceByLevels, differenceByLevelsFits}
+use Rattle.model.proofs.Count.{and-left, and-right, and-make, and-assoc, all-append}
+use Rattle.algebra.proofs.Kept.{pieces-disjoint}
+
+module _ {A B : Type 0} where
+  concat-append : (f : A → List B) (l m : List A) → concatMap f (l ++ m) ≡ concatMap f l ++ concatMap f m
+  concat-append f [] m = refl
+  concat-append f (a ∷ l) m = ap (λ (k : List B). f a ++ k) (concat-append f l m) ∙ sym (append-assoc (f a) (concatMap f l) (concatMap f m))
+
+  all-concat-is : (f : B → Bool) (g : A → List B) (l : List A) → all f (concatMap g l) ≡ all (λ (a : A). all f (g a)) l
+  all-concat-is f g [] = refl
+  all-concat-is f g (a ∷ l) = all-append f (g a) (concatMap g l) ∙ ap (λ (b : Bool). all f (g a) && b) (all-concat-is f g l)
+
+all-both : {A : Type 0} (f g : A → Bool) (l : List A) → all (λ (a : A). f a && g a) l ≡ (all f l && all g l)
+all-both f g [] = refl
+all-both f g (a ∷ l) = ap (λ (b : Bool). f a && g a && b) (all-both f g l) ∙ swap (f a) (g a) (all f l) (all g l)
+  where
+    swap : (p q r s : Bool) → (p && q && (r && s)) ≡ (p && r && (q && s))
+    swap true true r s = refl
+    swap true false true s = refl
+    swap true false false s = refl
+    swap false q r s = refl
+
+concat-concat : {A B C : Type 0} (f : B → List C) (g : A → List B) (l : List A) → concatMap f (concatMap g l) ≡ concatMap (λ (a : A). concatMap f (g a)) l
+concat-concat f g [] = refl
+concat-concat f g (a ∷ l) = concat-append f (g a) (concatMap g l) ∙ ap (λ k. concatMap f (g a) ++ k) (concat-concat f g l)
+
+concat-single : {A : Type 0} (l : List A) → concatMap (λ (a : A). a ∷ []) l ≡ l
+concat-single [] = refl
+concat-single (a ∷ l) = ap (λ k. a ∷ k) (concat-single l)
+
+module _ (keep : BasicSet → Bool) where
+  pub levels-pieces : (cs ps : List BasicSet) → cutLevels keep cs ps ≡ concatMap (cutAll keep cs) ps
+  unfolding cutLevels cutAll
+  levels-pieces [] ps = sym (concat-single ps)
+  levels-pieces (c ∷ cs) ps = levels-pieces cs (cutEach keep c ps) ∙ concat-concat (cutAll keep cs) (λ (p : BasicSet). cut keep p c) ps
+
+  levels-fit : (cs ps : List BasicSet) → cutLevelsFit keep cs ps ≡ all (cutAllFits keep cs) ps
+  unfolding cutLevelsFit
+  levels-fit [] ps = sym (trivial ps)
+    where
+      trivial : (l : List BasicSet) → all (λ (a : BasicSet). true) l ≡ true
+      trivial [] = refl
+      trivial (a ∷ l) = trivial l
+  levels-fit (c ∷ cs) ps =
+      ap (λ (b : Bool). all (λ (p : BasicSet). cutFits keep p c) ps && b) (levels-fit cs (cutEach keep c ps) ∙ all-concat-is (cutAllFits keep cs) (λ (p : BasicSet). cut keep p c) ps)
+      ∙ sym (all-both (λ (p : BasicSet). cutFits keep p c) (λ (p : BasicSet). all (cutAllFits keep cs) (cut keep p c)) ps)
+
+  pub difference-levels : (s t : Set) → differenceByLevels keep s t ≡ difference keep s t
+  unfolding differenceByLevels difference
+  difference-levels s t = levels-pieces t s
+
+  -- the same refusal 10
+  pub difference-levels-fit : (s t : Set) → differenceByLevelsFits keep s t ≡ differenceFits keep s t
+  unfolding differenceByLevelsFits
+  difference-levels-fit s t = ap₂ (λ (a : Bool) (l : Set). a && sizeFits keep l) (levels-fit t s) (difference-levels s t)
+
+  -- after one cutter more, each piece is cut by it
+  pub one-cutter-more : (cs : List BasicSet) (c : BasicSet) (ps : List BasicSet) → cutLevels keep (cs ++ (c ∷ [])) ps ≡ cutEach keep c (cutLevels keep cs ps)
+  unfolding cutLevels
+  one-cutter-more [] c ps = refl
+  one-cutter-more (d ∷ cs) c ps = one-cutter-more cs c (cutEach keep d ps)
+
+all-take : {A : Type 0} (f : A → Bool) (k : ℕ) (l : List A) → T (all f l) → T (all f (take k l))
+all-take f zero l t = tt
+all-take f (suc k) [] t = tt
+all-take f (suc k) (a ∷ l) t = and-make (f a) (all f (take k l)) (and-left (f a) (all f l) t) (all-take f k l (and-right (f a) (all f l) t))
+
+concat-one : (f : BasicSet → List BasicSet) (a : BasicSet) → concatMap f (a ∷ []) ≡ f a
+concat-one f a = mathlib.Core.List.append-nil (f a)
+
+-- "Pieces cut from one basic set are those left of it after the same cutter, the first or a later one": the k-th cutter of t. No point,
+-- however large, is in two of them
+pub pieces-after : (x : List ℤ) → length x ≤ 8 → (k : ℕ) (t : Set) → T (all wellFormed t) → (a : BasicSet) → T (wellFormed a) → (d : BasicSet) (i j : ℕ)
+    → i < length (cutLevels keeps (take k t) (a ∷ [])) → j < length (cutLevels keeps (take k t) (a ∷ []))
+    → T (inBasic x (getD (cutLevels keeps (take k t) (a ∷ [])) i d)) → T (inBasic x (getD (cutLevels keeps (take k t) (a ∷ [])) j d)) → i ≡ j
+pieces-after x h k t formed a ok d i j =
+    subst (λ (ps : List BasicSet). i < length ps → j < length ps → T (inBasic x (getD ps i d)) → T (inBasic x (getD ps j d)) → i ≡ j)
+    (sym (levels-pieces keeps (take k t) (a ∷ []) ∙ concat-one (cutAll keeps (take k t)) a))
+    (pieces-disjoint x h (take k t) (all-take wellFormed k t formed) a ok d i j)

@@ -1,0 +1,87 @@
+use native.Mathlib.Omega.{arith}
+use mathlib.Core.Path.{_≡_, refl, sym, ap, ap₂, _∙_, subst}
+use mathlib.Core.Bool.{Bool, true, false, _&&_, _||_}
+use mathlib.Core.List.{List, [], _∷_, map}
+use Prim.Native.Nat.{ℕ, _+_, _-_, _*_, _≤_, _<_}
+use lib.ListN.{length, take, drop, getD, set, length-set, length-take, List·getD-eq-default}
+use lib.Dec.{eqb}
+use lib.IntN.{ℤ, pos}
+use mir.Syntax.{w64, w32, w16}
+use borrow.Author.Tests.{ne-eqb}
+use Rattle.integers.specs.Mach.{result-is}
+use Rattle.codec.specs.Bytes.{valueOf, signed, signedList, readDivision, readConstraint, kindOf}
+use Rattle.codec.specs.Places.{Opened, Decoded}
+use Rattle.model.specs.Values.{divisionOf, constraintOf}
+use Rattle.codec.proofs.Parsing.{eight}
+use borrow.Author.Needs.{needs}
+use Rattle.codec.proofs.decoding.coefficients.Statement.{statement}
+use Rattle.codec.proofs.decoding.coefficients.Tie as tie
+
+short-at-requires : tie.Need-short-at-requires
+short-at-requires c κs = search needs
+
+add-short-at : tie.Need-add-short-at
+add-short-at c = search needs
+
+short-at-requires-2 : tie.Need-short-at-requires-2
+short-at-requires-2 c κs = search needs
+
+add-short-at-2 : tie.Need-add-short-at-2
+add-short-at-2 c = search needs
+
+short-at-requires-3 : tie.Need-short-at-requires-3
+short-at-requires-3 c κs = search needs
+
+add-short-at-3 : tie.Need-add-short-at-3
+add-short-at-3 c = search needs
+
+short-at-requires-4 : tie.Need-short-at-requires-4
+short-at-requires-4 c κs = search needs
+
+add-short-at-4 : tie.Need-add-short-at-4
+add-short-at-4 c = search needs
+
+short-at-requires-5 : tie.Need-short-at-requires-5
+short-at-requires-5 c κs = search needs
+
+add-short-at-5 : tie.Need-add-short-at-5
+add-short-at-5 c = search needs
+
+short-at-requires-6 : tie.Need-short-at-requires-6
+short-at-requires-6 c κs = search needs
+
+add-short-at-6 : tie.Need-add-short-at-6
+add-short-at-6 c = search needs
+
+short-at-requires-7 : tie.Need-short-at-requires-7
+short-at-requires-7 c κs = search needs
+
+add-short-at-7 : tie.Need-add-short-at-7
+add-short-at-7 c = search needs
+
+short-at-requires-8 : tie.Need-short-at-requires-8
+short-at-requires-8 c κs = search needs
+
+returns : tie.Need-returns
+returns c = let e0 = result-is w16 ((c .before .before .before .before .before .before .before) .short-at .result) ((c .before .before .before .before .before .before .before) .short-at .ok) ∙ c .before .before .before .before .before .before .before .short-at .ensures in let e1 = result-is w16 ((c .before .before .before .before .before .before) .short-at2 .result) ((c .before .before .before .before .before .before) .short-at2 .ok) ∙ c .before .before .before .before .before .before .short-at2 .ensures in let e2 = result-is w16 ((c .before .before .before .before .before) .short-at3 .result) ((c .before .before .before .before .before) .short-at3 .ok) ∙ c .before .before .before .before .before .short-at3 .ensures in let e3 = result-is w16 ((c .before .before .before .before) .short-at4 .result) ((c .before .before .before .before) .short-at4 .ok) ∙ c .before .before .before .before .short-at4 .ensures in let e4 = result-is w16 ((c .before .before .before) .short-at5 .result) ((c .before .before .before) .short-at5 .ok) ∙ c .before .before .before .short-at5 .ensures in let e5 = result-is w16 ((c .before .before) .short-at6 .result) ((c .before .before) .short-at6 .ok) ∙ c .before .before .short-at6 .ensures in let e6 = result-is w16 ((c .before) .short-at7 .result) ((c .before) .short-at7 .ok) ∙ c .before .short-at7 .ensures in let e7 = result-is w16 (c .short-at8 .result) (c .short-at8 .ok) ∙ c .short-at8 .ensures in let st = c .before .before .before .before .before .before .before .before .before in (λ i. e0 i ∷ e1 i ∷ e2 i ∷ e3 i ∷ e4 i ∷ e5 i ∷ e6 i ∷ e7 i ∷ []) ∙ eight (st .args .t .now) (st .args .p) (λ q. signed 2 (valueOf (take 2 (drop q (st .args .t .now))))) (λ q. refl)
+
+pub coefficients-spec : {M : Type 1} → statement M
+coefficients-spec =
+    tie.close
+    (tie.spec
+    short-at-requires
+    add-short-at
+    short-at-requires-2
+    add-short-at-2
+    short-at-requires-3
+    add-short-at-3
+    short-at-requires-4
+    add-short-at-4
+    short-at-requires-5
+    add-short-at-5
+    short-at-requires-6
+    add-short-at-6
+    short-at-requires-7
+    add-short-at-7
+    short-at-requires-8
+    returns)

@@ -1,0 +1,41 @@
+use native.Mathlib.Omega.{arith}
+use mathlib.Core.Path.{_≡_, refl, sym, ap, ap₂, _∙_, subst}
+use mathlib.Core.Bool.{Bool, true, false, cond}
+use mathlib.Core.List.{List, [], _∷_, map}
+use Prim.Native.Nat.{ℕ, _+_, _-_, _*_, _≤_, _<_}
+use lib.ListN.{length, take, drop, getD, set, length-set, length-take, List·getD-eq-default}
+use lib.Dec.{eqb}
+use lib.IntN.{ℤ, pos}
+use mir.Syntax.{w64, w32, w16}
+use borrow.Author.Tests.{ne-eqb}
+use Rattle.integers.specs.Mach.{result-is}
+use Rattle.codec.specs.Bytes.{valueOf, signed, signedList, readDivision, readConstraint, kindOf}
+use Rattle.codec.specs.Places.{Opened, Decoded}
+use Rattle.model.specs.Sets.{equality, inequality}
+use Rattle.model.specs.Values.{kindIs}
+use borrow.Author.Needs.{needs}
+use Rattle.codec.proofs.decoding.read_constraint.Statement.{statement}
+use Rattle.codec.proofs.decoding.read_constraint.Tie as tie
+
+kind-is : (b : ℕ) → kindIs (eqb b 19) ≡ kindOf b
+kind-is b = by (eqb b 19)
+  where
+    by : (x : Bool) → kindIs x ≡ cond x equality inequality
+    by true = refl
+    by false = refl
+
+word-at-requires : tie.Need-word-at-requires
+word-at-requires c κs = search needs
+
+coefficients-requires : tie.Need-coefficients-requires
+coefficients-requires c κs = search needs
+
+coefficients-requires-2 : tie.Need-coefficients-requires-2
+coefficients-requires-2 c κs = search needs
+
+returns : tie.Need-returns
+returns c = let a = c .before in let s = a .before in let e = result-is w32 (s .word-at .result) (s .word-at .ok) ∙ s .word-at .ensures in λ i. record { kind = kind-is (s .before .before .args .b) i; constant = e i; axes = (a .coefficients .ensures) i; divisions = (c .coefficients2 .ensures) i }
+
+pub read-constraint-spec : {M : Type 1} → statement M
+read-constraint-spec =
+    tie.close (tie.spec word-at-requires coefficients-requires coefficients-requires-2 returns)

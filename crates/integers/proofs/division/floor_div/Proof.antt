@@ -1,0 +1,38 @@
+-- `integers::division::floor_div` meets its contract: the remainder's sign tells whether the quotient toward zero is one too large. Assumes nothing.
+use mathlib.Core.Bool.{Bool}
+use mathlib.Core.Path.{_≡_}
+use lib.IntN.{pos}
+use lib.Signed.{ltZ, remZ}
+use mir.Syntax.{w64}
+use mir.Val.{toZ, ofZ}
+use Rattle.integers.specs.Mach.{toZ-ofZ, divisor-pos, ltZ-true, ltZ-false}
+use Rattle.integers.specs.Div.{quot-fits, rem-fits, floor-fits, quot-is-floor, quot-less-is-floor}
+use Rattle.integers.proofs.division.floor_div.Statement.{statement}
+use Rattle.integers.proofs.division.floor_div.Tie as tie
+
+div-q : tie.Need-div-q
+div-q c = (divisor-pos w64 (c .pre), rw (toZ-ofZ (c .fits .n), toZ-ofZ (c .fits .d)) (quot-fits (c .fits .n) (c .pre)))
+
+rem-r : tie.Need-rem-r
+rem-r c = div-q c
+
+sub-result : tie.Need-sub-result
+sub-result c =
+    let s = c .before in
+    let t = rw (toZ-ofZ (s .fits .n), toZ-ofZ (s .fits .d), toZ-ofZ (rem-fits (s .args .d) (s .fits .n))) at (c .if1 .taken) in
+    rw (toZ-ofZ (div-q s .1), toZ-ofZ (s .fits .n), toZ-ofZ (s .fits .d), quot-less-is-floor (s .args .n) (s .args .d) (s .pre) (ltZ-true _ (pos 0) t)) (floor-fits (s .args .d) (s .fits .n))
+
+returns : tie.Need-returns
+returns c =
+    let s = c .before in
+    let t = rw (toZ-ofZ (s .fits .n), toZ-ofZ (s .fits .d), toZ-ofZ (rem-fits (s .args .d) (s .fits .n))) at (c .if1 .taken) in
+    rw (toZ-ofZ (sub-result c), toZ-ofZ (div-q s .1), toZ-ofZ (s .fits .n), toZ-ofZ (s .fits .d)) (quot-less-is-floor (s .args .n) (s .args .d) (s .pre) (ltZ-true _ (pos 0) t))
+
+returns-2 : tie.Need-returns-2
+returns-2 c =
+    let s = c .before in
+    let t = rw (toZ-ofZ (s .fits .n), toZ-ofZ (s .fits .d), toZ-ofZ (rem-fits (s .args .d) (s .fits .n))) at (c .if1 .left) in
+    rw (toZ-ofZ (div-q s .1), toZ-ofZ (s .fits .n), toZ-ofZ (s .fits .d)) (quot-is-floor (s .args .n) (s .args .d) (s .pre) (ltZ-false _ (pos 0) t))
+
+pub floor-div-spec : {M : Type 1} → statement M
+floor-div-spec = tie.close (tie.spec div-q rem-r sub-result returns returns-2)

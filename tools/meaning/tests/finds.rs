@@ -1,0 +1,11 @@
+//! A program that gives wrong answers is found, and the status says so.
+
+use std::process::Command;
+
+#[test]
+fn a_wrong_program_is_found() {
+    let out = Command::new(env!("CARGO_BIN_EXE_meaning")).args(["3", "1", "cat"]).output().expect("meaning runs");
+    let text = String::from_utf8_lossy(&out.stdout).into_owned();
+    assert!(!out.status.success());
+    assert!(text.lines().last().is_some_and(|line| line.starts_with("0 passed, ")), "{text}");
+}

@@ -1,0 +1,3 @@
+# (c) Wide candidates dropped.
+# file src/test.rs
+s/self\.answer != Answer::Dropped$/!matches!(self.answer, Answer::Dropped | Answer::Wide)/
