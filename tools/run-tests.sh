@@ -1,5 +1,5 @@
 #!/usr/bin/env bash
-# All tests of the tools: builds, cargo's tests, stored scripts and calls, histogram, meaning, wrong copies.
+# All tests of the tools: builds, cargo's tests, stored scripts and calls, histogram, meaning, examples, wrong copies.
 # Last line: 'N passed, M failed', the sum over all of them.
 set -u
 cd "$(dirname "$0")"
@@ -55,6 +55,7 @@ step "meaning, library" $bin/meaning 2000 1
 step "meaning, program" $bin/meaning 100 2 $bin/second calls
 step "compare, scripts" $bin/compare $bin/second 100 1
 step "compare, calls" $bin/compare calls "$bin/second calls" 500 1
+step "examples with second" ../examples/run.sh $bin/second
 step "wrong copies" mutants/run.sh
 echo "$passed passed, $failed failed"
 [ "$failed" -eq 0 ]

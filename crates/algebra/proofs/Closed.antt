@@ -18,23 +18,12 @@ use Rattle.codec.specs.Bytes.{gives, Command, opens, division, constraint, comm
 use Rattle.model.proofs.Count.{and-left, and-right, and-make, from-T}
 use Rattle.algebra.proofs.Joined.{Good, joined}
 use Rattle.algebra.proofs.Cutting.{absent-neg, absent-more, absent-move}
-use Rattle.codec.proofs.Encoded.{Fits, DivisionFits, ConstraintFits, Accepted, decode-encode}
+use Rattle.codec.proofs.Encoded.{Fits}
+use Rattle.codec.proofs.Valid.{All, all-app, all-imp, all-mapped, ValidDivision, ValidConstraint, Valid, valid-decodes}
 
 -- ---- every element
 
 module _ {A : Type 0} where
-  abbrev pub All : (A → Type 0) → List A → Type 0
-  All P [] = Unit {0}
-  All P (a ∷ l) = P a × All P l
-
-  pub all-app : (P : A → Type 0) (l m : List A) → All P l → All P m → All P (l ++ m)
-  all-app P [] m p q = q
-  all-app P (a ∷ l) m p q = (p .0, all-app P l m (p .1) q)
-
-  pub all-imp : (P Q : A → Type 0) → ((a : A) → P a → Q a) → (l : List A) → All P l → All Q l
-  all-imp P Q f [] p = tt
-  all-imp P Q f (a ∷ l) p = (f a (p .0), all-imp P Q f l (p .1))
-
   pub all-filtered : (P : A → Type 0) (keep : A → Bool) (l : List A) → All P l → All P (filter keep l)
   all-filtered P keep [] p = tt
   all-filtered P keep (a ∷ l) p = by (keep a) (all-filtered P keep l (p .1))
@@ -42,136 +31,6 @@ module _ {A : Type 0} where
       by : (b : Bool) → All P (filter keep l) → All P (consIf b a (filter keep l))
       by true q = (p .0, q)
       by false q = q
-
-pub all-mapped : {A B : Type 0} (P : B → Type 0) (g : A → B) (Q : A → Type 0) → ((a : A) → Q a → P (g a)) → (l : List A) → All Q l → All P (map g l)
-all-mapped P g Q f [] q = tt
-all-mapped P g Q f (a ∷ l) q = (f a (q .0), all-mapped P g Q f l (q .1))
-
--- ---- valid divisions, rules, basic sets over n axes
-
-pub record ValidDivision (n : ℕ) (e : Division) : Type 0 where
-  pub places : length (e .axes) ≡ 8
-  pub divisor : T (ltb 0 (e .divisor) && leb (e .divisor) 32767)
-  pub constant : T (within (negsuc 999999999) (pos 1000000000) (e .constant))
-  pub axes : T (all coefficient (e .axes))
-  pub absents : T (absent n (e .axes))
-
-pub record ValidConstraint (n k : ℕ) (r : Constraint) : Type 0 where
-  pub axis-places : length (r .axes) ≡ 8
-  pub division-places : length (r .divisions) ≡ 8
-  pub width : Fits 2147483648 (r .constant)
-  pub constant : T (constantFits (r .kind) (r .constant))
-  pub axes : T (all coefficient (r .axes))
-  pub divisions : T (all coefficient (r .divisions))
-  pub axis-absents : T (absent n (r .axes))
-  pub division-absents : T (absent k (r .divisions))
-
-pub record Valid (n : ℕ) (b : BasicSet) : Type 0 where
-  pub few-divisions : length (b .divisions) ≤ 8
-  pub few-constraints : length (b .constraints) ≤ 48
-  pub divisions : All (ValidDivision n) (b .divisions)
-  pub constraints : All (ValidConstraint n (length (b .divisions))) (b .constraints)
-
--- ---- a valid set's commands are accepted
-
-big-fits : (z : ℤ) → T (within (negsuc 999999999) (pos 1000000000) z) → Fits 2147483648 z
-big-fits (pos m) t = let h = leb→le m 1000000000 t in omega arith
-big-fits (negsuc m) t = let h = leb→le m 999999999 (and-left (leb m 999999999) true t) in omega arith
-
-division-fits : (n : ℕ) (e : Division) → ValidDivision n e → DivisionFits e
-division-fits n e v =
-    record {
-      places = v .places;
-      divisor = let h = leb→le (e .divisor) 32767 (and-right (ltb 0 (e .divisor)) (leb (e .divisor) 32767) (v .divisor)) in omega arith;
-      constant = big-fits (e .constant) (v .constant);
-      axes = v .axes;
-    }
-
-constraint-fits : (n k : ℕ) (r : Constraint) → ValidConstraint n k r → ConstraintFits r
-constraint-fits n k r v = record { axis-places = v .axis-places; division-places = v .division-places; constant = v .width; axes = v .axes; divisions = v .divisions }
-
--- no test of the list fails
-abbrev Passes : List (Bool × ℕ) → Type 0
-Passes [] = Unit {0}
-Passes (t ∷ ts) = T (t .0) × Passes ts
-
-unfailing : (ts : List (Bool × ℕ)) → Passes ts → firstFailing ts ≡ 0
-unfailing [] p = refl
-unfailing (t ∷ ts) p = ap (λ (b : Bool). cond b (firstFailing ts) (t .1)) (from-T (t .0) (p .0)) ∙ unfailing ts (p .1)
-
-count-of : ℕ → ℕ → ℕ → Counts
-count-of b d r = record { basics = b; divisions = d; constraints = r }
-
-module _ (n : ℕ) where
-  accept-constraints : (b d r : ℕ) (rs : List Constraint) (cs : List Command) → 0 < b → r + length rs ≤ 48 → All (ValidConstraint n d) rs
-      → Accepted n (record { basics = b; divisions = d; constraints = r + length rs }) cs → Accepted n (record { basics = b; divisions = d; constraints = r }) (map constraint rs ++ cs)
-  accept-constraints b d r [] cs hb h v a = subst (λ (m : ℕ). Accepted n (record { basics = b; divisions = d; constraints = m }) cs) (add-zero r) a
-  accept-constraints b d r (q ∷ rs) cs hb h v a = (
-    constraint-fits n d q (v .0),
-    (
-      unfailing (testsOf n (record { basics = b; divisions = d; constraints = r }) (constraint q)) (
-        lt→ltb 0 b hb,
-        (
-          lt→ltb r 48 (omega arith),
-          (
-            and-make (constantFits (q .kind) (q .constant)) (all coefficient (q .axes) && all coefficient (q .divisions)) (v .0 .constant) (and-make (all coefficient (q .axes)) (all coefficient (q .divisions)) (v .0 .axes) (v .0 .divisions)),
-            (and-make (absent n (q .axes)) (absent d (q .divisions)) (v .0 .axis-absents) (v .0 .division-absents), tt),
-          ),
-        ),
-      ),
-      accept-constraints b d (r + 1) rs cs hb (omega arith) (v .1) (subst (λ (m : ℕ). Accepted n (record { basics = b; divisions = d; constraints = m }) cs) (shuffle r (length rs)) a),
-    ),
-  )
-    where
-      shuffle : (a c : ℕ) → a + suc c ≡ a + 1 + c
-      shuffle a c = omega arith
-
-  accept-divisions : (b d : ℕ) (ds : List Division) (cs : List Command) → 0 < b → d + length ds ≤ 8 → All (ValidDivision n) ds
-      → Accepted n (record { basics = b; divisions = d + length ds; constraints = 0 }) cs → Accepted n (record { basics = b; divisions = d; constraints = 0 }) (map division ds ++ cs)
-  accept-divisions b d [] cs hb h v a = subst (λ (m : ℕ). Accepted n (record { basics = b; divisions = m; constraints = 0 }) cs) (add-zero d) a
-  accept-divisions b d (e ∷ ds) cs hb h v a = (
-    division-fits n e (v .0),
-    (
-      unfailing (testsOf n (record { basics = b; divisions = d; constraints = 0 }) (division e)) (
-        lt→ltb 0 b hb,
-        (
-          tt,
-          (
-            lt→ltb d 8 (omega arith),
-            (
-              v .0 .divisor,
-              (
-                and-make (within (negsuc 999999999) (pos 1000000000) (e .constant)) (all coefficient (e .axes)) (v .0 .constant) (v .0 .axes),
-                (v .0 .absents, tt),
-              ),
-            ),
-          ),
-        ),
-      ),
-      accept-divisions b (d + 1) ds cs hb (omega arith) (v .1) (subst (λ (m : ℕ). Accepted n (record { basics = b; divisions = m; constraints = 0 }) cs) (shuffle d (length ds)) a),
-    ),
-  )
-    where
-      shuffle : (a c : ℕ) → a + suc c ≡ a + 1 + c
-      shuffle a c = omega arith
-
-  accept-set : (s : Set) (k : Counts) → k .basics + length s ≤ 32 → All (Valid n) s → Accepted n k (commands s)
-  accept-set [] k h v = tt
-  accept-set (b ∷ s) k h v = (
-    tt,
-    (
-      unfailing (testsOf n k opens) (lt→ltb (k .basics) 32 (omega arith), tt),
-      subst (Accepted n (counted k opens)) (sym (append-assoc (map division (b .divisions)) (map constraint (b .constraints)) (commands s)))
-          (accept-divisions (k .basics + 1) 0 (b .divisions) (map constraint (b .constraints) ++ commands s) (omega arith) (subst (λ (m : ℕ). m ≤ 8) (sym (zero-add (length (b .divisions)))) (v .0 .few-divisions)) (v .0 .divisions)
-          (subst (λ (m : ℕ). Accepted n (record { basics = k .basics + 1; divisions = m; constraints = 0 }) (map constraint (b .constraints) ++ commands s)) (sym (zero-add (length (b .divisions))))
-          (accept-constraints (k .basics + 1) (length (b .divisions)) 0 (b .constraints) (commands s) (omega arith) (subst (λ (m : ℕ). m ≤ 48) (sym (zero-add (length (b .constraints)))) (v .0 .few-constraints)) (v .0 .constraints)
-          (accept-set s (record { basics = k .basics + 1; divisions = length (b .divisions); constraints = 0 + length (b .constraints) }) (omega arith) (v .1))))),
-    ),
-  )
-
-  -- a valid set decodes from its encoding
-  pub valid-decodes : (s : Set) → T (axesFit n) → length s ≤ 32 → All (Valid n) s → decode n (encode s) ≡ gives s
-  valid-decodes s h l v = decode-encode n s h (accept-set s (record { basics = 0; divisions = 0; constraints = 0 }) (subst (λ (m : ℕ). m ≤ 32) (sym (zero-add (length s))) l) v)
 
 -- ---- opposites
 
@@ -204,7 +63,7 @@ below-fits z h = subst (Fits 2147483648) (sym (-ℤ-one (negℤ z))) (at z h)
     at (pos (suc m)) h = h
     at (negsuc m) h = h
 
-below-valid : (n k : ℕ) (r : Constraint) → ValidConstraint n k r → ValidConstraint n k (below r)
+pub below-valid : (n k : ℕ) (r : Constraint) → ValidConstraint n k r → ValidConstraint n k (below r)
 below-valid n k r v =
     record {
       axis-places = length-neg (r .axes) ∙ v .axis-places;
@@ -217,7 +76,7 @@ below-valid n k r v =
       division-absents = absent-neg k (r .divisions) (v .division-absents);
     }
 
-opposites-valid : (n k : ℕ) (r : Constraint) → ValidConstraint n k r → All (ValidConstraint n k) (opposites r)
+pub opposites-valid : (n k : ℕ) (r : Constraint) → ValidConstraint n k r → All (ValidConstraint n k) (opposites r)
 opposites-valid n k r v = at (r .kind) (v .constant)
   where
     at : (c : Kind) → T (constantFits c (r .constant)) → All (ValidConstraint n k) (oppositesAt c r)
@@ -260,18 +119,18 @@ not-there : (i : ℕ) (l : List ℕ) → T (not (any (eqb i) l)) → (j : ℕ) �
 not-there i l t j u e = lib.Dec.T-not (any (eqb i) l) t (subst (λ (m : ℕ). T (any (eqb m) l)) (sym e) u)
 
 -- a place that is free for the divisions still to come
-abbrev Free : List Division → List ℕ → List Division → ℕ → Type 0
+abbrev pub Free : List Division → List ℕ → List Division → ℕ → Type 0
 Free ds taken joined p = (T (not (any (eqb p) taken)) × (p < length ds)) ⊎ (length joined ≤ p)
 
-abbrev Apart : List ℕ → Type 0
+abbrev pub Apart : List ℕ → Type 0
 Apart [] = Unit {0}
 Apart (p ∷ ps) = All (λ (q : ℕ). q ≡ p → ⊥) ps × Apart ps
 
-record Spread (ds : List Division) (taken : List ℕ) (joined : List Division) (j : Joined) : Type 0 where
-  free : All (Free ds taken joined) (j .places)
-  apart : Apart (j .places)
+pub record Spread (ds : List Division) (taken : List ℕ) (joined : List Division) (j : Joined) : Type 0 where
+  pub free : All (Free ds taken joined) (j .places)
+  pub apart : Apart (j .places)
 
-spread : (ds : List Division) (taken : List ℕ) (joined es : List Division) → length ds ≤ length joined → Spread ds taken joined (joinFrom ds taken joined es)
+pub spread : (ds : List Division) (taken : List ℕ) (joined es : List Division) → length ds ≤ length joined → Spread ds taken joined (joinFrom ds taken joined es)
 spread ds taken joined [] h = record { free = tt; apart = tt }
 spread ds taken joined (e ∷ es) h = go (seek e taken 0 ds) refl (λ i. spread ds (i ∷ taken) joined es h) (spread ds taken (joined ++ (e ∷ [])) es (omega (arith, length-append joined (e ∷ []))))
   where
@@ -331,7 +190,7 @@ getD-addAt (suc p) zero c (z ∷ cs) n = refl
 getD-addAt (suc p) (suc i) c [] n = getD-addAt p i c [] (λ e. n (ap suc e))
 getD-addAt (suc p) (suc i) c (z ∷ cs) n = getD-addAt p i c cs (λ e. n (ap suc e))
 
-getD-move : (i : ℕ) (is : List ℕ) (cs : List ℤ) → All (λ (q : ℕ). q ≡ i → ⊥) is → getD (move is cs) i (pos 0) ≡ pos 0
+pub getD-move : (i : ℕ) (is : List ℕ) (cs : List ℤ) → All (λ (q : ℕ). q ≡ i → ⊥) is → getD (move is cs) i (pos 0) ≡ pos 0
 getD-move i [] cs a = getD-zeros 8 i
 getD-move i (p ∷ is) [] a = getD-zeros 8 i
 getD-move i (p ∷ is) (c ∷ cs) a = getD-addAt p i c (move is cs) (a .0) ∙ getD-move i is cs (a .1)
@@ -362,7 +221,7 @@ all-joined P ds taken joined (e ∷ es) p q = go (seek e taken 0 ds) refl (λ i.
     go (some i) z f g = rw (z, joinFrom) (f i)
     go none z f g = rw (z, joinFrom) g
 
-all-below : (m : ℕ) (is : List ℕ) → m ≤ 8 → T (all (λ (p : ℕ). ltb p m) is) → All (λ (p : ℕ). p < 8) is
+pub all-below : (m : ℕ) (is : List ℕ) → m ≤ 8 → T (all (λ (p : ℕ). ltb p m) is) → All (λ (p : ℕ). p < 8) is
 all-below m [] h t = tt
 all-below m (p ∷ is) h t =
     let a = ltb→lt p m (and-left (ltb p m) (all (λ (p : ℕ). ltb p m) is) t) in
@@ -375,10 +234,10 @@ module _ (n : ℕ) (a b : BasicSet) (va : Valid n a) (vb : Valid n b) (few : len
   j : Good [] (a .divisions) (b .divisions) (join (a .divisions) (b .divisions))
   j = joined [] (a .divisions) (b .divisions)
 
-  joined-valid : All (ValidDivision n) (joinedDivisions a b)
+  pub joined-valid : All (ValidDivision n) (joinedDivisions a b)
   joined-valid = all-joined (ValidDivision n) (a .divisions) [] (a .divisions) (b .divisions) (va .divisions) (vb .divisions)
 
-  first-valid : All (ValidConstraint n (length (joinedDivisions a b))) (a .constraints)
+  pub first-valid : All (ValidConstraint n (length (joinedDivisions a b))) (a .constraints)
   first-valid = all-imp (ValidConstraint n (length (a .divisions))) (ValidConstraint n (length (joinedDivisions a b))) wider (a .constraints) (va .constraints)
     where
       wider : (r : Constraint) → ValidConstraint n (length (a .divisions)) r → ValidConstraint n (length (joinedDivisions a b)) r
@@ -394,7 +253,7 @@ module _ (n : ℕ) (a b : BasicSet) (va : Valid n a) (vb : Valid n b) (few : len
             division-absents = subst (λ (m : ℕ). T (absent m (r .divisions))) (sym (ap length (j .extends) ∙ length-append (a .divisions) (j .extra))) (absent-more (length (a .divisions)) (length (j .extra)) (r .divisions) (v .division-absents));
           }
 
-  second-valid : All (ValidConstraint n (length (joinedDivisions a b))) (movedConstraints a b)
+  pub second-valid : All (ValidConstraint n (length (joinedDivisions a b))) (movedConstraints a b)
   second-valid = all-mapped (ValidConstraint n (length (joinedDivisions a b))) (moveConstraint is) (ValidConstraint n (length (b .divisions))) moved (b .constraints) (vb .constraints)
     where
       is : List ℕ
@@ -414,7 +273,7 @@ module _ (n : ℕ) (a b : BasicSet) (va : Valid n a) (vb : Valid n b) (few : len
             division-absents = absent-move (length (joinedDivisions a b)) is (r .divisions) (j .inside);
           }
 
-  both-valid : length (a .constraints) + length (b .constraints) ≤ 48 → Valid n (both a b)
+  pub both-valid : length (a .constraints) + length (b .constraints) ≤ 48 → Valid n (both a b)
   both-valid h =
       record {
         few-divisions = few;
@@ -444,7 +303,7 @@ module _ (keep : BasicSet → Bool) (n : ℕ) where
       working [] = vw
       working (b ∷ k) = all-app (ValidConstraint n (length ds)) w (r ∷ []) vw (vr .0, tt)
 
-  cut-valid : (a c : BasicSet) → Valid n a → Valid n c → T (cutFits keep a c) → All (Valid n) (cut keep a c)
+  pub cut-valid : (a c : BasicSet) → Valid n a → Valid n c → T (cutFits keep a c) → All (Valid n) (cut keep a c)
   unfolding difference intersection complement cutAll cut decode encode
   cut-valid a c va vc t =
       let f : T (joinFits keep a c) = and-left (joinFits keep a c) (candidatesFit keep (joinedDivisions a c) (a .constraints) (movedConstraints a c)) t in
@@ -456,7 +315,7 @@ module _ (keep : BasicSet → Bool) (n : ℕ) where
   all-concat P Q f g h [] p t = tt
   all-concat P Q f g h (a ∷ l) p t = all-app Q (g a) (concatMap g l) (h a (p .0) (and-left (f a) (all f l) t)) (all-concat P Q f g h l (p .1) (and-right (f a) (all f l) t))
 
-  cutAll-valid : (cs : List BasicSet) → All (Valid n) cs → (a : BasicSet) → Valid n a → T (cutAllFits keep cs a) → All (Valid n) (cutAll keep cs a)
+  pub cutAll-valid : (cs : List BasicSet) → All (Valid n) cs → (a : BasicSet) → Valid n a → T (cutAllFits keep cs a) → All (Valid n) (cutAll keep cs a)
   unfolding difference intersection complement cutAll cut decode encode
   cutAll-valid [] vc a va t = (va, tt)
   cutAll-valid (c ∷ cs) vc a va t =

@@ -4,3 +4,5 @@ pub mod Kept
 pub mod Closed
 pub mod Contracts
 pub mod Levels
+pub mod Results
+pub mod Again

@@ -12,18 +12,11 @@ use Rattle.model.specs.Sets.{Set}
 use Rattle.model.specs.Values.{basicSetOf}
 use Rattle.model.specs.declared.BasicSet.{BasicSet}
 use Rattle.codec.specs.Bytes.{Answer, refused, gives, Command, opens, division, constraint, Counts, counted, widthOf, readCommand, readDivision, readConstraint, kindOf, Built, build, parse, setOf, axesFit, decode, number}
-use Rattle.codec.specs.Places.{commandsOf, built, basicAt, setFrom, endOf, Checked, opened, Opened, after, Decoded}
+use Rattle.codec.specs.Places.{commandsOf, built, basicAt, setFrom, endOf, Checked, opened, Opened, after, Decoded, Boundary}
 use Rattle.codec.proofs.Parsing.{start, read-opens, read-division, read-constraint, width-division, width-constraint, decode-bad, decode-good}
 use Rattle.codec.proofs.Split.{unless, refusalOf, decode′, decode-split, parse-split}
 use Rattle.codec.proofs.Decoded.{Unrefused, clean-start}
 use Rattle.codec.proofs.Walking.{added, Head, head, built-end, checked-unrefused}
-
--- at the start of a basic set, or at the end
-pub record Boundary (n : ℕ) (s : List ℕ) (at : ℕ) : Type 0 where
-  pub k : Counts
-  pub here : Checked n s at k
-  pub no-divisions : built (drop at s) .divisions ≡ []
-  pub no-constraints : built (drop at s) .constraints ≡ []
 
 -- ---- the whole
 module _ (n : ℕ) (s : List ℕ) (z : number (decode n s) ≡ 0) where

@@ -194,7 +194,7 @@ clean-start n k (constraint r ∷ cs) u e = absurd (clash (ltb→lt 0 (k .basics
     clash h e = omega arith
 
 -- the commands are those of what they build
-commands-back : (n : ℕ) (k : Counts) (cs : List Command) → Unrefused n k cs → map division (build cs .divisions) ++ (map constraint (build cs .constraints) ++ commands (build cs .rest)) ≡ cs
+pub commands-back : (n : ℕ) (k : Counts) (cs : List Command) → Unrefused n k cs → map division (build cs .divisions) ++ (map constraint (build cs .constraints) ++ commands (build cs .rest)) ≡ cs
 commands-back n k [] u = refl
 commands-back n k (opens ∷ cs) u =
     ap (λ (l : List Command). opens ∷ l)
@@ -323,7 +323,7 @@ encode-read b s w l p = at₁ (eqb b 0x11) refl
     at₁ true e = is 0x11 (to-T (eqb b 0x11) e) (λ m. refl)
     at₁ false e = at₂ (eqb b 0x12) refl e
 
-bytes-back : (n : ℕ) (k : Counts) (s : List ℕ) (cs : List Command) → Parsed n k s cs → Bytes s → concatMap encodeCommand cs ≡ s
+pub bytes-back : (n : ℕ) (k : Counts) (s : List ℕ) (cs : List Command) → Parsed n k s cs → Bytes s → concatMap encodeCommand cs ≡ s
 bytes-back n k [] [] done p = refl
 bytes-back n k (_ ∷ _) (_ ∷ cs) (next b s w l z q) p =
     ap (λ (t : List ℕ). encodeCommand (readCommand b s) ++ t) (bytes-back n (counted k (readCommand b s)) (drop (widthOf b - 1) s) cs q (drop-bytes (widthOf b - 1) s (p .1)))

@@ -6,3 +6,6 @@ pub mod Walking
 mod Filling
 pub mod Boundaries
 pub mod Valid
+pub mod Emitting
+pub mod RoundTrips
+pub mod Located

@@ -11,12 +11,11 @@ use lib.ListN.{length, take, drop, getD}
 use Rattle.model.specs.Lists.{all}
 use Rattle.model.specs.Sets.{Division, equality, inequality, Constraint, BasicSet, Set, absent}
 use Rattle.codec.specs.Bytes.{gives, valueOf, signed, signedList, Command, opens, division, constraint, commands, encode, readDivision, readConstraint, readCommand, widthOf, Counts, within, coefficient, constantFits, testsOf, firstFailing, refusal, counted, Built, build, axesFit, decode, number}
-use Rattle.codec.specs.Places.{commandsOf, built, setFrom}
+use Rattle.codec.specs.Places.{commandsOf, built, setFrom, Boundary}
 use Rattle.model.proofs.Count.{and-left, and-right, and-make, from-T, to-T}
 use Rattle.codec.proofs.Encoded.{Fits, DivisionFits, ConstraintFits, Accepted, decode-encode}
 use Rattle.codec.proofs.Decoded.{Parsed, done, next, Bytes, drop-bytes, decoded, all-passed}
 use Rattle.codec.proofs.Walking.{accepted-parsed}
-use Rattle.codec.proofs.Boundaries.{Boundary}
 
 -- ---- every element
 

@@ -50,6 +50,13 @@ pub record Opened (s : List ℕ) (at : ℕ) : Type 0 where
   pub basics : ℕ
   pub here : Checked n s at (opened basics)
 
+-- at the start of a basic set of checked bytes, or at their end
+pub record Boundary (n : ℕ) (s : List ℕ) (at : ℕ) : Type 0 where
+  pub k : Counts
+  pub here : Checked n s at k
+  pub no-divisions : built (drop at s) .divisions ≡ []
+  pub no-constraints : built (drop at s) .constraints ≡ []
+
 -- the place after a decoded basic set whose commands start at a place
 abbrev pub after : ℕ → BasicSet → ℕ
 after at b = at + 23 * b .divs + 37 * b .cons

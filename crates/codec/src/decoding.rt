@@ -3,10 +3,11 @@ ghost use mathlib.Core.Path.{_≡_};
 ghost use mathlib.Core.Bool.{_||_};
 ghost use Prim.Native.Nat.{ℕ, _+_, _≤_, _<_};
 ghost use lib.Dec.{eqb};
-ghost use lib.ListN.{length, take, drop, getD};
+ghost use lib.ListN.{length, take, drop};
 ghost use Rattle.model.specs.Values.{divisionOf, constraintOf};
 ghost use Rattle.codec.specs.Bytes.{valueOf, signed, signedList, readDivision, readConstraint, kindOf};
 ghost use Rattle.codec.specs.Places.{Opened, Decoded};
+use crate::readers::code;
 use crate::readers::tail;
 use crate::readers::u16_at;
 use crate::readers::u32_at;
@@ -95,16 +96,6 @@ fn read_constraint(b: u8, t: &[u8]) -> Constraint
         axes: a,
         divisions: e,
     }
-}
-
-// The byte at a place, 0 past the end.
-fn code(s: &[u8], at: usize) -> u8
-    ensures { λ r. ⌜ r ≡ getD (now (s .entry)) at 0 ⌝ }
-{
-    if at < s.len() {
-        return s[at];
-    }
-    0
 }
 
 fn is_constraint(b: u8) -> bool

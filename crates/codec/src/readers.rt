@@ -1,7 +1,7 @@
 // Numbers, commands and parts of lent bytes.
 ghost use mathlib.Core.Path.{_≡_};
 ghost use Prim.Native.Nat.{ℕ, _+_, _≤_, _<_};
-ghost use lib.ListN.{length, take, drop};
+ghost use lib.ListN.{length, take, drop, getD};
 ghost use Rattle.codec.specs.Bytes.{valueOf, widthOf};
 
 fn wide(x: u8) -> u64
@@ -48,6 +48,16 @@ pub fn width(b: u8) -> usize
     }
     if b == 20 {
         return 37;
+    }
+    0
+}
+
+// The byte at a place, 0 past the end.
+pub fn code(s: &[u8], at: usize) -> u8
+    ensures { λ r. ⌜ r ≡ getD (now (s .entry)) at 0 ⌝ }
+{
+    if at < s.len() {
+        return s[at];
     }
     0
 }

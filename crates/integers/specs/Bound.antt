@@ -1,17 +1,15 @@
 -- A bound on the size of an expression, found by `search`: `fits-by (search bounds depth 20) (omega arith) : SFits w z`, and `within-by` for `Within n z`.
--- The bound goes through sums, products, negation, literals, and what a machine reads back (`toZ w (ofZ w z)`), down to facts `Within n x`, `SFits w x`,
--- `Bits w s x` in reach, also in fields. It forgets signs: where a difference is smaller than a sum, use `lia-fits`. Assumes nothing.
-use mathlib.Core.Path.{_≡_, refl, sym, ap, _∙_, subst}
-use Prim.Native.Nat.{ℕ, zero, suc, _+_, _*_, _^_, _≤_, _<_}
-use native.Mathlib.Nat.{le-trans, le-of-eq, mul-le-mul, lt-of-le-of-lt, le-refl, le-of-lt}
+-- The bound goes through sums, products, negation, literals, and what a machine reads back (`toZ w (ofZ w z)`), down to facts `Within n x`,
+-- `n < m` and `Bits w s x` in reach, also in fields. It forgets signs: where a difference is smaller than a sum, use `lia-fits`. Assumes nothing.
+use mathlib.Core.Path.{sym, subst}
+use Prim.Native.Nat.{ℕ, suc, _+_, _*_, _^_, _≤_, _<_}
+use native.Mathlib.Nat.{le-of-lt}
 use lib.Dec.{T, leb}
-use lib.IntN.{ℤ, pos, negsuc, negℤ, natAbs, _+ℤ_, _-ℤ_, _*ℤ_}
-use lib.Signed.{mag, quotZ}
+use lib.IntN.{ℤ, pos, negsuc, negℤ, _+ℤ_, _*ℤ_}
 use mir.Syntax.{Width}
 use mir.Val.{SFits, hbits, toZ, ofZ}
 use Rattle.integers.specs.Z.{Within}
-use Rattle.integers.specs.Size.{within-self, within-mono, within-add, within-mul, within-neg, within-fits, fits-within}
-use Rattle.integers.specs.Div.{quot-size}
+use Rattle.integers.specs.Size.{within-self, within-mono, within-add, within-mul, within-neg, within-fits}
 use Rattle.integers.specs.Mach.{Bits, toZ-ofZ, toZ-nat}
 
 pub record Bounded (z : ℤ) : Type 0 where
@@ -20,9 +18,6 @@ pub record Bounded (z : ℤ) : Type 0 where
 
 abbrev pub by-within : {n : ℕ} {z : ℤ} → Within n z → Bounded z
 by-within {n} h = record { bound = n; ok = h }
-
-abbrev pub by-fits : {w : Width} {z : ℤ} → SFits w z → Bounded z
-by-fits {w} h = record { bound = 2 ^ hbits w; ok = fits-within h }
 
 abbrev pub by-pos : (n : ℕ) → T (leb 0 n) → Bounded (pos n)
 by-pos n t = record { bound = n; ok = within-self (pos n) }

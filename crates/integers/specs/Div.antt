@@ -1,20 +1,19 @@
 -- Division of integers: toward zero (`quotZ`, `remZ`, as `/` and `%` compute it), rounded down (`floorZ`), and exact. Assumes nothing.
-use mathlib.Core.Path.{_≡_, refl, sym, ap, ap₂, _∙_, subst, subst₂}
-use mathlib.Core.Logic.{_⊎_, inl, inr, ⊎-elim}
-use mathlib.Core.List.{List, [], _∷_}
-use Prim.Native.Nat.{ℕ, zero, suc, _+_, _-_, _*_, _/_, _%_, _^_, _≤_, _<_}
+use mathlib.Core.Path.{_≡_, refl, sym, ap, _∙_, subst, subst₂}
+use mathlib.Core.List.{[], _∷_}
+use Prim.Native.Nat.{ℕ, zero, suc, _/_, _%_, _≤_, _<_, _∣_}
 use native.Mathlib.Omega.{arith}
-use native.Mathlib.Nat.{div-add-mod', mod-lt, mod-le, div-le-self, le-trans, lt-of-le-of-lt, le-of-eq}
-use lib.Dec.{T, ltb→lt, lt→ltb}
+use native.Mathlib.Nat.{div-add-mod', mod-lt, mod-eq-zero-of-dvd, div-le-self, le-trans, lt-of-le-of-lt, le-of-eq}
+use lib.Dec.{ltb→lt}
 use lib.IntN.{ℤ, pos, negsuc, negℤ, natAbs, _+ℤ_, _-ℤ_, _*ℤ_}
 use lib.Signed.{_≤ℤ_, _<ℤ_, mag, quotZ, remZ, mag-shr, mag-rem}
 use mir.Syntax.{Width}
 use mir.Val.{SFits}
 use Rattle.integers.specs.Z.{Within}
 use Rattle.integers.specs.Ring.{ring, quote}
-use Rattle.integers.specs.Lin.{le, lt, eq, fits, abs, lin, lia-le, lia-lt, lia-eq, lia-no, lia-abs, lia-fits}
-use Rattle.integers.specs.Order.{≤ℤ-antisymm, mul-le-right, lt-of-mul-lt, <ℤ-≤ℤ, pos-nonneg, mul-cancel}
-use Rattle.integers.specs.Size.{natAbs-neg}
+use Rattle.integers.specs.Lin.{le, lt, eq, abs, lin, lia-le, lia-lt, lia-eq, lia-no}
+use Rattle.integers.specs.Order.{≤ℤ-trans, ≤ℤ-antisymm, mul-le-right, lt-of-mul-lt, <ℤ-≤ℤ, pos-nonneg, mul-cancel}
+use Rattle.integers.specs.Size.{natAbs-neg, natAbs-zero}
 
 -- ---- toward zero
 nat-split : (a b : ℕ) → pos (a / b) *ℤ pos b +ℤ pos (a % b) ≡ pos a
@@ -30,6 +29,10 @@ quot-rem (negsuc a) (negsuc b) = ring (pos (suc a / suc b) ∷ pos (suc b) ∷ p
 pub rem-size : (n d : ℤ) → 0 < natAbs d → natAbs (remZ n d) < natAbs d
 rem-size (pos a) d h = mod-lt a h
 rem-size (negsuc a) d h = lt-of-le-of-lt (le-of-eq (natAbs-neg (pos (suc a % natAbs d)))) (mod-lt (suc a) h)
+
+pub rem-abs : (n d : ℤ) → natAbs (remZ n d) ≡ natAbs n % natAbs d
+rem-abs (pos a) d = refl
+rem-abs (negsuc a) d = natAbs-neg (pos (suc a % natAbs d))
 
 neg-nonpos : (n : ℕ) → negℤ (pos n) ≤ℤ pos 0
 neg-nonpos n = lia-le (pos n ∷ []) (le (pos-nonneg n) ∷ []) (search lin depth 30) (omega arith)
@@ -125,6 +128,13 @@ floorZ-is (negsuc a) {d = pos b} h =
     neg-suc (suc a) = ap negsuc (omega arith)
 floorZ-is n {d = negsuc b} h = absurd (h .lt)
 
+-- ---- as code computes it
+pub quot-is-floor : (n d : ℤ) → pos 0 <ℤ d → pos 0 ≤ℤ remZ n d → quotZ n d ≡ floorZ n d
+quot-is-floor n d h k = floor-unique h (floor-quot h k) (floorZ-is n h)
+
+pub quot-less-is-floor : (n d : ℤ) → pos 0 <ℤ d → remZ n d <ℤ pos 0 → quotZ n d -ℤ pos 1 ≡ floorZ n d
+quot-less-is-floor n d h k = floor-unique h (floor-quot-less h k) (floorZ-is n h)
+
 -- ---- exact
 pub exact : (n d : ℤ) → remZ n d ≡ pos 0 → quotZ n d *ℤ d ≡ n
 exact n d e = lia-eq (quotZ n d ∷ d ∷ n ∷ remZ n d ∷ []) (eq (quot-rem n d) ∷ eq e ∷ []) (search lin depth 30) (omega arith)
@@ -132,13 +142,14 @@ exact n d e = lia-eq (quotZ n d ∷ d ∷ n ∷ remZ n d ∷ []) (eq (quot-rem n
 pub exact-unique : {n d q r : ℤ} → pos 0 <ℤ d → q *ℤ d ≡ n → r *ℤ d ≡ n → q ≡ r
 exact-unique {n} {d} {q} {r} h e f = mul-cancel h (e ∙ sym f)
 
--- ---- as code computes it, and that it fits
-pub quot-is-floor : (n d : ℤ) → pos 0 <ℤ d → pos 0 ≤ℤ remZ n d → quotZ n d ≡ floorZ n d
-quot-is-floor n d h k = floor-unique h (floor-quot h k) (floorZ-is n h)
+-- a divisor leaves nothing, and the quotient, rounded or not, is exact
+pub divides-rem : (n d : ℤ) → natAbs d ∣ natAbs n → remZ n d ≡ pos 0
+divides-rem n d h = natAbs-zero (remZ n d) (rem-abs n d ∙ mod-eq-zero-of-dvd (natAbs d) h)
 
-pub quot-less-is-floor : (n d : ℤ) → pos 0 <ℤ d → remZ n d <ℤ pos 0 → quotZ n d -ℤ pos 1 ≡ floorZ n d
-quot-less-is-floor n d h k = floor-unique h (floor-quot-less h k) (floorZ-is n h)
+pub divides-floor : (n d : ℤ) → pos 0 <ℤ d → natAbs d ∣ natAbs n → floorZ n d *ℤ d ≡ n
+divides-floor n d h k = let e = divides-rem n d k in ap (λ (q : ℤ). q *ℤ d) (sym (quot-is-floor n d h (subst (λ (r : ℤ). pos 0 ≤ℤ r) (sym e) (pos-nonneg 0)))) ∙ exact n d e
 
+-- ---- that it fits
 mag-neg : (r a : ℕ) → r ≤ suc a → mag (negℤ (pos r)) ≤ a
 mag-neg zero a h = omega arith
 mag-neg (suc r) a h = omega arith
@@ -157,9 +168,10 @@ floor-fits {w} {n} d f = record { sfits = lt-of-le-of-lt (mag-shr n (natAbs d)) 
 pub rem-fits : {w : Width} {n : ℤ} (d : ℤ) → SFits w n → SFits w (remZ n d)
 rem-fits {w} {n} d f = record { sfits = lt-of-le-of-lt (mag-rem n d) (f .sfits) }
 
-pub rem-abs : (n d : ℤ) → natAbs (remZ n d) ≡ natAbs n % natAbs d
-rem-abs (pos a) d = refl
-rem-abs (negsuc a) d = natAbs-neg (pos (suc a % natAbs d))
+-- rounding down makes no number larger in size
+pub floor-within : {m : ℕ} {n : ℤ} (d : ℕ) → Within m n → Within m (floorDiv n d)
+floor-within {n = pos a} d h = record { size = le-trans (div-le-self a d) (h .size) }
+floor-within {n = negsuc a} d h = let u = h .size in let v = div-le-self a d in record { size = omega arith }
 
 -- the other code for it, below 0: −((−n + d − 1) / d)
 pub neg-ceil-is-floor : (n d : ℤ) → pos 0 <ℤ d → n <ℤ pos 0 → negℤ (quotZ (negℤ n +ℤ d -ℤ pos 1) d) ≡ floorZ n d
@@ -186,18 +198,5 @@ floor-le n {d} {x} h k =
     let q = floorZ n d in let f = floorZ-is n h in
     lia-le (n ∷ d ∷ x ∷ q ∷ []) (le (mul-le-right (<ℤ-≤ℤ h) k) ∷ le (f .low) ∷ []) (search lin depth 30) (omega arith)
 
--- rounded up
-abbrev pub ceilZ : ℤ → ℤ → ℤ
-ceilZ n d = negℤ (floorZ (negℤ n) d)
-
-pub ceil-le : {n d x : ℤ} → pos 0 <ℤ d → n ≤ℤ (x *ℤ d) → ceilZ n d ≤ℤ x
-ceil-le {n} {d} {x} h k =
-    let q = floorZ (negℤ n) d in
-    let l : negℤ x ≤ℤ q = le-floor {n = negℤ n} {x = negℤ x} h (lia-le (n ∷ d ∷ x ∷ []) (le k ∷ []) (search lin depth 30) (omega arith)) in
-    lia-le (x ∷ q ∷ []) (le l ∷ []) (search lin depth 30) (omega arith)
-
-pub le-ceil : (n : ℤ) {d x : ℤ} → pos 0 <ℤ d → ceilZ n d ≤ℤ x → n ≤ℤ (x *ℤ d)
-le-ceil n {d} {x} h k =
-    let q = floorZ (negℤ n) d in
-    let l : (negℤ x *ℤ d) ≤ℤ negℤ n = floor-le (negℤ n) {x = negℤ x} h (lia-le (x ∷ q ∷ []) (le k ∷ []) (search lin depth 30) (omega arith)) in
-    lia-le (n ∷ d ∷ x ∷ []) (le l ∷ []) (search lin depth 30) (omega arith)
+pub floor-mono : {m n d : ℤ} → pos 0 <ℤ d → m ≤ℤ n → floorZ m d ≤ℤ floorZ n d
+floor-mono {m} {n} {d} h k = le-floor h (≤ℤ-trans (floorZ-is m h .low) k)

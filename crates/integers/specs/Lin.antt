@@ -2,17 +2,16 @@
 -- a sum of monomials with integer coefficients, and read in ℕ: a monomial m counts as `ps m - ns m`, so each has two atoms for `omega`.
 --     lia-le l ks (search lin depth 30) (omega arith) : a ≤ℤ b      and lia-lt, lia-eq, lia-no (⊥), lia-fits (SFits w z), lia-abs (Within n z)
 -- with ks the facts, `le h ∷ lt h ∷ eq h ∷ fits h ∷ abs h ∷ []`. Assumes nothing.
-use mathlib.Core.Path.{_≡_, refl, sym, ap, ap₂, _∙_, subst, subst₂}
+use mathlib.Core.Path.{_≡_, sym, ap, ap₂, _∙_, subst, subst₂}
 use mathlib.Core.List.{List, [], _∷_}
-use Prim.Native.Nat.{ℕ, zero, suc, _+_, _-_, _*_, _^_, _≤_, _<_}
+use Prim.Native.Nat.{ℕ, suc, _+_, _*_, _^_, _≤_, _<_}
 use native.Mathlib.Omega.{arith}
-use lib.Dec.{T}
-use lib.IntN.{ℤ, pos, negsuc, negℤ, natAbs, _+ℤ_, _-ℤ_, _*ℤ_}
+use lib.IntN.{ℤ, pos, negsuc, natAbs, _+ℤ_, _-ℤ_, _*ℤ_}
 use lib.Signed.{_≤ℤ_, _<ℤ_, mag}
 use mir.Syntax.{Width}
 use mir.Val.{SFits, hbits}
 use Rattle.integers.specs.Z.{Within, ps, ns, diff, parts, parts-diff, diff-add, diff-neg, diff-mul, diff-eq, diff-le, diff-lt, le-parts, lt-parts}
-use Rattle.integers.specs.Ring.{Expr, var, con, add, mul, neg, Poly, nil, term, evalM, evalP, eval, norm, clean, simplified, Quote, quote}
+use Rattle.integers.specs.Ring.{add, neg, Poly, nil, term, evalM, evalP, norm, clean, simplified, Quote, quote}
 
 -- ---- a polynomial as a difference
 abbrev pub up : List ℤ → Poly → ℕ
@@ -102,29 +101,19 @@ abs-parts : (H : ℕ) (a : ℤ) → natAbs a ≤ H → (ps a ≤ H) × (ns a ≤
 abs-parts H (pos n) h = omega arith
 abs-parts H (negsuc n) h = omega arith
 
-one-zero : (a : ℤ) → (ps a ≡ 0 → ⊥) → (ns a ≡ 0 → ⊥) → ⊥
-one-zero (pos n) p q = q refl
-one-zero (negsuc n) p q = p refl
+fits-is : {l : List ℤ} {w : Width} {a : ℤ} (x : Quote l a) → SFits w a → (Up x < Dn x + 2 ^ hbits w) × (Dn x ≤ Up x + 2 ^ hbits w)
+fits-is {w} {a} x h = let d = meets x in let e = mag-parts (2 ^ hbits w) a (h .sfits) in (omega arith, omega arith)
 
-fits-up : {l : List ℤ} {w : Width} {a : ℤ} (x : Quote l a) → SFits w a → Up x < Dn x + 2 ^ hbits w
-fits-up {w} {a} x h = let d = meets x in let e = mag-parts (2 ^ hbits w) a (h .sfits) in omega arith
-
-fits-dn : {l : List ℤ} {w : Width} {a : ℤ} (x : Quote l a) → SFits w a → Dn x ≤ Up x + 2 ^ hbits w
-fits-dn {w} {a} x h = let d = meets x in let e = mag-parts (2 ^ hbits w) a (h .sfits) in omega arith
-
-abs-up : {l : List ℤ} {a : ℤ} {n : ℕ} (x : Quote l a) → natAbs a ≤ n → Up x ≤ Dn x + n
-abs-up {a} {n} x h = let d = meets x in let e = abs-parts n a h in omega arith
-
-abs-dn : {l : List ℤ} {a : ℤ} {n : ℕ} (x : Quote l a) → natAbs a ≤ n → Dn x ≤ Up x + n
-abs-dn {a} {n} x h = let d = meets x in let e = abs-parts n a h in omega arith
+abs-is : {l : List ℤ} {a : ℤ} {n : ℕ} (x : Quote l a) → Within n a → (Up x ≤ Dn x + n) × (Dn x ≤ Up x + n)
+abs-is {a} {n} x h = let d = meets x in let e = abs-parts n a (h .size) in (omega arith, omega arith)
 
 use-all : {l : List ℤ} {ks : List Known} (q : Quoted l ks) (G : Type 0) → Given q G → G
 use-all k-nil G g = g
 use-all (k-le {h = h} x y r) G g = use-all r G (g (le-is x y h))
 use-all (k-lt {h = h} x y r) G g = use-all r G (g (lt-is x y h))
 use-all (k-eq {h = h} x y r) G g = use-all r G (g (eq-is x y h))
-use-all (k-fits {h = h} x r) G g = use-all r G (g (fits-up x h) (fits-dn x h))
-use-all (k-abs {h = h} x r) G g = use-all r G (g (abs-up x (h .size)) (abs-dn x (h .size)))
+use-all (k-fits {h = h} x r) G g = let f = fits-is x h in use-all r G (g (f .0) (f .1))
+use-all (k-abs {h = h} x r) G g = let f = abs-is x h in use-all r G (g (f .0) (f .1))
 
 -- the facts with the goal's terms, by a lemma, so that `search` finds them among its first, cheap searches
 pub record Of1 (l : List ℤ) (ks : List Known) (a : ℤ) : Type 0 where

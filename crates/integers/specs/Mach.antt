@@ -1,21 +1,24 @@
--- What a need of a function with signed locals asks and is told, in terms of integers. A signed local holds bits: a value read is `toZ w bits`, a result
--- written is `ofZ w z`, and a test is an equation of `ltZ` or `leZ`. Quoting goes through `toZ w (ofZ w z)` where z fits (`q-back`), and through
--- `toZ w n` of an unsigned n that is small (`q-cast`): `search mach` is `search lin` with these. Assumes nothing.
-use mathlib.Core.Path.{_≡_, refl, sym, ap, ap₂, _∙_, subst, subst₂}
+-- Machine integers, on one page: what a need of a function with signed locals asks and is told, in terms of ℤ. A signed local holds bits: a value read is
+-- `toZ w bits`, a result written is `ofZ w z`, and a test is an equation of `ltZ` or `leZ`. `Examples.antt` has each lemma at work.
+--   a need whose numbers lie in `Within`, `SFits` facts   rw (toZ-ofZ ..) plain-fact; or ask _*ℤ_ (b-of fa) (b-of fb) plain-fact; or lia-fits .. (search mach depth 30)
+--   a test                                                is-lt, is-ge, is-le, is-gt (b-of fx) (b-lit w64 0 refl) t; ofZ-same for `==`
+--   a cast                                                toZ-nat from unsigned, cast-nat to unsigned, rw (toZ-ofZ f) (record { sfits = omega arith }) between signed types
+--   a divisor, a call's result                            divisor-pos, result-is
+-- `search mach` is `search lin` that quotes also `toZ w (ofZ w z)` where z fits, `toZ w n` of a small unsigned n, and a local with a `Bits` fact. Assumes nothing.
+use mathlib.Core.Path.{_≡_, sym, ap, ap₂, _∙_, subst, subst₂}
 use mathlib.Core.Bool.{Bool, true, false, not}
-use mathlib.Core.List.{List, [], _∷_}
-use Prim.Native.Nat.{ℕ, zero, suc, _+_, _-_, _*_, _^_, _≤_, _<_}
-use native.Mathlib.Omega.{arith}
+use mathlib.Core.List.{List}
+use Prim.Native.Nat.{ℕ, _^_, _≤_, _<_}
 use native.Mathlib.Nat.{lt-of-lt-of-le}
-use lib.Dec.{T, leb, ltb, leb→le, ltb→lt}
-use lib.IntN.{ℤ, pos, negsuc, negℤ, natAbs, _+ℤ_, _-ℤ_, _*ℤ_}
-use lib.Signed.{_≤ℤ_, _<ℤ_, leZ, ltZ, ltZ-yes, leZ-yes, ltZ-no, mag, nonNeg, quotZ, remZ}
+use lib.Dec.{T, leb, leb→le, ltb→lt}
+use lib.IntN.{ℤ, pos, negsuc, natAbs}
+use lib.Signed.{_≤ℤ_, _<ℤ_, leZ, ltZ, ltZ-yes, leZ-yes, ltZ-no, mag, nonNeg}
 use mir.Syntax.{Width}
 use mir.Val.{SFits, Fits, hbits, bits, toZ, ofZ}
 use lib.Dec as D
 use mir.ValLaws as L
 use Rattle.integers.specs.Ring.{Quote}
-use Rattle.integers.specs.Lin.{lin, lt, le, lia-le, lia-lt}
+use Rattle.integers.specs.Lin.{lin}
 
 -- ---- tests. The two numbers are explicit, since `ltZ` computes: where the goal does not show them, write them
 pub ltZ-true : (a b : ℤ) → ltZ a b ≡ true → a <ℤ b
@@ -51,7 +54,7 @@ q-back h x = record { e = x .e; is = x .is ∙ sym (toZ-ofZ h) }
 abbrev pub q-cast : {l : List ℤ} (w : Width) (n m : ℕ) → n < m → T (leb m (2 ^ hbits w)) → Quote l (pos n) → Quote l (toZ w n)
 q-cast w n m h t x = record { e = x .e; is = x .is ∙ sym (toZ-nat w n m h t) }
 
--- ---- two naturals, compared as integers
+-- two naturals, compared as integers
 pub lt-nat : {a b : ℕ} → pos a <ℤ pos b → a < b
 lt-nat {a} {b} h = ltb→lt a b (h .lt)
 
@@ -79,7 +82,7 @@ toZ-zero w n f e = sym (L.ofZ-toZ w n f) ∙ ap (ofZ w) e
 pub clash {ℓ} : {X : Type ℓ} {t : Bool} → t ≡ true → t ≡ false → X
 clash p q = absurd (subst T (sym p ∙ q) tt)
 
--- ---- the bits n stand for z. Each operation has two lemmas: what it asks (`ask-mul`), and what its result stands for (`b-mul`)
+-- ---- the bits n stand for z
 pub record Bits (w : Width) (n : ℕ) (z : ℤ) : Type 0 where
   pub is : toZ w n ≡ z
 
@@ -91,35 +94,19 @@ b-of h = record { is = toZ-ofZ h }
 pub b-nat : (w : Width) (n m : ℕ) → n < m → T (leb m (2 ^ hbits w)) → Bits w n (pos n)
 b-nat w n m h t = record { is = toZ-nat w n m h t }
 
+-- a literal: `b-lit w64 0 refl`
+pub b-lit : (w : Width) (n : ℕ) {z : ℤ} → toZ w n ≡ z → Bits w n z
+b-lit w n e = record { is = e }
+
 module _ {w : Width} {x y : ℕ} {a b : ℤ} (p : Bits w x a) (q : Bits w y b) where
-  pub ask-add : SFits w (a +ℤ b) → SFits w (toZ w x +ℤ toZ w y)
-  ask-add h = subst₂ (λ (u v : ℤ). SFits w (u +ℤ v)) (sym (p .is)) (sym (q .is)) h
+  -- an operation f, `_+ℤ_`, `_-ℤ_`, `_*ℤ_`, `quotZ` or `remZ`: what it asks, and what its result stands for
+  pub ask : (f : ℤ → ℤ → ℤ) → SFits w (f a b) → SFits w (f (toZ w x) (toZ w y))
+  ask f h = subst₂ (λ (u v : ℤ). SFits w (f u v)) (sym (p .is)) (sym (q .is)) h
 
-  pub ask-sub : SFits w (a -ℤ b) → SFits w (toZ w x -ℤ toZ w y)
-  ask-sub h = subst₂ (λ (u v : ℤ). SFits w (u -ℤ v)) (sym (p .is)) (sym (q .is)) h
+  pub b-op : (f : ℤ → ℤ → ℤ) → SFits w (f a b) → Bits w (ofZ w (f (toZ w x) (toZ w y))) (f a b)
+  b-op f h = record { is = toZ-ofZ (ask f h) ∙ ap₂ f (p .is) (q .is) }
 
-  pub ask-mul : SFits w (a *ℤ b) → SFits w (toZ w x *ℤ toZ w y)
-  ask-mul h = subst₂ (λ (u v : ℤ). SFits w (u *ℤ v)) (sym (p .is)) (sym (q .is)) h
-
-  pub ask-quot : 0 < y → SFits w (quotZ a b) → (0 < y) × SFits w (quotZ (toZ w x) (toZ w y))
-  ask-quot k h = (k, subst₂ (λ (u v : ℤ). SFits w (quotZ u v)) (sym (p .is)) (sym (q .is)) h)
-
-  pub b-add : SFits w (a +ℤ b) → Bits w (ofZ w (toZ w x +ℤ toZ w y)) (a +ℤ b)
-  b-add h = record { is = toZ-ofZ (ask-add h) ∙ ap₂ _+ℤ_ (p .is) (q .is) }
-
-  pub b-sub : SFits w (a -ℤ b) → Bits w (ofZ w (toZ w x -ℤ toZ w y)) (a -ℤ b)
-  b-sub h = record { is = toZ-ofZ (ask-sub h) ∙ ap₂ (λ (u v : ℤ). u -ℤ v) (p .is) (q .is) }
-
-  pub b-mul : SFits w (a *ℤ b) → Bits w (ofZ w (toZ w x *ℤ toZ w y)) (a *ℤ b)
-  b-mul h = record { is = toZ-ofZ (ask-mul h) ∙ ap₂ _*ℤ_ (p .is) (q .is) }
-
-  pub b-quot : SFits w (quotZ a b) → Bits w (ofZ w (quotZ (toZ w x) (toZ w y))) (quotZ a b)
-  b-quot h = record { is = toZ-ofZ (subst₂ (λ (u v : ℤ). SFits w (quotZ u v)) (sym (p .is)) (sym (q .is)) h) ∙ ap₂ quotZ (p .is) (q .is) }
-
-  pub b-rem : SFits w (remZ a b) → Bits w (ofZ w (remZ (toZ w x) (toZ w y))) (remZ a b)
-  b-rem h = record { is = toZ-ofZ (subst₂ (λ (u v : ℤ). SFits w (remZ u v)) (sym (p .is)) (sym (q .is)) h) ∙ ap₂ remZ (p .is) (q .is) }
-
-  -- the tests
+  -- the tests `x < y` and `x <= y`, taken and left
   pub is-lt : ltZ (toZ w x) (toZ w y) ≡ true → a <ℤ b
   is-lt e = ltZ-true a b (ap₂ ltZ (sym (p .is)) (sym (q .is)) ∙ e)
 
@@ -131,10 +118,6 @@ module _ {w : Width} {x y : ℕ} {a b : ℤ} (p : Bits w x a) (q : Bits w y b) w
 
   pub is-gt : leZ (toZ w x) (toZ w y) ≡ false → b <ℤ a
   is-gt e = leZ-false a b (ap₂ leZ (sym (p .is)) (sym (q .is)) ∙ e)
-
--- a literal
-pub b-lit : (w : Width) (n : ℕ) {z : ℤ} → toZ w n ≡ z → Bits w n z
-b-lit w n e = record { is = e }
 
 -- the quoting of a local, by what its bits stand for
 abbrev pub q-bits : {l : List ℤ} {w : Width} {n : ℕ} {z : ℤ} → Bits w n z → Quote l z → Quote l (toZ w n)

@@ -1,14 +1,15 @@
 -- The order of ℤ: its laws, most by `lia`. Assumes nothing.
-use mathlib.Core.Path.{_≡_, refl, sym, ap, ap₂, _∙_, subst, subst₂}
+use mathlib.Core.Path.{_≡_, refl, sym, ap, _∙_}
 use mathlib.Core.Logic.{_⊎_, inl, inr, ⊎-elim}
 use mathlib.Core.Bool.{Bool, true, false, not}
-use mathlib.Core.List.{List, [], _∷_}
-use Prim.Native.Nat.{ℕ, zero, suc, _+_, _-_, _*_, _≤_, _<_}
+use mathlib.Core.List.{[], _∷_}
+use Prim.Native.Nat.{ℕ, zero, suc, _*_}
 use native.Mathlib.Omega.{arith}
 use native.Mathlib.Nat.{mul-pos}
-use lib.Dec.{T, leb, ltb, le→leb, lt→ltb, leb→le, ltb→lt, leb·zero}
-use lib.IntN.{ℤ, pos, negsuc, negℤ, _+ℤ_, _-ℤ_, _*ℤ_}
-use lib.Signed.{_≤ℤ_, _<ℤ_, leZ, ltZ, ltZ-yes, ltZ-no}
+use lib.Dec.{T, le→leb, lt→ltb, ltb→lt}
+use lib.IntN.{ℤ, pos, negsuc, natAbs, _+ℤ_, _-ℤ_, _*ℤ_}
+use lib.Signed.{_≤ℤ_, _<ℤ_, ltZ, ltZ-yes, ltZ-no}
+use Rattle.integers.specs.Size.{natAbs-mul, natAbs-zero}
 use Rattle.integers.specs.Lin.{le, lt, eq, lin, lia-le, lia-lt, lia-eq, lia-no}
 
 -- ---- a linear order
@@ -44,6 +45,12 @@ trichotomy a b = ⊎-elim inl (λ h. ⊎-elim (λ k. inr (inr k)) (λ k. inr (in
 -- ---- sums
 pub add-le : {a b c d : ℤ} → a ≤ℤ b → c ≤ℤ d → (a +ℤ c) ≤ℤ (b +ℤ d)
 add-le {a} {b} {c} {d} h k = lia-le (a ∷ b ∷ c ∷ d ∷ []) (le h ∷ le k ∷ []) (search lin depth 30) (omega arith)
+
+pub add-lt : {a b c d : ℤ} → a ≤ℤ b → c <ℤ d → (a +ℤ c) <ℤ (b +ℤ d)
+add-lt {a} {b} {c} {d} h k = lia-lt (a ∷ b ∷ c ∷ d ∷ []) (le h ∷ lt k ∷ []) (search lin depth 30) (omega arith)
+
+pub le-of-add-le : {a b : ℤ} (c : ℤ) → (a +ℤ c) ≤ℤ (b +ℤ c) → a ≤ℤ b
+le-of-add-le {a} {b} c h = lia-le (a ∷ b ∷ c ∷ []) (le h ∷ []) (search lin depth 30) (omega arith)
 
 pub sub-nonneg : {a b : ℤ} → a ≤ℤ b → pos 0 ≤ℤ (b -ℤ a)
 sub-nonneg {a} {b} h = lia-le (a ∷ b ∷ []) (le h ∷ []) (search lin depth 30) (omega arith)
@@ -81,6 +88,9 @@ mul-nonpos-nonpos {a} {b} h k = lia-le (a ∷ b ∷ []) (le (mul-nonneg (sub-non
 pub mul-neg-pos : {a b : ℤ} → a <ℤ pos 0 → pos 0 <ℤ b → (a *ℤ b) <ℤ pos 0
 mul-neg-pos {a} {b} h k = lia-lt (a ∷ b ∷ []) (lt (mul-pos-pos (sub-pos h) k) ∷ []) (search lin depth 30) (omega arith)
 
+pub mul-neg-neg : {a b : ℤ} → a <ℤ pos 0 → b <ℤ pos 0 → pos 0 <ℤ (a *ℤ b)
+mul-neg-neg {a} {b} h k = lia-lt (a ∷ b ∷ []) (lt (mul-pos-pos (sub-pos h) (sub-pos k)) ∷ []) (search lin depth 30) (omega arith)
+
 pub square-nonneg : (a : ℤ) → pos 0 ≤ℤ (a *ℤ a)
 square-nonneg (pos m) = pos-nonneg (m * m)
 square-nonneg (negsuc m) = pos-nonneg (suc m * suc m)
@@ -99,12 +109,6 @@ mul-cancel {a} {b} {c} h e =
     ≤ℤ-antisymm (le-of-mul-le h (lia-le (a ∷ b ∷ c ∷ []) (eq e ∷ []) (search lin depth 30) (omega arith)))
     (le-of-mul-le h (lia-le (a ∷ b ∷ c ∷ []) (eq e ∷ []) (search lin depth 30) (omega arith)))
 
--- ---- fractions with positive denominators, as a ratio test compares them: a / b ≤ c / d is a·d ≤ c·b
-pub ratio-trans : (a c e : ℤ) {b d f : ℤ} → pos 0 <ℤ b → pos 0 <ℤ d → pos 0 <ℤ f → (a *ℤ d) ≤ℤ (c *ℤ b) → (c *ℤ f) ≤ℤ (e *ℤ d) → (a *ℤ f) ≤ℤ (e *ℤ b)
-ratio-trans a c e {b} {d} {f} hb hd hf h k =
-    le-of-mul-le hd
-    (lia-le (a ∷ b ∷ c ∷ d ∷ e ∷ f ∷ []) (le (mul-le-right (<ℤ-≤ℤ hf) h) ∷ le (mul-le-right (<ℤ-≤ℤ hb) k) ∷ []) (search lin depth 30) (omega arith))
-
 -- ---- both sides times a number
 pub mul-le-left : {a b c : ℤ} → pos 0 ≤ℤ c → a ≤ℤ b → (c *ℤ a) ≤ℤ (c *ℤ b)
 mul-le-left {a} {b} {c} h k = lia-le (a ∷ b ∷ c ∷ []) (le (mul-le-right h k) ∷ []) (search lin depth 30) (omega arith)
@@ -112,27 +116,11 @@ mul-le-left {a} {b} {c} h k = lia-le (a ∷ b ∷ c ∷ []) (le (mul-le-right h 
 pub mul-ge-right : {a b c : ℤ} → c ≤ℤ pos 0 → a ≤ℤ b → (b *ℤ c) ≤ℤ (a *ℤ c)
 mul-ge-right {a} {b} {c} h k = lia-le (a ∷ b ∷ c ∷ []) (le (mul-nonneg (sub-nonneg h) (sub-nonneg k)) ∷ []) (search lin depth 30) (omega arith)
 
--- a product is 0 where a factor is, and only there
+-- a product is 0 only where a factor is
 pub mul-zero : {a b : ℤ} → a *ℤ b ≡ pos 0 → (a ≡ pos 0) ⊎ (b ≡ pos 0)
-mul-zero {a} {b} e = go (trichotomy a (pos 0)) (trichotomy b (pos 0))
+mul-zero {a} {b} e = go (natAbs a) (natAbs b) refl refl (sym (natAbs-mul a b) ∙ ap natAbs e)
   where
-    neg-neg : a <ℤ pos 0 → b <ℤ pos 0 → ⊥
-    neg-neg h k = lia-no (a ∷ b ∷ []) (lt (mul-pos-pos (sub-pos h) (sub-pos k)) ∷ eq e ∷ []) (search lin depth 30) (omega arith)
-
-    neg-pos : a <ℤ pos 0 → pos 0 <ℤ b → ⊥
-    neg-pos h k = lia-no (a ∷ b ∷ []) (lt (mul-pos-pos (sub-pos h) k) ∷ eq e ∷ []) (search lin depth 30) (omega arith)
-
-    pos-neg : pos 0 <ℤ a → b <ℤ pos 0 → ⊥
-    pos-neg h k = lia-no (a ∷ b ∷ []) (lt (mul-pos-pos h (sub-pos k)) ∷ eq e ∷ []) (search lin depth 30) (omega arith)
-
-    pos-pos : pos 0 <ℤ a → pos 0 <ℤ b → ⊥
-    pos-pos h k = lia-no (a ∷ b ∷ []) (lt (mul-pos-pos h k) ∷ eq e ∷ []) (search lin depth 30) (omega arith)
-
-    go : (a <ℤ pos 0) ⊎ ((a ≡ pos 0) ⊎ (pos 0 <ℤ a)) → (b <ℤ pos 0) ⊎ ((b ≡ pos 0) ⊎ (pos 0 <ℤ b)) → (a ≡ pos 0) ⊎ (b ≡ pos 0)
-    go (inr (inl z)) y = inl z
-    go (inl h) (inr (inl z)) = inr z
-    go (inr (inr h)) (inr (inl z)) = inr z
-    go (inl h) (inl k) = absurd (neg-neg h k)
-    go (inl h) (inr (inr k)) = absurd (neg-pos h k)
-    go (inr (inr h)) (inl k) = absurd (pos-neg h k)
-    go (inr (inr h)) (inr (inr k)) = absurd (pos-pos h k)
+    go : (m n : ℕ) → natAbs a ≡ m → natAbs b ≡ n → m * n ≡ 0 → (a ≡ pos 0) ⊎ (b ≡ pos 0)
+    go zero n p q z = inl (natAbs-zero a p)
+    go (suc m) zero p q z = inr (natAbs-zero b q)
+    go (suc m) (suc n) p q z = absurd (omega arith)

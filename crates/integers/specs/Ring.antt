@@ -1,12 +1,14 @@
--- A commutative-ring normaliser for ℤ. `ring l (search quote) (search quote) tt` proves `a ≡ b`, where l lists the atoms.
-use mathlib.Core.Path.{_≡_, refl, sym, ap, ap₂, _∙_, subst, subst₂}
+-- The ring solver of ℤ: `ring (a ∷ b ∷ c ∷ []) (search quote depth 30) tt : s ≡ t`, where the list has every atom of s and t, at most 24.
+-- `search` quotes the two sides as expressions, their difference is brought to a normal form, and `tt` is taken where that is nothing. Otherwise the refusal
+-- has `Differ ((c, x ∷ y ∷ []) ∷ ..)`: s − t is c·x·y + .. . An atom that the list lacks is refused as "no proof of `Quote ..`". Assumes nothing.
+use mathlib.Core.Path.{_≡_, refl, sym, ap, ap₂, _∙_}
 use mathlib.Core.List.{List, [], _∷_}
 use mathlib.Core.Bool.{Bool, true, false, cond}
-use Prim.Native.Nat.{ℕ, zero, suc, _+_, _-_, _*_, _≤_, _<_, compare, Ordering, Ordering·lt, Ordering·eq, Ordering·gt}
+use Prim.Native.Nat.{ℕ, zero, suc, _+_, _*_, compare, Ordering, Ordering·lt, Ordering·eq, Ordering·gt}
 use native.Mathlib.Numerals.{add-one}
-use lib.Dec.{T, leb, ltb, eqb, isEq, eqb→eq}
-use lib.IntN.{ℤ, pos, negsuc, negℤ, _+ℤ_, _-ℤ_, _*ℤ_, +ℤ-idl, +ℤ-idr, +ℤ-assoc, +ℤ-comm, +ℤ-invr, -ℤ-+ℤ-cancel, negℤ-+ℤ, zero-*ℤ, *ℤ-zero, *ℤ-comm}
-use Rattle.integers.specs.Z.{*ℤ-assoc, *ℤ-left-comm, *ℤ-+ℤ, +ℤ-*ℤ, negℤ-*ℤ, one-*ℤ, *ℤ-one′, shuffle-mul, shuffle-add, +ℤ-left-comm}
+use lib.Dec.{T, leb, isEq, eqb→eq}
+use lib.IntN.{ℤ, pos, negsuc, negℤ, _+ℤ_, _-ℤ_, _*ℤ_, +ℤ-idl, +ℤ-idr, +ℤ-assoc, -ℤ-+ℤ-cancel, negℤ-+ℤ, zero-*ℤ, *ℤ-zero}
+use Rattle.integers.specs.Z.{*ℤ-assoc, *ℤ-left-comm, *ℤ-+ℤ, +ℤ-*ℤ, negℤ-*ℤ, one-*ℤ, *ℤ-one′, shuffle-mul, +ℤ-left-comm}
 
 -- ---- expressions and their value
 pub data Expr : Type 0 where
@@ -102,10 +104,6 @@ norm (add a b) = addP (norm a) (norm b)
 norm (mul a b) = mulP (norm a) (norm b)
 norm (neg a) = negP (norm a)
 
-abbrev pub isNil : Poly → Bool
-isNil nil = true
-isNil (term c m p) = false
-
 -- ---- it is sound
 module _ (l : List ℤ) where
   consM : (x : ℕ) (m : List ℕ) → evalM l (x ∷ m) ≡ atom l x *ℤ evalM l m
@@ -189,16 +187,12 @@ module _ (l : List ℤ) where
   pub simplified : (e : Expr) → evalP l (clean (norm e)) ≡ eval l e
   simplified e = clean-is (norm e) ∙ norm-is e
 
-  nil-is : (p : Poly) → T (isNil p) → evalP l p ≡ pos 0
-  nil-is nil t = refl
-  nil-is (term c m p) t = absurd t
-
 -- ---- quoting: `search quote` finds the expression
 pub record Quote (l : List ℤ) (z : ℤ) : Type 0 where
   pub e : Expr
   pub is : eval l e ≡ z
 
--- the atoms, by their places in the list
+-- the atoms, by their places in the list: a rule for each, as one that walks along the list takes `search` past its bound at nine atoms
 abbrev pub q0 : {z : ℤ} {l : List ℤ} → Quote (z ∷ l) z
 q0 = record { e = var 0; is = refl }
 
@@ -313,11 +307,31 @@ pair x y = record { left = x; right = y }
 
 pub ruleset quote = (tt, pair, q-mul, q-add, q-neg, q0, q1, q2, q3, q4, q5, q6, q7, q8, q9, q10, q11, q12, q13, q14, q15, q16, q17, q18, q19, q20, q21, q22, q23, q-pos, q-negsuc, q-nadd, q-nmul, q-suc, q-below)
 
+-- ---- the verdict
+-- what is left of a difference: sums of a coefficient times atoms. Nothing proves it
+pub record Differ (left : List (ℤ × List ℤ)) : Type 0 where
+  pub never : ⊥
+
+abbrev pub atoms : List ℤ → List ℕ → List ℤ
+atoms l [] = []
+atoms l (x ∷ m) = atom l x ∷ atoms l m
+
+abbrev pub terms : List ℤ → Poly → List (ℤ × List ℤ)
+terms l nil = []
+terms l (term c m p) = (c, atoms l m) ∷ terms l p
+
+abbrev pub Same : List ℤ → Poly → Type 0
+Same l nil = Unit {0}
+Same l (term c m p) = Differ (terms l (term c m p))
+
+same-is : (l : List ℤ) (p : Poly) → Same l p → evalP l p ≡ pos 0
+same-is l nil t = refl
+same-is l (term c m p) t = absurd (t .never)
+
 cancel : (a b : ℤ) → a -ℤ b ≡ pos 0 → a ≡ b
 cancel a b h = sym (-ℤ-+ℤ-cancel a b) ∙ ap (λ (z : ℤ). z +ℤ b) h ∙ +ℤ-idl b
 
--- `ring (a ∷ b ∷ c ∷ []) (search quote depth 30) tt : s ≡ t`, with each atom of s and t in the list
-pub ring : (l : List ℤ) {a b : ℤ} (q : Pair l a b) → T (isNil (clean (norm (add (q .left .e) (neg (q .right .e)))))) → a ≡ b
+pub ring : (l : List ℤ) {a b : ℤ} (q : Pair l a b) → Same l (clean (norm (add (q .left .e) (neg (q .right .e))))) → a ≡ b
 ring l {a} {b} q t =
     let d = add (q .left .e) (neg (q .right .e)) in
-    cancel a b (ap₂ (λ (u v : ℤ). u -ℤ v) (sym (q .left .is)) (sym (q .right .is)) ∙ sym (simplified l d) ∙ nil-is l (clean (norm d)) t)
+    cancel a b (ap₂ (λ (u v : ℤ). u -ℤ v) (sym (q .left .is)) (sym (q .right .is)) ∙ sym (simplified l d) ∙ same-is l (clean (norm d)) t)

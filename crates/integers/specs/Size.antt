@@ -1,18 +1,17 @@
 -- The size of an integer, `natAbs`, and bounds by it: `Within n z`. Bounds go through sums, products and the width's range. Assumes nothing.
-use mathlib.Core.Path.{_≡_, refl, sym, ap, ap₂, _∙_, subst, subst₂}
-use mathlib.Core.Logic.{_⊎_, inl, inr, ⊎-elim}
-use mathlib.Core.List.{List, [], _∷_}
-use Prim.Native.Nat.{ℕ, zero, suc, _+_, _-_, _*_, _^_, _≤_, _<_}
+use mathlib.Core.Path.{_≡_, refl, ap, subst}
+use mathlib.Core.List.{[], _∷_}
+use Prim.Native.Nat.{ℕ, zero, suc, _+_, _-_, _*_, _/_, _^_, _≤_, _<_}
 use native.Mathlib.Omega.{arith}
-use native.Mathlib.Nat.{mul-le-mul, le-trans, lt-of-le-of-lt, le-of-eq, pow-suc}
+use native.Mathlib.Nat.{mul-le-mul, le-trans, lt-of-lt-of-le, le-of-eq, lt-irrefl}
 use lib.Dec.{lit<}
-use lib.Pow.{pow-pos, pow-add}
+use lib.Pow.{pow-pos, pow-add, pow-mono}
 use lib.IntN.{ℤ, pos, negsuc, negℤ, natAbs, _+ℤ_, _-ℤ_, _*ℤ_}
 use lib.Signed.{_≤ℤ_, _<ℤ_, mag}
 use mir.Syntax.{Width, w8, w16, w32, w64, w128}
-use mir.Val.{SFits, hbits}
+use mir.Val.{SFits, hbits, bits}
 use Rattle.integers.specs.Z.{Within}
-use Rattle.integers.specs.Lin.{le, lt, eq, fits, abs, lin, lia-le, lia-lt, lia-eq, lia-no, lia-abs, lia-fits, lia-nat}
+use Rattle.integers.specs.Lin.{le, lt, fits, abs, lin, lia-le, lia-no, lia-abs, lia-fits, lia-nat}
 
 -- ---- natAbs
 pub natAbs-neg : (z : ℤ) → natAbs (negℤ z) ≡ natAbs z
@@ -61,6 +60,9 @@ within-neg {n} {z} h = record { size = le-trans (le-of-eq (natAbs-neg z)) (h .si
 pub within-add : {m n : ℕ} {a b : ℤ} → Within m a → Within n b → Within (m + n) (a +ℤ b)
 within-add {m} {n} {a} {b} h k = lia-abs (a ∷ b ∷ []) (abs h ∷ abs k ∷ []) (search lin depth 30) (omega arith)
 
+pub natAbs-add : (a b : ℤ) → natAbs (a +ℤ b) ≤ natAbs a + natAbs b
+natAbs-add a b = within-add (within-self a) (within-self b) .size
+
 pub within-sub : {m n : ℕ} {a b : ℤ} → Within m a → Within n b → Within (m + n) (a -ℤ b)
 within-sub {m} {n} {a} {b} h k = lia-abs (a ∷ b ∷ []) (abs h ∷ abs k ∷ []) (search lin depth 30) (omega arith)
 
@@ -83,45 +85,81 @@ within-fits {w} {n} {z} h k = lia-fits (z ∷ []) (abs k ∷ []) (search lin dep
 pub fits-within : {w : Width} {z : ℤ} → SFits w z → Within (2 ^ hbits w) z
 fits-within {w} {z} h = lia-abs (z ∷ []) (fits h ∷ []) (search lin depth 30) (omega arith)
 
--- ---- the width as a parameter: a·b − c·d of numbers of half the bits, less the sign
--- the half: `W/2 - 1` of W bits
-abbrev pub half : Width → ℕ
-half w8 = 3
-half w16 = 7
-half w32 = 15
-half w64 = 31
-half w128 = 63
+-- ---- the word size as a parameter (document 000, section 2.1, equation (1): MAXDI, and the claim on `linint` and `qpiv` after it)
+-- numbers within `bound W` have products, and sums and differences of two products, that W bits hold
+abbrev pub bound : ℕ → ℕ
+bound W = 2 ^ (W / 2 - 1) - 1
 
-half-is : (w : Width) → hbits w ≡ half w + half w + 1
-half-is w8 = refl
-half-is w16 = refl
-half-is w32 = refl
-half-is w64 = refl
-half-is w128 = refl
+bound-below : (W : ℕ) → bound W < 2 ^ (W / 2 - 1)
+bound-below W = let p = pow-pos (W / 2 - 1) in omega arith
 
-two-squares : (k : ℕ) → (2 ^ k - 1) * (2 ^ k - 1) + (2 ^ k - 1) * (2 ^ k - 1) < 2 ^ (k + k + 1)
-two-squares k = subst (λ (x : ℕ). (2 ^ k - 1) * (2 ^ k - 1) + (2 ^ k - 1) * (2 ^ k - 1) < x) (sym (pow-add 2 (k + k) 1 ∙ ap (λ (x : ℕ). x * 2 ^ 1) (pow-add 2 k k))) (go (2 ^ k) (pow-pos k))
-  where
-    go : (K : ℕ) → 0 < K → (K - 1) * (K - 1) + (K - 1) * (K - 1) < K * K * 2 ^ 1
-    go (suc K) h = let e : K ≡ suc K - 1 = omega arith in subst (λ (x : ℕ). x * x + x * x < suc K * suc K * 2) e (omega arith)
+two-squares : (n K : ℕ) → n < K → n * n + n * n < K * K + K * K
+two-squares n zero h = absurd (omega arith)
+two-squares n (suc K) h = let q : n * n ≤ K * K = let l : n ≤ K = omega arith in mul-le-mul l l in omega arith
 
-pub two-squares-fit : (w : Width) → (2 ^ half w - 1) * (2 ^ half w - 1) < 2 ^ hbits w
-two-squares-fit w = let h = subst (λ (x : ℕ). (2 ^ half w - 1) * (2 ^ half w - 1) + (2 ^ half w - 1) * (2 ^ half w - 1) < 2 ^ x) (sym (half-is w)) (two-squares (half w)) in omega arith
+two-powers : (W : ℕ) → 2 ≤ W → 2 ^ (W / 2 - 1) * 2 ^ (W / 2 - 1) + 2 ^ (W / 2 - 1) * 2 ^ (W / 2 - 1) ≤ 2 ^ (W - 1)
+two-powers W h =
+    let k = W / 2 - 1 in let l : k + k + 1 ≤ W - 1 = omega arith in let m = pow-mono l in
+    let e = pow-add 2 (k + k) 1 in let f = pow-add 2 k k in omega arith
 
-pub half-fits : (w : Width) → 2 ^ half w - 1 < 2 ^ hbits w
-half-fits w8 = lit< tt
-half-fits w16 = lit< tt
-half-fits w32 = lit< tt
-half-fits w64 = lit< tt
-half-fits w128 = lit< tt
+room : (W : ℕ) → 2 ≤ W → bound W * bound W + bound W * bound W < 2 ^ (W - 1)
+room W h = lt-of-lt-of-le (two-squares (bound W) (2 ^ (W / 2 - 1)) (bound-below W)) (two-powers W h)
 
-pub det-fits : (w : Width) {a b c d : ℤ} → Within (2 ^ half w - 1) a → Within (2 ^ half w - 1) b → Within (2 ^ half w - 1) c → Within (2 ^ half w - 1) d → SFits w (a *ℤ b -ℤ c *ℤ d)
-det-fits w ha hb hc hd =
-    within-fits (subst (λ (x : ℕ). (2 ^ half w - 1) * (2 ^ half w - 1) + (2 ^ half w - 1) * (2 ^ half w - 1) < 2 ^ x) (sym (half-is w)) (two-squares (half w)))
-    (within-sub (within-mul ha hb) (within-mul hc hd))
+-- what `a * b - c * d` and `a * b + c * d` compute, each with the property P
+pub record Products (P : ℤ → Type 0) (a b c d : ℤ) : Type 0 where
+  pub left : P (a *ℤ b)
+  pub right : P (c *ℤ d)
+  pub difference : P (a *ℤ b -ℤ c *ℤ d)
+  pub sum : P (a *ℤ b +ℤ c *ℤ d)
 
-pub det-fits-64 : {a b c d : ℤ} → Within 2147483647 a → Within 2147483647 b → Within 2147483647 c → Within 2147483647 d → SFits w64 (a *ℤ b -ℤ c *ℤ d)
-det-fits-64 ha hb hc hd = det-fits w64 ha hb hc hd
+module _ {a b c d : ℤ} where
+  pub products : (W : ℕ) → 2 ≤ W → Within (bound W) a → Within (bound W) b → Within (bound W) c → Within (bound W) d → Products (Within (2 ^ (W - 1) - 1)) a b c d
+  products W h ha hb hc hd =
+      let r = room W h in let x = within-mul ha hb in let y = within-mul hc hd in
+      record {
+        left = within-mono (omega arith) x;
+        right = within-mono (omega arith) y;
+        difference = within-mono (omega arith) (within-sub x y);
+        sum = within-mono (omega arith) (within-add x y);
+      }
+
+  -- at a width of the machine
+  pub products-fit : (w : Width) → Within (bound (bits w)) a → Within (bound (bits w)) b → Within (bound (bits w)) c → Within (bound (bits w)) d → Products (SFits w) a b c d
+  products-fit w ha hb hc hd =
+      let p = products (bits w) (wide w) ha hb hc hd in
+      record { left = fit (p .left); right = fit (p .right); difference = fit (p .difference); sum = fit (p .sum) }
+    where
+      wide : (w : Width) → 2 ≤ bits w
+      wide w8 = omega arith
+      wide w16 = omega arith
+      wide w32 = omega arith
+      wide w64 = omega arith
+      wide w128 = omega arith
+
+      fit : {z : ℤ} → Within (2 ^ (bits w - 1) - 1) z → SFits w z
+      fit h = within-fits (below w) h
+        where
+          below : (w : Width) → 2 ^ (bits w - 1) - 1 < 2 ^ hbits w
+          below w8 = lit< tt
+          below w16 = lit< tt
+          below w32 = lit< tt
+          below w64 = lit< tt
+          below w128 = lit< tt
+
+pub bound-fits : (w : Width) → bound (bits w) < 2 ^ hbits w
+bound-fits w8 = lit< tt
+bound-fits w16 = lit< tt
+bound-fits w32 = lit< tt
+bound-fits w64 = lit< tt
+bound-fits w128 = lit< tt
+
+-- the bound is the largest: one more, and a · b − c · d does not fit
+pub bound-most : (w : Width) → let k = pos (bound (bits w) + 1) in SFits w (k *ℤ k -ℤ negℤ k *ℤ k) → ⊥
+bound-most w8 h = lt-irrefl _ (h .sfits)
+bound-most w16 h = lt-irrefl _ (h .sfits)
+bound-most w32 h = lt-irrefl _ (h .sfits)
+bound-most w64 h = lt-irrefl _ (h .sfits)
+bound-most w128 h = lt-irrefl _ (h .sfits)
 
 -- a measure: from 0 on, the size grows with the number
 pub natAbs-lt : {a b : ℤ} → pos 0 ≤ℤ a → a <ℤ b → natAbs a < natAbs b

@@ -7,12 +7,12 @@ use native.Mathlib.Nat.{lt-of-le-of-lt, mul-le-mul, le-refl}
 use native.Mathlib.Omega.{arith}
 use native.Mathlib.Numerals.{add-one}
 use lib.ListN.{length, getD}
-use lib.IntN.{ℤ, pos, negsuc, _+ℤ_, _-ℤ_, _*ℤ_, +ℤ-idl, +ℤ-assoc, +ℤ-idr}
+use lib.IntN.{ℤ, pos, _+ℤ_, _-ℤ_, _*ℤ_}
 use lib.Signed.{_≤ℤ_, _<ℤ_, ≤ℤ-refl}
 use Rattle.integers.specs.Z.{Within}
 use Rattle.integers.specs.Ring.{ring, quote}
-use Rattle.integers.specs.Lin.{le, lt, eq, lin, lia-eq, lia-le, lia-no}
-use Rattle.integers.specs.Order.{add-le, mul-nonneg, sub-nonneg}
+use Rattle.integers.specs.Lin.{le, lt, eq, lin, lia-no}
+use Rattle.integers.specs.Order.{add-le, mul-le-left}
 use Rattle.integers.specs.Size.{within-add, within-mul, within-mono, within-fits, fits-within}
 use mir.Syntax.{Width}
 use mir.Val.{SFits, hbits}
@@ -115,6 +115,18 @@ dot-is [] (x ∷ xs) h = absurd (omega arith)
 dot-is (a ∷ us) [] h = sum-zero _
 dot-is (a ∷ us) (x ∷ xs) h = dot-front (length xs) a x us xs ∙ ap (λ (z : ℤ). a *ℤ x +ℤ z) (dot-is us xs (omega arith))
 
+pub dot-size : {A X : ℕ} {a x : List ℤ} → AllWithin A a → AllWithin X x → length x ≤ length a → Within (length x * (A * X)) (dot a x)
+dot-size {A} {X} {a} {x} h k l = subst (Within (length x * (A * X))) (dot-is a x l) (dot-within h k (length x))
+
+-- what membership and the search work out: a constant and a sum over the axes (a division's numerator), and with a sum over the divisions (a constraint's value)
+module _ {C A X : ℕ} {c : ℤ} {a x : List ℤ} (hc : Within C c) (ha : AllWithin A a) (hx : AllWithin X x) (l : length x ≤ length a) where
+  pub numerator-within : Within (C + length x * (A * X)) (c +ℤ dot a x)
+  numerator-within = within-add hc (dot-size ha hx l)
+
+  pub value-within : {Q : ℕ} {e q : List ℤ} → AllWithin A e → AllWithin Q q → length q ≤ length e
+      → Within (C + (length x * (A * X) + length q * (A * Q))) (c +ℤ (dot a x +ℤ dot e q))
+  value-within he hq m = within-add hc (within-add (dot-size ha hx l) (dot-size he hq m))
+
 -- what the sum asks at width w, with coefficients of width v: a coefficient for each coordinate, and coordinates so small that it fits
 pub record DotFits (v w : Width) (a x : List ℤ) : Type 0 where
   pub bound : ℕ
@@ -182,11 +194,8 @@ farkas m n a b y x rows nonneg none less =
     B : ℤ
     B = sumTo m (λ i. y i *ℤ b i)
 
-    times : (c u v : ℤ) → pos 0 ≤ℤ c → u ≤ℤ v → (c *ℤ u) ≤ℤ (c *ℤ v)
-    times c u v h k = lia-le (c ∷ u ∷ v ∷ []) (le (mul-nonneg h (sub-nonneg k)) ∷ []) (search lin depth 30) (omega arith)
-
     below : S ≤ℤ B
-    below = sum-le m (λ i. y i *ℤ dotTo n (a i) x) (λ i. y i *ℤ b i) (λ i l. times (y i) (dotTo n (a i) x) (b i) (nonneg i l) (rows i l))
+    below = sum-le m (λ i. y i *ℤ dotTo n (a i) x) (λ i. y i *ℤ b i) (λ i l. mul-le-left (nonneg i l) (rows i l))
 
     regroup : (c u v : ℤ) → c *ℤ (u *ℤ v) ≡ v *ℤ (c *ℤ u)
     regroup c u v = ring (c ∷ u ∷ v ∷ []) (search quote depth 30) tt

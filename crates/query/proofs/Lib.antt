@@ -1,3 +1,10 @@
 pub mod Walks
 pub mod Searched
 pub mod Held
+pub mod Tallied
+pub mod Reading
+pub mod Standing
+pub mod Holding
+pub mod Points
+pub mod Answers
+pub mod Means

@@ -1,3 +1,4 @@
 pub mod Writing
 pub mod LineTexts
 pub mod Steps
+pub mod Stored

@@ -4,3 +4,6 @@ pub mod Exchange
 pub mod Start
 pub mod Points
 pub mod Verdicts
+pub mod Lines
+pub mod Moves
+pub mod Far

@@ -1,5 +1,5 @@
 -- `integers::little_endian::i16_at` meets its contract. Assumes nothing.
-use mathlib.Core.Path.{_≡_, refl, ap, _∙_}
+use mathlib.Core.Path.{refl, ap, _∙_}
 use mir.Syntax.{w16, w64}
 use borrow.Author.Needs.{needs}
 use Rattle.integers.specs.Mach.{result-is, toZ-ofZ}

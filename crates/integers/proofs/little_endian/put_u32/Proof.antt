@@ -1,7 +1,7 @@
 -- `integers::little_endian::put_u32` meets its contract: two halves, one after the other. Assumes nothing.
 use native.Mathlib.Omega.{arith}
-use mathlib.Core.List.{List, [], _∷_, _++_}
-use mathlib.Core.Path.{_≡_, refl, sym, ap, ap₂, _∙_}
+use mathlib.Core.List.{List}
+use mathlib.Core.Path.{_≡_, sym, ap, _∙_}
 use Prim.Native.Nat.{ℕ, _+_, _*_, _/_, _%_}
 use borrow.Author.Needs.{needs}
 use Rattle.integers.specs.LittleEndian.{bytesOf, put, put-more, bytes-parts}

@@ -13,8 +13,8 @@ use Rattle.codec.specs.Bytes.{valueOf, signed, signedList, readDivision,
 use Rattle.codec.specs.Places.{Opened, Decoded}
 use Rattle.model.specs.Values.{divisionOf, constraintOf}
 use borrow.Author.Needs.{needs}
-use Rattle.codec.proofs.decoding.code.Statement.{statement}
-use Rattle.codec.proofs.decoding.code.Tie as tie
+use Rattle.codec.proofs.readers.code.Statement.{statement}
+use Rattle.codec.proofs.readers.code.Tie as tie
 
 shared-slice-read-result : tie.Need-shared-slice-read-result
 shared-slice-read-result c = search needs

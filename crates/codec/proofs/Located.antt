@@ -1,0 +1,165 @@
+-- Where the basic sets of checked bytes stand.
+use mathlib.Core.Path.{_≡_, refl, sym, ap, ap₂, _∙_, subst}
+use mathlib.Core.Bool.{Bool, true, false, cond}
+use mathlib.Core.List.{List, [], _∷_, _++_}
+use Prim.Native.Nat.{ℕ, zero, suc, _+_, _-_, _*_, _≤_, _<_}
+use native.Mathlib.Numerals.{add-one}
+use native.Mathlib.Omega.{arith}
+use lib.Dec.{ltb}
+use lib.ListN.{length, take, drop, getD, length-append, length-drop, take-append-drop, drop-of-length-le}
+use lib.Seq.{take-all, drop-drop, drop-cons, take-suc, length-take-le}
+use borrow.Author.Tests.{lt-ltb, le-ltb, ltb-true, ltb-false, eqb-true, eqb-false}
+use lib.Dec.{eqb}
+use Rattle.model.specs.Sets.{BasicSet, Set}
+use Rattle.codec.specs.Bytes.{Answer, refused, gives, Command, division, constraint, Counts, counted, readCommand, readDivision, readConstraint, kindOf, widthOf, Built, encode, decode, number}
+use Rattle.codec.specs.Places.{built, basicAt, setFrom, endOf, Checked, Accepted, Opened, opened, Boundary}
+use Rattle.codec.specs.Parts.{Part, nowhere, partAt, partIn, partOf, held, Started}
+use Rattle.codec.proofs.Parsing.{read-opens, read-division, read-constraint, width-division, width-constraint}
+use Rattle.codec.proofs.Decoded.{Bytes}
+use Rattle.codec.proofs.Walking.{added, Head, head, inside-of, built-end}
+use Rattle.codec.proofs.Boundaries.{boundary-start, boundary-end, boundary-opened, boundary-next, boundary-set, decode-is}
+use Rattle.codec.proofs.RoundTrips.{boundary-encode, basic-size, basic-bytes}
+use Rattle.codec.proofs.Emitting.{encode-more}
+
+-- ---- to the end of a basic set, command by command
+pub record Ending (s : List ℕ) (first at : ℕ) : Type 0 where
+  pub n : ℕ
+  pub k : Counts
+  pub here : Checked n s at k
+  pub same : endOf s at ≡ endOf s first
+
+pub ending-start : (s : List ℕ) (at : ℕ) → Opened s at → Ending s at at
+ending-start s at o = record { n = o .n; k = opened (o .basics); here = o .here; same = refl }
+
+module _ (s : List ℕ) (first at : ℕ) (e : Ending s first at) where
+  -- a division or a constraint: its width goes on
+  pub ending-next : 17 < getD s at 0 → Ending s first (at + widthOf (getD s at 0)) × (0 < widthOf (getD s at 0))
+  ending-next g =
+      let l = inside-of s at (getD s at 0) refl (omega arith) in
+      let h = head (e .n) s at (e .k) (widthOf (getD s at 0)) (e .here) l refl in
+      (record { n = e .n; k = counted (e .k) (readCommand (getD s at 0) (drop (at + 1) s)); here = h .there; same = by h (eqb (getD s at 0) 18) refl ∙ e .same }, h .wide)
+    where
+      by : Head (e .n) s at (e .k) (widthOf (getD s at 0)) → (x : Bool) → eqb (getD s at 0) 18 ≡ x → endOf s (at + widthOf (getD s at 0)) ≡ endOf s at
+      by h true q =
+          let i = eqb-true (getD s at 0) 18 q in let w = width-division (getD s at 0) i in
+          let b = h .builds ∙ ap (λ (y : Command). added y (built (drop (at + widthOf (getD s at 0)) s))) (read-division (getD s at 0) (drop (at + 1) s) i) in
+          omega (arith, ap (λ (x : Built). length (x .divisions)) b, ap (λ (x : Built). length (x .constraints)) b)
+      by h false q =
+          let i = eqb-false (getD s at 0) 18 q in let o = h .wide in let j : getD s at 0 ≡ 17 → ⊥ = λ z. omega arith in
+          let w = width-constraint (getD s at 0) j i (λ z. omega arith) in
+          let b = h .builds ∙ ap (λ (y : Command). added y (built (drop (at + widthOf (getD s at 0)) s))) (read-constraint (getD s at 0) (drop (at + 1) s) j i) in
+          omega (arith, ap (λ (x : Built). length (x .divisions)) b, ap (λ (x : Built). length (x .constraints)) b)
+
+  -- another `11`, or the end
+  pub ending-end : getD s at 0 ≤ 17 → at ≡ endOf s first
+  ending-end g = go (ltb at (length s)) refl ∙ e .same
+    where
+      go : (x : Bool) → ltb at (length s) ≡ x → at ≡ endOf s at
+      go false q = let b = built-end s at (ltb-false at (length s) q) in omega (arith, ap (λ (x : Built). length (x .divisions)) b, ap (λ (x : Built). length (x .constraints)) b)
+      go true q = byte (eqb (getD s at 0) 17) refl
+        where
+          h : Head (e .n) s at (e .k) (widthOf (getD s at 0))
+          h = head (e .n) s at (e .k) (widthOf (getD s at 0)) (e .here) (ltb-true at (length s) q) refl
+
+          byte : (x : Bool) → eqb (getD s at 0) 17 ≡ x → at ≡ endOf s at
+          byte true p =
+              let b = h .builds ∙ ap (λ (y : Command). added y (built (drop (at + widthOf (getD s at 0)) s))) (read-opens (getD s at 0) (drop (at + 1) s) (eqb-true (getD s at 0) 17 p)) in
+              omega (arith, ap (λ (x : Built). length (x .divisions)) b, ap (λ (x : Built). length (x .constraints)) b)
+          byte false p =
+              let i = eqb-false (getD s at 0) 17 p in let o = h .wide in
+              let w = width-constraint (getD s at 0) i (λ z. omega arith) (λ z. omega arith) in
+              absurd (low (getD s at 0) w g)
+            where
+              low : (b : ℕ) → widthOf b ≡ 37 → b ≤ 17 → ⊥
+              low b w l =
+                  let x : eqb b 19 ≡ false = borrow.Author.Tests.ne-eqb b 19 (λ z. omega arith) in let y : eqb b 20 ≡ false = borrow.Author.Tests.ne-eqb b 20 (λ z. omega arith) in
+                  let u : eqb b 18 ≡ false = borrow.Author.Tests.ne-eqb b 18 (λ z. omega arith) in
+                  at17 (eqb b 17) refl x y u
+                where
+                  at17 : (t : Bool) → eqb b 17 ≡ t → eqb b 19 ≡ false → eqb b 20 ≡ false → eqb b 18 ≡ false → ⊥
+                  at17 true t x y u = let z : widthOf b ≡ 1 = simp t in omega arith
+                  at17 false t x y u = let z : widthOf b ≡ 0 = simp (t, u, x, y) in omega arith
+
+-- ---- basic set number i
+pub started-first : (s : List ℕ) → Accepted s → Started s 0 0
+unfolding encode
+started-first s a = record { n = a .n; there = boundary-start (a .n) s (a .accepted); set = refl; place = refl }
+
+module _ (s : List ℕ) (i at : ℕ) (p : Bytes s) (t : Started s i at) where
+  pub started-next : at < length s → Started s (i + 1) (endOf s (at + 1))
+  started-next h =
+      let S : Set = setFrom s 0 in
+      let b = basicAt s (at + 1) in
+      let e : drop i S ≡ b ∷ setFrom s (endOf s (at + 1)) = sym (t .set) ∙ boundary-set (t .n) s at (t .there) h in
+      let l : i < length S = let x = length-drop i S in let y = ap length e in omega arith in
+      let c : drop i S ≡ getD S i b ∷ drop (i + 1) S = drop-cons S i b l ∙ ap (λ (j : ℕ). getD S i b ∷ drop j S) (sym (add-one i)) in
+      let f : getD S i b ∷ drop (i + 1) S ≡ b ∷ setFrom s (endOf s (at + 1)) = sym c ∙ e in
+      let g : getD S i b ≡ b = cc in
+      let k : take (i + 1) S ≡ take i S ++ b ∷ [] = ap (λ (j : ℕ). take j S) (add-one i) ∙ take-suc S i b l ∙ ap (λ (x : BasicSet). take i S ++ x ∷ []) g in
+      let z = basic-size (t .n) s at p (t .there) h in let q = t .place in
+      let m : length (encode (take (i + 1) S)) ≡ length (encode (take i S)) + length (encode (b ∷ [])) = ap (λ (r : Set). length (encode r)) k ∙ ap length (encode-more (take i S) (b ∷ [])) ∙ length-append (encode (take i S)) (encode (b ∷ [])) in
+      record { n = t .n; there = boundary-next (t .n) s at (t .there) h; set = cc; place = omega arith }
+
+  -- there are no more
+  pub started-last : (j : ℕ) → length s ≤ at → i ≤ j → Started s j at
+  started-last j h l =
+      let S : Set = setFrom s 0 in
+      let e : drop i S ≡ [] = sym (t .set) ∙ boundary-end s at h in
+      let n : length S ≤ i = let x = length-drop i S in let y = ap length e in omega arith in
+      let m : length S ≤ j = omega arith in
+      record {
+        n = t .n;
+        there = t .there;
+        set = boundary-end s at h ∙ sym (drop-of-length-le S m);
+        place = t .place ∙ ap (λ (r : Set). length (encode r)) (take-all i S n ∙ sym (take-all j S m));
+      }
+
+  pub started-none : (n : ℕ) → number (decode n s) ≡ 0 → length s ≤ at → partOf n s (i + 1) ≡ nowhere
+  unfolding partOf
+  started-none n z h =
+      let S : Set = setFrom s 0 in
+      let e : drop i S ≡ [] = sym (t .set) ∙ boundary-end s at h in
+      let l : length S ≤ i = let x = length-drop i S in let y = ap length e in omega arith in
+      ap₂ partIn (decode-is n s z) (add-one i) ∙ ap (λ (b : Bool). cond b (partAt S i) nowhere) (le-ltb i (length S) l)
+
+  pub started-part : (n : ℕ) → number (decode n s) ≡ 0 → at < length s → partOf n s (i + 1) ≡ record { place = at; size = endOf s (at + 1) - at }
+  unfolding partOf
+  started-part n z h =
+      let S : Set = setFrom s 0 in
+      let b = basicAt s (at + 1) in
+      let e : drop i S ≡ b ∷ setFrom s (endOf s (at + 1)) = sym (t .set) ∙ boundary-set (t .n) s at (t .there) h in
+      let l : i < length S = let x = length-drop i S in let y = ap length e in omega arith in
+      let d : take 1 (drop i S) ≡ b ∷ [] = ap (take 1) e in
+      ap₂ partIn (decode-is n s z) (add-one i) ∙ ap (λ (c : Bool). cond c (partAt S i) nowhere) (lt-ltb i (length S) l)
+      ∙ ap₂ (λ (x y : ℕ). record { place = x; size = y }) (sym (t .place)) (ap (λ (r : Set). length (encode r)) d ∙ basic-size (t .n) s at p (t .there) h)
+
+-- ---- the count
+pub record Counting (s : List ℕ) (at k : ℕ) : Type 0 where
+  pub n : ℕ
+  pub there : Boundary n s at
+  pub few : k ≤ at
+  pub total : k + length (setFrom s at) ≡ length (setFrom s 0)
+
+pub counting-start : (s : List ℕ) → Accepted s → Counting s 0 0
+counting-start s a = record { n = a .n; there = boundary-start (a .n) s (a .accepted); few = omega arith; total = omega arith }
+
+pub counting-next : (s : List ℕ) (at k : ℕ) → Counting s at k → at < length s → Counting s (endOf s (at + 1)) (k + 1)
+counting-next s at k c h =
+    let e = ap length (boundary-set (c .n) s at (c .there) h) in let t = c .total in let f = c .few in
+    record { n = c .n; there = boundary-next (c .n) s at (c .there) h; few = omega arith; total = omega arith }
+
+pub part-refused : (n : ℕ) (s : List ℕ) (k : ℕ) → (number (decode n s) ≡ 0 → ⊥) → partOf n s k ≡ nowhere
+unfolding partOf
+part-refused n s k h = by (decode n s) refl
+  where
+    by : (a : Answer Set) → decode n s ≡ a → partIn (decode n s) k ≡ nowhere
+    by (refused m) e = ap (λ (a : Answer Set). partIn a k) e
+    by (gives t) e = absurd (h (ap number e))
+
+pub part-zero : (n : ℕ) (s : List ℕ) → partOf n s 0 ≡ nowhere
+unfolding partOf
+part-zero n s = by (decode n s)
+  where
+    by : (a : Answer Set) → partIn a 0 ≡ nowhere
+    by (refused m) = refl
+    by (gives t) = refl

@@ -1,0 +1,92 @@
+-- What is decoded from checked bytes encodes to those bytes, and what is encoded decodes to what it was: for each basic set.
+use mathlib.Core.Path.{_≡_, refl, sym, ap, ap₂, _∙_, subst}
+use mathlib.Core.List.{List, [], _∷_, _++_, map, append-assoc, append-nil}
+use Prim.Native.Nat.{ℕ, zero, suc, _+_, _-_, _*_, _≤_, _<_}
+use native.Mathlib.Omega.{arith}
+use lib.Dec.{T}
+use lib.ListN.{length, take, drop, length-append, length-drop}
+use lib.Seq.{take-at}
+use Rattle.model.specs.Lists.{concatMap}
+use Rattle.model.specs.Sets.{Division, Constraint, BasicSet, Set}
+use Rattle.model.specs.Values.{basicSetOf}
+use Rattle.model.specs.declared.BasicSet.{BasicSet as Value}
+use Rattle.codec.specs.Bytes.{gives, Command, division, constraint, encodeCommand, commands, encode, signedBytes, Built, axesFit, decode, number}
+use Rattle.codec.specs.Places.{commandsOf, built, basicAt, setFrom, endOf, after, Decoded, Boundary}
+use Rattle.codec.specs.Writing.{put, Emitted}
+use Rattle.codec.proofs.Decoded.{Bytes, bytes-back, commands-back}
+use Rattle.codec.proofs.Walking.{accepted-parsed, checked-unrefused}
+use Rattle.codec.proofs.Boundaries.{boundary-start, boundary-opened, boundary-next, boundary-set, decode-is}
+use Rattle.codec.proofs.Valid.{All, ValidDivision, ValidConstraint, Valid, valid-decodes, boundary-valid}
+use Rattle.codec.proofs.Emitting.{coefficients-length, concat-map, concat-more, encode-more}
+
+-- ---- how long a basic set is
+concat-size : {A : Type 0} (f : A → List ℕ) (P : A → Type 0) (w : ℕ) → ((a : A) → P a → length (f a) ≡ w) → (l : List A) → All P l → length (concatMap f l) ≡ w * length l
+concat-size f P w h [] p = sym (native.Mathlib.Nat.mul-zero w)
+concat-size f P w h (a ∷ l) p =
+    length-append (f a) (concatMap f l) ∙ ap₂ _+_ (h a (p .0)) (concat-size f P w h l (p .1)) ∙ native.Mathlib.Nat.add-comm w (w * length l) ∙ sym (native.Mathlib.Nat.mul-suc w (length l))
+
+division-size : (n : ℕ) (e : Division) → ValidDivision n e → length (encodeCommand (division e)) ≡ 23
+division-size n e v = let l = v .places in let m = coefficients-length (e .axes) in omega arith
+
+constraint-size : (n k : ℕ) (r : Constraint) → ValidConstraint n k r → length (encodeCommand (constraint r)) ≡ 37
+constraint-size n k r v =
+    let l = v .axis-places in let l′ = v .division-places in let m = coefficients-length (r .axes) in let m′ = coefficients-length (r .divisions) in
+    let a = length-append (concatMap (signedBytes 2) (r .axes)) (concatMap (signedBytes 2) (r .divisions)) in omega arith
+
+pub valid-size : (n : ℕ) (b : BasicSet) → Valid n b → length (encode (b ∷ [])) ≡ 1 + 23 * length (b .divisions) + 37 * length (b .constraints)
+unfolding encode
+valid-size n b v =
+    let D : List Command = map division (b .divisions) in let R : List Command = map constraint (b .constraints) in
+    let s : concatMap encodeCommand (D ++ R ++ []) ≡ concatMap encodeCommand D ++ concatMap encodeCommand R = ap (concatMap encodeCommand) (append-nil (D ++ R)) ∙ concat-more encodeCommand D R in
+    let d = concat-size (λ (e : Division). encodeCommand (division e)) (ValidDivision n) 23 (division-size n) (b .divisions) (v .divisions) in
+    let r = concat-size (λ (e : Constraint). encodeCommand (constraint e)) (ValidConstraint n (length (b .divisions))) 37 (constraint-size n (length (b .divisions))) (b .constraints) (v .constraints) in
+    let x = ap length (concat-map encodeCommand division (b .divisions)) in let y = ap length (concat-map encodeCommand constraint (b .constraints)) in
+    let z = length-append (concatMap encodeCommand D) (concatMap encodeCommand R) in let w = ap length s in omega arith
+
+-- ---- decoded, then encoded: the same bytes
+module _ (n : ℕ) (s : List ℕ) (at : ℕ) (p : Bytes s) (b : Boundary n s at) where
+  pub boundary-encode : encode (setFrom s at) ≡ drop at s
+  unfolding encode built
+  boundary-encode =
+      let l : List ℕ = drop at s in
+      let cs : List Command = commandsOf (length l) l in
+      let c = commands-back n (b .k) cs (checked-unrefused n s at (b .k) (b .here)) in
+      let e : commands (setFrom s at) ≡ cs =
+      ap₂ (λ (x : List Division) (y : List Constraint). map division x ++ (map constraint y ++ commands (setFrom s at))) (sym (b .no-divisions)) (sym (b .no-constraints)) ∙ c in
+      ap (concatMap encodeCommand) e ∙ bytes-back n (b .k) l cs (accepted-parsed n (b .k) l (b .here .accepted)) (Rattle.codec.proofs.Decoded.drop-bytes at s p)
+
+  module _ (h : at < length s) where
+    here-valid : Valid n (basicAt s (at + 1))
+    here-valid = subst (All (Valid n)) (boundary-set n s at b h) (boundary-valid n s at p b) .0
+
+    pub basic-size : length (encode (basicAt s (at + 1) ∷ [])) ≡ endOf s (at + 1) - at
+    basic-size = let z = valid-size n (basicAt s (at + 1)) here-valid in omega arith
+
+    -- the bytes from the `11` to the next basic set
+    pub basic-bytes : take (endOf s (at + 1) - at) (drop at s) ≡ encode (basicAt s (at + 1) ∷ [])
+    basic-bytes =
+        let e : drop at s ≡ encode (basicAt s (at + 1) ∷ []) ++ encode (setFrom s (endOf s (at + 1))) = sym boundary-encode ∙ ap encode (boundary-set n s at b h) ∙ encode-more (basicAt s (at + 1) ∷ []) (setFrom s (endOf s (at + 1))) in
+        ap (take (endOf s (at + 1) - at)) e ∙ take-at (encode (basicAt s (at + 1) ∷ [])) (encode (setFrom s (endOf s (at + 1)))) (endOf s (at + 1) - at) basic-size
+
+    -- by the two functions: what `encode_basic` writes of what `decode_basic` gave are the bytes that were read
+    pub decoded-encoded : (v : Value) (o o′ : List ℕ) (to end : ℕ) → Decoded s (at + 1) v → Emitted (encode (basicSetOf v ∷ [])) o to end o′ → o′ ≡ put to (take (after (at + 1) v - at) (drop at s)) o
+    decoded-encoded v o o′ to end d w =
+        w .bytes ∙ ap (λ (l : List ℕ). put to l o) (ap (λ (x : BasicSet). encode (x ∷ [])) (d .basic) ∙ sym basic-bytes ∙ ap (λ (e : ℕ). take (e - at) (drop at s)) (sym (d .next)))
+
+-- ---- encoded, then decoded: the same basic set
+pub encoded-decoded : (n : ℕ) (b : BasicSet) → T (axesFit n) → Valid n b → basicAt (encode (b ∷ [])) 1 ≡ b
+encoded-decoded n b a v =
+    let s : List ℕ = encode (b ∷ []) in
+    let e : decode n s ≡ gives (b ∷ []) = valid-decodes n (b ∷ []) a (omega arith) (v, tt) in
+    let z : number (decode n s) ≡ 0 = ap number e in
+    let f : gives (setFrom s 0) ≡ gives (b ∷ []) = sym (decode-is n s z) ∙ e in
+    let g : setFrom s 0 ≡ b ∷ [] = cc in
+    let l : 0 < length s = let y = valid-size n b v in omega arith in
+    let k = boundary-set n s 0 (boundary-start n s z) l in
+    cc
+
+-- by the two functions: what `decode_basic` gives of what `encode_basic` wrote into a table of its own is the basic set
+pub emitted-decoded : (n : ℕ) (v w : Value) (o o′ : List ℕ) (end : ℕ) → T (axesFit n) → Valid n (basicSetOf v) → Emitted (encode (basicSetOf v ∷ [])) o 0 end o′ → length o ≡ end → Decoded o′ 1 w → basicSetOf w ≡ basicSetOf v
+emitted-decoded n v w o o′ end a h e l d =
+    let q : o′ ≡ encode (basicSetOf v ∷ []) = e .bytes ∙ Rattle.codec.proofs.Emitting.put-fresh (encode (basicSetOf v ∷ [])) o (let x = e .ends in omega arith) in
+    d .basic ∙ ap (λ (x : List ℕ). basicAt x 1) q ∙ encoded-decoded n (basicSetOf v) a h

@@ -1,0 +1,168 @@
+-- The loops of membership: the divisions' values, the constraints of one basic set, and the basic sets one after another.
+use mathlib.Core.Path.{_≡_, refl, sym, ap, ap₂, _∙_, subst}
+use mathlib.Core.Bool.{Bool, true, false, _&&_, _||_, cond}
+use mathlib.Core.List.{List, [], _∷_, _++_, map, append-assoc, append-nil}
+use Prim.Native.Nat.{ℕ, zero, suc, _+_, _-_, _*_, _≤_, _<_}
+use native.Mathlib.Numerals.{add-one}
+use native.Mathlib.Omega.{arith}
+use lib.Dec.{T, ltb, eqb}
+use lib.IntN.{ℤ, pos}
+use lib.ListN.{length, take, drop, getD, set, length-set}
+use lib.Seq.{take-suc-set}
+use Rattle.integers.specs.Z.{Within}
+use Rattle.model.specs.Lists.{all}
+use Rattle.model.specs.Sets.{Division, Constraint, quotient, quotients, holds, inBasic, Set}
+use Rattle.codec.specs.Bytes.{Command, division, constraint, Counts, counted, readDivision, readConstraint, kindOf, Built}
+use Rattle.codec.specs.Places.{built, basicAt, setFrom, endOf, Checked, opened, Opened, Accepted}
+use Rattle.codec.proofs.Walking.{added}
+use Rattle.codec.proofs.Boundaries.{Boundary, boundary-start, boundary-end, boundary-next, boundary-set}
+use Rattle.query.specs.declared.membership.Span.{Span}
+use Rattle.query.specs.Holder.{firstHolding}
+use Rattle.query.specs.Holding.{AllWithin, Tail, Divided, Judged, Spanned}
+use Rattle.query.proofs.Reading.{set-within}
+use Rattle.query.proofs.Standing.{DivisionAt, division-at, ConstraintAt, constraint-at, no-division, no-constraint}
+
+-- ---- the values of the divisions
+pub record Dividing (s : List ℕ) (start : ℕ) (x : List ℤ) (at d : ℕ) (q : List ℤ) : Type 0 where
+  pub n : ℕ
+  pub k : Counts
+  pub here : Checked n s at k
+  pub counts : k .divisions ≡ d
+  pub few : d ≤ 8
+  pub place : at ≡ start + 23 * d
+  pub places : length q ≡ 8
+  pub values : AllWithin 549755813888 q
+  pub is : take d q ++ quotients (built (drop at s) .divisions) x ≡ quotients (built (drop start s) .divisions) x
+  pub total : d + length (built (drop at s) .divisions) ≡ length (built (drop start s) .divisions)
+  pub same : built (drop at s) .constraints ≡ built (drop start s) .constraints
+
+pub dividing-start : (s : List ℕ) (start : ℕ) (x q : List ℤ) → Opened s start → length q ≡ 8 → AllWithin 549755813888 q → Dividing s start x start 0 q
+dividing-start s start x q o l v =
+    record { n = o .n; k = opened (o .basics); here = o .here; counts = refl; few = omega arith; place = omega arith; places = l; values = v; is = refl; total = omega arith; same = refl }
+
+module _ (s : List ℕ) (start : ℕ) (x : List ℤ) (at d : ℕ) (q : List ℤ) (g : Dividing s start x at d q) where
+  pub dividing-at : getD s at 0 ≡ 18 → DivisionAt (g .n) s at (g .k)
+  dividing-at e = division-at (g .n) s at (g .k) (g .here) e
+
+  pub dividing-next : getD s at 0 ≡ 18 → (v : ℤ) → v ≡ quotient x (readDivision (drop (at + 1) s)) → Within 549755813888 v → Dividing s start x (at + 23) (d + 1) (set q d v)
+  dividing-next e v p w =
+      let h = dividing-at e in
+      let f = h .few in let a = g .counts in let b = g .place in let l = g .places in let t = g .total in
+      let j : d < length q = omega arith in
+      let y : quotients (built (drop at s) .divisions) x ≡ v ∷ quotients (built (drop (at + 23) s) .divisions) x =
+      ap (λ (u : Built). quotients (u .divisions) x) (h .builds) ∙ ap (λ (z : ℤ). z ∷ quotients (built (drop (at + 23) s) .divisions) x) (sym p) in
+      record {
+        n = g .n;
+        k = counted (g .k) (division (readDivision (drop (at + 1) s)));
+        here = h .there;
+        counts = ap (λ (m : ℕ). m + 1) a;
+        few = omega arith;
+        place = omega arith;
+        places = length-set q d v ∙ l;
+        values = set-within 549755813888 q d v (g .values) w j;
+        is =
+            ap (λ (m : ℕ). take m (set q d v) ++ quotients (built (drop (at + 23) s) .divisions) x) (add-one d)
+            ∙ ap (λ (m : List ℤ). m ++ quotients (built (drop (at + 23) s) .divisions) x) (take-suc-set q d v j)
+            ∙ append-assoc (take d q) (v ∷ []) (quotients (built (drop (at + 23) s) .divisions) x)
+            ∙ ap (λ (m : List ℤ). take d q ++ m) (sym y) ∙ g .is;
+        total = omega (arith, ap (λ (u : Built). length (u .divisions)) (h .builds));
+        same = sym (ap (λ (u : Built). u .constraints) (h .builds)) ∙ g .same;
+      }
+
+  pub dividing-end : (getD s at 0 ≡ 18 → ⊥) → Divided s start x q d
+  dividing-end e =
+      let z = no-division (g .n) s at (g .k) (g .here) e in
+      let t = g .total in let p = g .place in
+      record {
+        few = g .few;
+        count = omega (arith, ap (λ (l : List Division). length l) z);
+        is = sym (append-nil (take d q)) ∙ ap (λ (l : List Division). take d q ++ quotients l x) (sym z) ∙ g .is;
+        values = g .values;
+        there = subst (Tail s) p (record { n = g .n; k = g .k; here = g .here; none = z });
+        same = ap (λ (i : ℕ). built (drop i s) .constraints) (sym p) ∙ g .same;
+      }
+
+-- ---- the constraints
+pub record Judging (s : List ℕ) (start : ℕ) (x q : List ℤ) (at : ℕ) (so : Bool) : Type 0 where
+  pub tail : Tail s at
+  pub is : (so && all (holds (pos 1) x q) (built (drop at s) .constraints)) ≡ all (holds (pos 1) x q) (built (drop start s) .constraints)
+  pub place : at + 37 * length (built (drop at s) .constraints) ≡ start + 37 * length (built (drop start s) .constraints)
+
+and-assoc : (a b c : Bool) → ((a && b) && c) ≡ (a && (b && c))
+and-assoc true b c = refl
+and-assoc false b c = refl
+
+and-true : (a : Bool) → (a && true) ≡ a
+and-true true = refl
+and-true false = refl
+
+module _ (s : List ℕ) (start : ℕ) (x q : List ℤ) where
+  pub judging-start : Tail s start → Judging s start x q start true
+  judging-start t = record { tail = t; is = refl; place = refl }
+
+  pub judging-at : (at : ℕ) (so : Bool) (g : Judging s start x q at so) → (eqb (getD s at 0) 19 || eqb (getD s at 0) 20) ≡ true → ConstraintAt (g .tail .n) s at (g .tail .k)
+  judging-at at so g e = constraint-at (g .tail .n) s at (g .tail .k) (g .tail .here) e
+
+  pub judging-next : (at : ℕ) (so : Bool) (g : Judging s start x q at so) → (eqb (getD s at 0) 19 || eqb (getD s at 0) 20) ≡ true → (r : Bool)
+      → r ≡ (so && holds (pos 1) x q (readConstraint (kindOf (getD s at 0)) (drop (at + 1) s))) → Judging s start x q (at + 37) r
+  judging-next at so g e r p =
+      let h = judging-at at so g e in let w = g .place in
+      let c : Constraint = readConstraint (kindOf (getD s at 0)) (drop (at + 1) s) in
+      record {
+        tail = record { n = g .tail .n; k = counted (g .tail .k) (constraint c); here = h .there; none = h .later };
+        is =
+            ap (λ (b : Bool). b && all (holds (pos 1) x q) (built (drop (at + 37) s) .constraints)) p
+            ∙ and-assoc so (holds (pos 1) x q c) (all (holds (pos 1) x q) (built (drop (at + 37) s) .constraints))
+            ∙ ap (λ (u : Built). so && all (holds (pos 1) x q) (u .constraints)) (sym (h .builds)) ∙ g .is;
+        place = omega (arith, ap (λ (u : Built). length (u .constraints)) (h .builds));
+      }
+
+  pub judging-end : (at : ℕ) (so : Bool) → Judging s start x q at so → (eqb (getD s at 0) 19 || eqb (getD s at 0) 20) ≡ false → Judged s start x q (record { holds = so; next = at })
+  judging-end at so g e =
+      let z = no-constraint (g .tail .n) s at (g .tail .k) (g .tail .here) (g .tail .none) e in let w = g .place in
+      record { is = sym (and-true so) ∙ ap (λ (l : List Constraint). so && all (holds (pos 1) x q) l) (sym z) ∙ g .is; next = omega (arith, ap (λ (l : List Constraint). length l) z) }
+
+-- ---- one basic set
+pub spanned-is : (s : List ℕ) (start : ℕ) (x q : List ℤ) (d : ℕ) (r : Span) → Divided s start x q d → Judged s (start + 23 * d) x (take d q) r → Spanned s start x r
+spanned-is s start x q d r v j =
+    let c = v .count in let e = j .next in
+    record {
+      is =
+          j .is ∙ ap₂ (λ (l : List ℤ) (m : List Constraint). all (holds (pos 1) x l) m) (v .is) (v .same);
+      next = omega (arith, ap (λ (m : List Constraint). length m) (v .same));
+    }
+
+-- ---- the basic sets
+pub record Finding (s : List ℕ) (x : List ℤ) (at number : ℕ) : Type 0 where
+  pub n : ℕ
+  pub here : Boundary n s at
+  pub few : number ≤ at
+  pub is : firstHolding (suc number) x (setFrom s at) ≡ firstHolding 1 x (setFrom s 0)
+
+pub finding-start : (s : List ℕ) (x : List ℤ) → Accepted s → Finding s x 0 0
+finding-start s x a = record { n = a .n; here = boundary-start (a .n) s (a .accepted); few = omega arith; is = refl }
+
+module _ (s : List ℕ) (x : List ℤ) (at number : ℕ) (g : Finding s x at number) (l : at < length s) (r : Span) (v : Spanned s (at + 1) x r) where
+  step : firstHolding (suc number) x (setFrom s at) ≡ cond (r .holds) (suc number) (firstHolding (suc (suc number)) x (setFrom s (endOf s (at + 1))))
+  step = ap (firstHolding (suc number) x) (boundary-set (g .n) s at (g .here) l) ∙ ap (λ (b : Bool). cond b (suc number) (firstHolding (suc (suc number)) x (setFrom s (endOf s (at + 1))))) (sym (v .is))
+
+  pub finding-yes : r .holds ≡ true → number + 1 ≡ firstHolding 1 x (setFrom s 0)
+  finding-yes e = add-one number ∙ sym (ap (λ (b : Bool). cond b (suc number) (firstHolding (suc (suc number)) x (setFrom s (endOf s (at + 1))))) e) ∙ sym step ∙ g .is
+
+  pub finding-inside : endOf s (at + 1) ≤ length s
+  finding-inside = boundary-next (g .n) s at (g .here) l .here .inside
+
+  pub finding-next : r .holds ≡ false → Finding s x (r .next) (number + 1)
+  finding-next e =
+      let f = g .few in let p = v .next in
+      record {
+        n = g .n;
+        here = subst (Boundary (g .n) s) (sym p) (boundary-next (g .n) s at (g .here) l);
+        few = omega arith;
+        is =
+            ap₂ (λ (i j : ℕ). firstHolding (suc i) x (setFrom s j)) (add-one number) p
+            ∙ sym (ap (λ (b : Bool). cond b (suc number) (firstHolding (suc (suc number)) x (setFrom s (endOf s (at + 1))))) e) ∙ sym step ∙ g .is;
+      }
+
+pub finding-end : (s : List ℕ) (x : List ℤ) (at number : ℕ) → Finding s x at number → length s ≤ at → 0 ≡ firstHolding 1 x (setFrom s 0)
+finding-end s x at number g h = sym (ap (firstHolding (suc number) x) (boundary-end s at h)) ∙ g .is

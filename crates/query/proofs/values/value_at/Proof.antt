@@ -1,0 +1,51 @@
+use native.Mathlib.Omega.{arith}
+use mathlib.Core.Path.{_≡_, refl, sym, ap, ap₂, _∙_, subst}
+use mathlib.Core.Bool.{Bool, true, false, _&&_}
+use mathlib.Core.List.{List, [], _∷_}
+use Prim.Native.Nat.{ℕ, _+_, _-_, _*_, _≤_, _<_}
+use lib.ListN.{length, take, drop, getD, set, length-set, length-take}
+use lib.Dec.{lt→ltb}
+use lib.IntN.{ℤ, pos, negsuc, _+ℤ_, _-ℤ_, _*ℤ_}
+use mir.Syntax.{w64}
+use mir.Val.{SFits, toZ, ofZ}
+use borrow.Author.Tests.{ne-eqb}
+use Rattle.integers.specs.Z.{Within}
+use Rattle.integers.specs.Mach.{toZ-ofZ, toZ-nat, result-is, mach}
+use Rattle.model.specs.Sets.{dot, floorDiv, quotient, Kind, meets, isZero, equality, inequality, value}
+use Rattle.codec.specs.Bytes.{valueOf, signed, signedList, readDivision, readConstraint, kindOf, readCommand, widthOf}
+use lib.Signed.{nonNeg}
+use Rattle.query.proofs.Reading.{dots-fit, value-fits, zero-bits, nonneg-bits, value-one, kind-equality, kind-inequality}
+use borrow.Author.Needs.{needs}
+use Rattle.query.proofs.values.value_at.Statement.{statement}
+use Rattle.query.proofs.values.value_at.Tie as tie
+use Rattle.query.proofs.values.value_at.Reads as reads
+use Rattle.query.proofs.values.value_at.Lts as lts
+use Rattle.query.proofs.values.dot_at.Reads as dot-at-reads
+use Rattle.query.proofs.values.s32_at.Reads as s32-at-reads
+
+dot-at-requires : tie.Need-dot-at-requires
+dot-at-requires c κs = search needs
+
+dot-at-requires-2 : tie.Need-dot-at-requires-2
+dot-at-requires-2 c κs = search needs
+
+add-a : tie.Need-add-a
+add-a c = let st = c .before .before .before in rw (result-is w64 (c .before .dot-at .result) (c .before .dot-at .ok), result-is w64 (c .dot-at2 .result) (c .dot-at2 .ok)) (dots-fit (c .before .dot-at .ensures .1 549755813888 (st .pre .3)) (c .dot-at2 .ensures .1 549755813888 (st .pre .4)))
+
+s32-at-requires : tie.Need-s32-at-requires
+s32-at-requires c κs = search needs
+
+add-result : tie.Need-add-result
+add-result c = let st = c .before .before .before .before in rw (toZ-ofZ (add-a (c .before)), result-is w64 (c .s32-at .result) (c .s32-at .ok), result-is w64 (c .before .before .dot-at .result) (c .before .before .dot-at .ok), result-is w64 (c .before .dot-at2 .result) (c .before .dot-at2 .ok)) (value-fits (c .s32-at .ensures .1) (c .before .before .dot-at .ensures .1 549755813888 (st .pre .3)) (c .before .dot-at2 .ensures .1 549755813888 (st .pre .4)))
+
+returns : tie.Need-returns
+returns c k =
+    let s = c in let d2 = s .before in let d1 = d2 .before in let st = d1 .before .before in
+    let t = st .args .t .now in let x = st .args .x .now in let q = st .args .q .now in
+    toZ-ofZ (add-result s)
+    ∙ ap₂ _+ℤ_ (result-is w64 (s .s32-at .result) (s .s32-at .ok) ∙ s .s32-at .ensures .0)
+    (toZ-ofZ (add-a d2) ∙ ap₂ _+ℤ_ (result-is w64 (d1 .dot-at .result) (d1 .dot-at .ok) ∙ d1 .dot-at .ensures .0) (result-is w64 (d2 .dot-at2 .result) (d2 .dot-at2 .ok) ∙ d2 .dot-at2 .ensures .0))
+    ∙ sym (value-one (signed 4 (valueOf (take 4 t))) (dot (signedList 8 (drop 4 t)) x +ℤ dot (signedList 8 (drop 20 t)) q))
+
+pub value-at-spec : {M : Type 1} → statement M
+value-at-spec = tie.close (tie.spec dot-at-requires dot-at-requires-2 add-a s32-at-requires add-result returns)

@@ -1,0 +1,67 @@
+-- What the code knows on its way through the checked bytes of a set, and what its answers mean.
+use mathlib.Core.Path.{_≡_}
+use mathlib.Core.Bool.{Bool, true, false, _&&_, _||_}
+use mathlib.Core.List.{List, [], _∷_}
+use Prim.Native.Nat.{ℕ, _+_, _*_, _≤_}
+use lib.Dec.{ltb}
+use lib.IntN.{ℤ, pos}
+use lib.ListN.{length, take, drop, getD}
+use Rattle.integers.specs.Z.{Within}
+use Rattle.model.specs.Lists.{all}
+use Rattle.model.specs.Sets.{isZero, quotients, holds, inBasic}
+use Rattle.query.specs.Search.{coordinate}
+use Rattle.codec.specs.Bytes.{Answer, refused, gives, Counts}
+use Rattle.codec.specs.Places.{built, basicAt, endOf, Checked, Accepted}
+use Rattle.query.specs.declared.membership.Span.{Span}
+use Rattle.query.specs.declared.membership.Membership.{Membership}
+use Rattle.query.specs.declared.membership.Membership.the-variants.{In, Out, Refused}
+
+-- every element is at most n in size
+pub record AllWithin (n : ℕ) (xs : List ℤ) : Type 0 where
+  pub at : (i : ℕ) → Within n (getD xs i (pos 0))
+
+-- a point as the code has it: whole numbers for the axes, none beyond the range of a coordinate
+pub record Point (x : List ℤ) : Type 0 where
+  pub axes : length x ≤ 8
+  pub point : AllWithin 1048576 x
+
+-- the values of the divisions
+pub record Values (q : List ℤ) : Type 0 where
+  pub few : length q ≤ 8
+  pub values : AllWithin 549755813888 q
+
+-- at a place of checked bytes where the divisions of a basic set are past
+pub record Tail (s : List ℕ) (at : ℕ) : Type 0 where
+  pub n : ℕ
+  pub k : Counts
+  pub here : Checked n s at k
+  pub none : built (drop at s) .divisions ≡ []
+
+-- q begins with the values of the r divisions from a place on
+pub record Divided (s : List ℕ) (start : ℕ) (x q : List ℤ) (r : ℕ) : Type 0 where
+  pub few : r ≤ 8
+  pub count : r ≡ length (built (drop start s) .divisions)
+  pub is : take r q ≡ quotients (built (drop start s) .divisions) x
+  pub values : AllWithin 549755813888 q
+  pub there : Tail s (start + 23 * r)
+  pub same : built (drop (start + 23 * r) s) .constraints ≡ built (drop start s) .constraints
+
+-- whether the constraints from a place on hold, and the place after them
+pub record Judged (s : List ℕ) (start : ℕ) (x q : List ℤ) (r : Span) : Type 0 where
+  pub is : r .holds ≡ all (holds (pos 1) x q) (built (drop start s) .constraints)
+  pub next : r .next ≡ start + 37 * length (built (drop start s) .constraints)
+
+-- whether the basic set at a place holds the point, and the place after it
+pub record Spanned (s : List ℕ) (start : ℕ) (x : List ℤ) (r : Span) : Type 0 where
+  pub is : r .holds ≡ inBasic x (basicAt s start)
+  pub next : r .next ≡ endOf s start
+
+-- the answers of member: 1, 0, or minus the number for the board's host
+abbrev pub memberIs : Membership → Answer Bool
+memberIs In = gives true
+memberIs Out = gives false
+memberIs (Refused m) = refused m
+
+-- z can be coordinate i, from 0, of a point with n axes
+abbrev pub coordinateFits : ℕ → ℕ → ℤ → Bool
+coordinateFits n i z = coordinate z && (ltb i n || isZero z)

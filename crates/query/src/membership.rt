@@ -1,0 +1,199 @@
+// Membership of a point in the checked bytes of a set.
+ghost use mathlib.Core.Path.{_≡_};
+ghost use mathlib.Core.Bool.{_||_, _&&_};
+ghost use Prim.Native.Nat.{ℕ, _+_, _*_, _≤_, _<_};
+ghost use lib.Dec.{eqb};
+ghost use lib.IntN.{ℤ, pos};
+ghost use lib.ListN.{length, take, drop, getD};
+ghost use Rattle.model.specs.Sets as M;
+ghost use Rattle.codec.specs.Bytes.{readConstraint, kindOf};
+ghost use Rattle.codec.specs.Places.{Opened, Accepted, setFrom};
+ghost use Rattle.query.specs.Search.{memberBytes, pointFits};
+ghost use Rattle.query.specs.Holder.{firstHolding};
+ghost use Rattle.query.specs.Holding.{AllWithin, Point, Values, Tail, Divided, Judged, Spanned, memberIs, coordinateFits};
+use crate::values::holds_at;
+use crate::values::quotient_at;
+
+// Whether a basic set holds the point, and the place after it.
+pub struct Span {
+    pub holds: bool,
+    pub next: usize,
+}
+
+pub enum Membership {
+    In,
+    Out,
+    Refused(u32),
+}
+
+// The byte at a place, 0 past the end.
+pub fn code(s: &[u8], at: usize) -> u8
+    ensures { λ r. ⌜ r ≡ getD (now (s .entry)) at 0 ⌝ }
+{
+    if at < s.len() {
+        return s[at];
+    }
+    0
+}
+
+pub fn is_constraint(b: u8) -> bool
+    ensures { λ r. ⌜ r ≡ (eqb b 19 || eqb b 20) ⌝ }
+{
+    if b == 19 {
+        return true;
+    }
+    b == 20
+}
+
+// The values of the divisions of the basic set whose commands start at `start`, and how many they are.
+fn divided(s: &[u8], start: usize, x: &[i64], q: &mut [i64]) -> usize
+    requires { ⌜ Opened (now s) start × Point (now x) × (length (now q) ≡ 8) × AllWithin 549755813888 (now q) ⌝ }
+    ensures { λ r. ⌜ Divided (now (s .entry)) start (now (x .entry)) (now (q .exit)) r ⌝ }
+{
+    let mut at = start;
+    let mut d = 0;
+    while code(s, at) == 18 {
+        let t = codec::tail(s, at + 1);
+        let v = quotient_at(t, x);
+        q[d] = v;
+        d += 1;
+        at += 23;
+    }
+    d
+}
+
+// One constraint more, unless one has failed.
+fn still(before: bool, b: u8, t: &[u8], x: &[i64], q: &[i64]) -> bool
+    requires { ⌜ (36 ≤ length (now t)) × Point (now x) × Values (now q) ⌝ }
+    ensures { λ r. ⌜ r ≡ (before && M.holds (pos 1) (now (x .entry)) (now (q .entry)) (readConstraint (kindOf b) (now (t .entry)))) ⌝ }
+{
+    if before {
+        return holds_at(b, t, x, q);
+    }
+    false
+}
+
+// Whether the constraints from `start` on hold, and the place after them.
+fn judged(s: &[u8], start: usize, x: &[i64], q: &[i64]) -> Span
+    requires { ⌜ Tail (now s) start × Point (now x) × Values (now q) ⌝ }
+    ensures { λ r. ⌜ Judged (now (s .entry)) start (now (x .entry)) (now (q .entry)) r ⌝ }
+{
+    let mut at = start;
+    let mut holds = true;
+    while is_constraint(code(s, at)) {
+        let b = code(s, at);
+        let t = codec::tail(s, at + 1);
+        holds = still(holds, b, t, x, q);
+        at += 37;
+    }
+    Span {
+        holds: holds,
+        next: at,
+    }
+}
+
+fn no_values() -> [i64; 8]
+    ensures { λ r. ⌜ (length r ≡ 8) × AllWithin 549755813888 r ⌝ }
+{
+    [0i64; 8]
+}
+
+// The basic set whose commands start at `start`.
+fn spanned(s: &[u8], start: usize, x: &[i64]) -> Span
+    requires { ⌜ Opened (now s) start × Point (now x) ⌝ }
+    ensures { λ r. ⌜ Spanned (now (s .entry)) start (now (x .entry)) r ⌝ }
+{
+    let mut q = no_values();
+    let d = divided(s, start, x, &mut q);
+    judged(s, start + 23 * d, x, &q[..d])
+}
+
+// The number, from 1, of the first basic set that holds the point; 0: none does.
+pub fn first_holding(s: &[u8], x: &[i64]) -> usize
+    requires { ⌜ Accepted (now s) × Point (now x) ⌝ }
+    ensures { λ r. ⌜ r ≡ firstHolding 1 (now (x .entry)) (setFrom (now (s .entry)) 0) ⌝ }
+{
+    let mut at = 0;
+    let mut number = 0;
+    while at < s.len() {
+        number += 1;
+        let e = spanned(s, at + 1, x);
+        if e.holds {
+            return number;
+        }
+        at = e.next;
+    }
+    0
+}
+
+// Whether z can be coordinate i of a point with n axes.
+fn coordinate_fits(n: usize, i: usize, z: i32) -> bool
+    ensures { λ r. ⌜ r ≡ coordinateFits n i z ⌝ }
+{
+    if z < -1048576 {
+        return false;
+    }
+    if 1048576 < z {
+        return false;
+    }
+    if i < n {
+        return true;
+    }
+    z == 0
+}
+
+// Whether a point has its coordinates in their range, and 0 on absent axes.
+pub fn point_fits(n: usize, point: [i32; 8]) -> bool
+    ensures { λ r. ⌜ r ≡ pointFits n point ⌝ }
+{
+    let mut i = 0;
+    while i < 8 {
+        let z = point[i];
+        if !coordinate_fits(n, i, z) {
+            return false;
+        }
+        i += 1;
+    }
+    true
+}
+
+fn wide(z: i32) -> i64
+    ensures { λ r. ⌜ r ≡ z ⌝ }
+{
+    z as i64
+}
+
+// The same numbers, wider.
+pub fn widened(p: [i32; 8]) -> [i64; 8]
+    ensures { λ r. ⌜ (r ≡ p) × (length r ≡ 8) ⌝ }
+{
+    [
+        wide(p[0]),
+        wide(p[1]),
+        wide(p[2]),
+        wide(p[3]),
+        wide(p[4]),
+        wide(p[5]),
+        wide(p[6]),
+        wide(p[7]),
+    ]
+}
+
+// Whether the point is in the set of the bytes.
+pub fn member(n: usize, set: &[u8], point: [i32; 8]) -> Membership
+    ensures { λ r. ⌜ memberIs r ≡ memberBytes n (now (set .entry)) point ⌝ }
+{
+    let c = codec::check(n, set);
+    if c != 0 {
+        return Membership::Refused(c);
+    }
+    if !point_fits(n, point) {
+        return Membership::Refused(12);
+    }
+    let x = widened(point);
+    let k = first_holding(set, &x[..n]);
+    if k == 0 {
+        return Membership::Out;
+    }
+    Membership::In
+}

@@ -1,0 +1,74 @@
+// Values at a whole point, read from checked bytes.
+ghost use mathlib.Core.Path.{_≡_};
+ghost use Prim.Native.Nat.{ℕ, _+_, _*_, _≤_, _<_};
+ghost use lib.ListN.{length, take, drop};
+ghost use lib.IntN.{pos};
+ghost use Rattle.integers.specs.Z.{Within};
+ghost use Rattle.model.specs.Sets.{dot, quotient, value, holds, Kind};
+ghost use Rattle.codec.specs.Bytes.{valueOf, signed, signedList, readDivision, readConstraint, kindOf};
+ghost use Rattle.query.specs.Holding.{AllWithin};
+
+pub fn s16_at(t: &[u8], p: usize) -> i64
+    requires { ⌜ p + 2 ≤ length (now t) ⌝ }
+    ensures is { λ r. ⌜ r ≡ signed 2 (valueOf (take 2 (drop p (now (t .entry))))) ⌝ }
+    ensures size { λ r. ⌜ Within 32768 r ⌝ }
+{
+    integers::i16_at(t, p) as i64
+}
+
+pub fn s32_at(t: &[u8], p: usize) -> i64
+    requires { ⌜ p + 4 ≤ length (now t) ⌝ }
+    ensures is { λ r. ⌜ r ≡ signed 4 (valueOf (take 4 (drop p (now (t .entry))))) ⌝ }
+    ensures size { λ r. ⌜ Within 2147483648 r ⌝ }
+{
+    integers::i32_at(t, p) as i64
+}
+
+// The sum of the products of the coefficients from p on and the numbers x.
+fn dot_at(t: &[u8], p: usize, x: &[i64]) -> i64
+    requires { ⌜ (p + 16 ≤ length (now t)) × (length (now x) ≤ 8) × AllWithin 549755813888 (now x) ⌝ }
+    ensures is { λ r. ⌜ r ≡ dot (signedList 8 (drop p (now (t .entry)))) (now (x .entry)) ⌝ }
+    ensures size { λ r. ⌜ ((B : ℕ) → AllWithin B (now (x .entry)) → Within (8 * (32768 * B)) r) ⌝ }
+{
+    let mut s: i64 = 0;
+    let mut i = 0;
+    let mut q = p;
+    while i < x.len() {
+        s += s16_at(t, q) * x[i];
+        q += 2;
+        i += 1;
+    }
+    s
+}
+
+// The value of the division whose bytes after the first are t.
+pub fn quotient_at(t: &[u8], x: &[i64]) -> i64
+    requires { ⌜ (22 ≤ length (now t)) × (length (now x) ≤ 8) × AllWithin 1048576 (now x) × (0 < readDivision (now t) .divisor) ⌝ }
+    ensures is { λ r. ⌜ r ≡ quotient (now (x .entry)) (readDivision (now (t .entry))) ⌝ }
+    ensures size { λ r. ⌜ Within 549755813888 r ⌝ }
+{
+    let c = s32_at(t, 2) + dot_at(t, 6, x);
+    let d = codec::u16_at(t, 0);
+    integers::floor_div(c, d as i64)
+}
+
+// The value at the point x, with the divisions' values q, of the constraint whose bytes after its command are t.
+pub fn value_at(t: &[u8], x: &[i64], q: &[i64]) -> i64
+    requires { ⌜ (36 ≤ length (now t)) × (length (now x) ≤ 8) × (length (now q) ≤ 8) × AllWithin 549755813888 (now x) × AllWithin 549755813888 (now q) ⌝ }
+    ensures { λ r. ⌜ ((k : Kind) → r ≡ value (pos 1) (now (x .entry)) (now (q .entry)) (readConstraint k (now (t .entry)))) ⌝ }
+{
+    let a = dot_at(t, 4, x) + dot_at(t, 20, q);
+    s32_at(t, 0) + a
+}
+
+// Whether the constraint whose command is b and whose bytes after it are t holds there.
+pub fn holds_at(b: u8, t: &[u8], x: &[i64], q: &[i64]) -> bool
+    requires { ⌜ (36 ≤ length (now t)) × (length (now x) ≤ 8) × (length (now q) ≤ 8) × AllWithin 549755813888 (now x) × AllWithin 549755813888 (now q) ⌝ }
+    ensures { λ r. ⌜ r ≡ holds (pos 1) (now (x .entry)) (now (q .entry)) (readConstraint (kindOf b) (now (t .entry))) ⌝ }
+{
+    let v = value_at(t, x, q);
+    if b == 19 {
+        return v == 0;
+    }
+    0 <= v
+}

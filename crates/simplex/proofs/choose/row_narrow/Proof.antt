@@ -1,0 +1,55 @@
+use lib.Dec.{leb}
+use mathlib.Core.Path.{_≡_, refl, sym, ap, ap₂, _∙_}
+use mathlib.Core.Bool.{true, false, not}
+use mathlib.Core.List.{List, []}
+use Prim.Native.Nat.{ℕ, _+_, _-_, _≤_, _<_}
+use borrow.Author.Needs.{needs}
+use borrow.Author.Tests.{eq-eqb, ne-eqb, lt-ltb, le-ltb, not-true, not-false}
+use native.Mathlib.Omega.{arith}
+use lib.ListN.{length, getD, set, drop}
+use lib.IntN.{ℤ, pos, natAbs, negsuc}
+use lib.Signed.{ltZ, leZ}
+use mir.Syntax.{w64}
+use mir.Val.{toZ, ofZ}
+use mir.Facts.{toZ-ofZ}
+use mathlib.Core.Bool.{cond}
+use Rattle.model.specs.Sets.{isZero}
+use Rattle.simplex.specs.Tableau.{bound}
+use Rattle.simplex.specs.Table.{entry}
+use Rattle.simplex.specs.Table.{first, violatedBy, violatedAt, violated as violatedOf, helpsBy, helpsAt, helping as helpingOf, small as smallOf, narrowRows as narrowOf, narrowRow}
+use Rattle.simplex.proofs.Moves.{first-start, first-yes, first-no, first-end, bits-test, small-low, small-high, small-step, small-end, narrow-step, narrow-end}
+use Rattle.simplex.proofs.choose.row_narrow.Statement.{statement}
+use Rattle.simplex.proofs.choose.row_narrow.Tie as tie
+use Rattle.simplex.proofs.choose.row_narrow.Reads as reads
+use Rattle.simplex.proofs.choose.row_narrow.Lts as lts
+use Rattle.simplex.proofs.choose.small.Reads as small-reads
+
+add-e : tie.Need-add-e
+add-e c = search needs
+
+mul-e : tie.Need-mul-e
+mul-e c = search needs
+
+element-copy-out-e : tie.Need-element-copy-out-e
+element-copy-out-e c = search needs
+
+returns : tie.Need-returns
+returns c =
+    let s = c .before .before in
+    let z = getD (s .args .r .now) (s .args .j + 2) (pos 0) in
+    let e : isZero z ≡ true = sym (bits-test z (record { sfits = c .before .e .given })) ∙ eq-eqb _ 0 (c .if1 .taken) in
+    sym (ap (λ b. cond b true (smallOf (s .args .r .now))) e)
+
+small-requires : tie.Need-small-requires
+small-requires c κs = search needs
+
+returns-2 : tie.Need-returns-2
+returns-2 c =
+    let s = c .before .before .before in
+    let z = getD (s .args .r .now) (s .args .j + 2) (pos 0) in
+    let e : isZero z ≡ false = sym (bits-test z (record { sfits = c .before .before .e .given })) ∙ ne-eqb _ 0 (c .before .if1 .left) in
+    c .small .ensures ∙ sym (ap (λ b. cond b true (smallOf (s .args .r .now))) e)
+
+pub row-narrow-spec : {M : Type 1} → statement M
+row-narrow-spec =
+    tie.close (tie.spec add-e mul-e element-copy-out-e returns small-requires returns-2)
