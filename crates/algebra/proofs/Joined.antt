@@ -187,4 +187,3 @@ module _ (x : List ℤ) where
   moved-value ds es r =
       ap (λ (z : ℤ). r .constant *ℤ pos 1 +ℤ (dot (r .axes) x +ℤ z))
       (dot-move (join ds es .places) (r .divisions) (quotients (join ds es .all) x) ∙ ap (dot (r .divisions)) (joined ds es .matches))
-

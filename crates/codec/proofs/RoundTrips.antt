@@ -13,10 +13,10 @@ use Rattle.model.specs.declared.BasicSet.{BasicSet as Value}
 use Rattle.codec.specs.Bytes.{gives, Command, division, constraint, encodeCommand, commands, encode, signedBytes, Built, axesFit, decode, number}
 use Rattle.codec.specs.Places.{commandsOf, built, basicAt, setFrom, endOf, after, Decoded, Boundary}
 use Rattle.codec.specs.Writing.{put, Emitted}
-use Rattle.codec.proofs.Decoded.{Bytes, bytes-back, commands-back}
+use Rattle.codec.proofs.Decoded.{Bytes, bytes-back, commands-back, encode-decode}
 use Rattle.codec.proofs.Walking.{accepted-parsed, checked-unrefused}
 use Rattle.codec.proofs.Boundaries.{boundary-start, boundary-opened, boundary-next, boundary-set, decode-is}
-use Rattle.codec.proofs.Valid.{All, ValidDivision, ValidConstraint, Valid, valid-decodes, boundary-valid}
+use Rattle.codec.proofs.Valid.{All, ValidDivision, ValidConstraint, Valid, valid-decodes, decode-valid, boundary-valid}
 use Rattle.codec.proofs.Emitting.{coefficients-length, concat-map, concat-more, encode-more}
 
 -- ---- how long a basic set is
@@ -90,3 +90,18 @@ pub emitted-decoded : (n : ℕ) (v w : Value) (o o′ : List ℕ) (end : ℕ) �
 emitted-decoded n v w o o′ end a h e l d =
     let q : o′ ≡ encode (basicSetOf v ∷ []) = e .bytes ∙ Rattle.codec.proofs.Emitting.put-fresh (encode (basicSetOf v ∷ [])) o (let x = e .ends in omega arith) in
     d .basic ∙ ap (λ (x : List ℕ). basicAt x 1) q ∙ encoded-decoded n (basicSetOf v) a h
+
+-- ---- how long checked bytes can be: 32 basic sets of 8 divisions and 48 constraints
+encode-length : (n : ℕ) (s : Set) → All (Valid n) s → length (encode s) ≤ 1961 * length s
+unfolding encode
+encode-length n [] v = omega arith
+encode-length n (b ∷ s) v =
+    let h = encode-length n s (v .1) in let z = valid-size n b (v .0) in let d = v .0 .few-divisions in let r = v .0 .few-constraints in
+    let e = ap length (encode-more (b ∷ []) s) in let a = length-append (encode (b ∷ [])) (encode s) in omega arith
+
+pub accepted-length : (n : ℕ) (s : List ℕ) → Bytes s → number (decode n s) ≡ 0 → length s ≤ 62752
+accepted-length n s p z =
+    let e = decode-is n s z in
+    let v = decode-valid n s (setFrom s 0) p e in
+    let b = ap length (encode-decode n s (setFrom s 0) p e) in
+    let l = encode-length n (setFrom s 0) (v .0) in let k = v .1 in omega arith

@@ -13,9 +13,9 @@ use Rattle.integers.specs.Z.{Within}
 use Rattle.model.specs.Lists.{all}
 use Rattle.model.specs.Sets.{Division, Constraint, quotient, quotients, holds, inBasic, Set}
 use Rattle.codec.specs.Bytes.{Command, division, constraint, Counts, counted, readDivision, readConstraint, kindOf, Built}
-use Rattle.codec.specs.Places.{built, basicAt, setFrom, endOf, Checked, opened, Opened, Accepted}
+use Rattle.codec.specs.Places.{built, basicAt, setFrom, endOf, Checked, opened, Opened, Accepted, Boundary}
 use Rattle.codec.proofs.Walking.{added}
-use Rattle.codec.proofs.Boundaries.{Boundary, boundary-start, boundary-end, boundary-next, boundary-set}
+use Rattle.codec.proofs.Boundaries.{boundary-start, boundary-end, boundary-next, boundary-set}
 use Rattle.query.specs.declared.membership.Span.{Span}
 use Rattle.query.specs.Holder.{firstHolding}
 use Rattle.query.specs.Holding.{AllWithin, Tail, Divided, Judged, Spanned}
@@ -83,9 +83,9 @@ module _ (s : List ℕ) (start : ℕ) (x : List ℤ) (at d : ℕ) (q : List ℤ)
       }
 
 -- ---- the constraints
-pub record Judging (s : List ℕ) (start : ℕ) (x q : List ℤ) (at : ℕ) (so : Bool) : Type 0 where
+pub record Judging (s : List ℕ) (start : ℕ) (ok : Constraint → Bool) (at : ℕ) (so : Bool) : Type 0 where
   pub tail : Tail s at
-  pub is : (so && all (holds (pos 1) x q) (built (drop at s) .constraints)) ≡ all (holds (pos 1) x q) (built (drop start s) .constraints)
+  pub is : (so && all ok (built (drop at s) .constraints)) ≡ all ok (built (drop start s) .constraints)
   pub place : at + 37 * length (built (drop at s) .constraints) ≡ start + 37 * length (built (drop start s) .constraints)
 
 and-assoc : (a b c : Bool) → ((a && b) && c) ≡ (a && (b && c))
@@ -96,34 +96,34 @@ and-true : (a : Bool) → (a && true) ≡ a
 and-true true = refl
 and-true false = refl
 
-module _ (s : List ℕ) (start : ℕ) (x q : List ℤ) where
-  pub judging-start : Tail s start → Judging s start x q start true
+module _ (s : List ℕ) (start : ℕ) (ok : Constraint → Bool) where
+  pub judging-start : Tail s start → Judging s start ok start true
   judging-start t = record { tail = t; is = refl; place = refl }
 
-  pub judging-at : (at : ℕ) (so : Bool) (g : Judging s start x q at so) → (eqb (getD s at 0) 19 || eqb (getD s at 0) 20) ≡ true → ConstraintAt (g .tail .n) s at (g .tail .k)
+  pub judging-at : (at : ℕ) (so : Bool) (g : Judging s start ok at so) → (eqb (getD s at 0) 19 || eqb (getD s at 0) 20) ≡ true → ConstraintAt (g .tail .n) s at (g .tail .k)
   judging-at at so g e = constraint-at (g .tail .n) s at (g .tail .k) (g .tail .here) e
 
-  pub judging-next : (at : ℕ) (so : Bool) (g : Judging s start x q at so) → (eqb (getD s at 0) 19 || eqb (getD s at 0) 20) ≡ true → (r : Bool)
-      → r ≡ (so && holds (pos 1) x q (readConstraint (kindOf (getD s at 0)) (drop (at + 1) s))) → Judging s start x q (at + 37) r
+  pub judging-next : (at : ℕ) (so : Bool) (g : Judging s start ok at so) → (eqb (getD s at 0) 19 || eqb (getD s at 0) 20) ≡ true → (r : Bool)
+      → r ≡ (so && ok (readConstraint (kindOf (getD s at 0)) (drop (at + 1) s))) → Judging s start ok (at + 37) r
   judging-next at so g e r p =
       let h = judging-at at so g e in let w = g .place in
       let c : Constraint = readConstraint (kindOf (getD s at 0)) (drop (at + 1) s) in
       record {
         tail = record { n = g .tail .n; k = counted (g .tail .k) (constraint c); here = h .there; none = h .later };
         is =
-            ap (λ (b : Bool). b && all (holds (pos 1) x q) (built (drop (at + 37) s) .constraints)) p
-            ∙ and-assoc so (holds (pos 1) x q c) (all (holds (pos 1) x q) (built (drop (at + 37) s) .constraints))
-            ∙ ap (λ (u : Built). so && all (holds (pos 1) x q) (u .constraints)) (sym (h .builds)) ∙ g .is;
+            ap (λ (b : Bool). b && all ok (built (drop (at + 37) s) .constraints)) p
+            ∙ and-assoc so (ok c) (all ok (built (drop (at + 37) s) .constraints))
+            ∙ ap (λ (u : Built). so && all ok (u .constraints)) (sym (h .builds)) ∙ g .is;
         place = omega (arith, ap (λ (u : Built). length (u .constraints)) (h .builds));
       }
 
-  pub judging-end : (at : ℕ) (so : Bool) → Judging s start x q at so → (eqb (getD s at 0) 19 || eqb (getD s at 0) 20) ≡ false → Judged s start x q (record { holds = so; next = at })
+  pub judging-end : (at : ℕ) (so : Bool) → Judging s start ok at so → (eqb (getD s at 0) 19 || eqb (getD s at 0) 20) ≡ false → Judged s start ok (record { holds = so; next = at })
   judging-end at so g e =
       let z = no-constraint (g .tail .n) s at (g .tail .k) (g .tail .here) (g .tail .none) e in let w = g .place in
-      record { is = sym (and-true so) ∙ ap (λ (l : List Constraint). so && all (holds (pos 1) x q) l) (sym z) ∙ g .is; next = omega (arith, ap (λ (l : List Constraint). length l) z) }
+      record { is = sym (and-true so) ∙ ap (λ (l : List Constraint). so && all ok l) (sym z) ∙ g .is; next = omega (arith, ap (λ (l : List Constraint). length l) z) }
 
 -- ---- one basic set
-pub spanned-is : (s : List ℕ) (start : ℕ) (x q : List ℤ) (d : ℕ) (r : Span) → Divided s start x q d → Judged s (start + 23 * d) x (take d q) r → Spanned s start x r
+pub spanned-is : (s : List ℕ) (start : ℕ) (x q : List ℤ) (d : ℕ) (r : Span) → Divided s start x q d → Judged s (start + 23 * d) (holds (pos 1) x (take d q)) r → Spanned s start (inBasic x) r
 spanned-is s start x q d r v j =
     let c = v .count in let e = j .next in
     record {
@@ -142,7 +142,7 @@ pub record Finding (s : List ℕ) (x : List ℤ) (at number : ℕ) : Type 0 wher
 pub finding-start : (s : List ℕ) (x : List ℤ) → Accepted s → Finding s x 0 0
 finding-start s x a = record { n = a .n; here = boundary-start (a .n) s (a .accepted); few = omega arith; is = refl }
 
-module _ (s : List ℕ) (x : List ℤ) (at number : ℕ) (g : Finding s x at number) (l : at < length s) (r : Span) (v : Spanned s (at + 1) x r) where
+module _ (s : List ℕ) (x : List ℤ) (at number : ℕ) (g : Finding s x at number) (l : at < length s) (r : Span) (v : Spanned s (at + 1) (inBasic x) r) where
   step : firstHolding (suc number) x (setFrom s at) ≡ cond (r .holds) (suc number) (firstHolding (suc (suc number)) x (setFrom s (endOf s (at + 1))))
   step = ap (firstHolding (suc number) x) (boundary-set (g .n) s at (g .here) l) ∙ ap (λ (b : Bool). cond b (suc number) (firstHolding (suc (suc number)) x (setFrom s (endOf s (at + 1))))) (sym (v .is))
 

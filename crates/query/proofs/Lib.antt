@@ -8,3 +8,9 @@ pub mod Holding
 pub mod Points
 pub mod Answers
 pub mod Means
+pub mod Handed
+pub mod Seats
+pub mod Extremes
+pub mod Bounds
+pub mod Levels
+pub mod Searching

@@ -8,7 +8,7 @@ use lib.IntN.{ℤ, pos}
 use lib.ListN.{length, take, drop, getD}
 use Rattle.integers.specs.Z.{Within}
 use Rattle.model.specs.Lists.{all}
-use Rattle.model.specs.Sets.{isZero, quotients, holds, inBasic}
+use Rattle.model.specs.Sets.{Constraint, BasicSet, isZero, quotients}
 use Rattle.query.specs.Search.{coordinate}
 use Rattle.codec.specs.Bytes.{Answer, refused, gives, Counts}
 use Rattle.codec.specs.Places.{built, basicAt, endOf, Checked, Accepted}
@@ -46,14 +46,14 @@ pub record Divided (s : List ℕ) (start : ℕ) (x q : List ℤ) (r : ℕ) : Typ
   pub there : Tail s (start + 23 * r)
   pub same : built (drop (start + 23 * r) s) .constraints ≡ built (drop start s) .constraints
 
--- whether the constraints from a place on hold, and the place after them
-pub record Judged (s : List ℕ) (start : ℕ) (x q : List ℤ) (r : Span) : Type 0 where
-  pub is : r .holds ≡ all (holds (pos 1) x q) (built (drop start s) .constraints)
+-- whether the constraints from a place on pass a test, and the place after them
+pub record Judged (s : List ℕ) (start : ℕ) (ok : Constraint → Bool) (r : Span) : Type 0 where
+  pub is : r .holds ≡ all ok (built (drop start s) .constraints)
   pub next : r .next ≡ start + 37 * length (built (drop start s) .constraints)
 
--- whether the basic set at a place holds the point, and the place after it
-pub record Spanned (s : List ℕ) (start : ℕ) (x : List ℤ) (r : Span) : Type 0 where
-  pub is : r .holds ≡ inBasic x (basicAt s start)
+-- whether the basic set at a place passes a test, and the place after it
+pub record Spanned (s : List ℕ) (start : ℕ) (ok : BasicSet → Bool) (r : Span) : Type 0 where
+  pub is : r .holds ≡ ok (basicAt s start)
   pub next : r .next ≡ endOf s start
 
 -- the answers of member: 1, 0, or minus the number for the board's host

@@ -26,16 +26,6 @@ pub enum Membership {
     Refused(u32),
 }
 
-// The byte at a place, 0 past the end.
-pub fn code(s: &[u8], at: usize) -> u8
-    ensures { λ r. ⌜ r ≡ getD (now (s .entry)) at 0 ⌝ }
-{
-    if at < s.len() {
-        return s[at];
-    }
-    0
-}
-
 pub fn is_constraint(b: u8) -> bool
     ensures { λ r. ⌜ r ≡ (eqb b 19 || eqb b 20) ⌝ }
 {
@@ -52,7 +42,7 @@ fn divided(s: &[u8], start: usize, x: &[i64], q: &mut [i64]) -> usize
 {
     let mut at = start;
     let mut d = 0;
-    while code(s, at) == 18 {
+    while codec::code(s, at) == 18 {
         let t = codec::tail(s, at + 1);
         let v = quotient_at(t, x);
         q[d] = v;
@@ -76,12 +66,12 @@ fn still(before: bool, b: u8, t: &[u8], x: &[i64], q: &[i64]) -> bool
 // Whether the constraints from `start` on hold, and the place after them.
 fn judged(s: &[u8], start: usize, x: &[i64], q: &[i64]) -> Span
     requires { ⌜ Tail (now s) start × Point (now x) × Values (now q) ⌝ }
-    ensures { λ r. ⌜ Judged (now (s .entry)) start (now (x .entry)) (now (q .entry)) r ⌝ }
+    ensures { λ r. ⌜ Judged (now (s .entry)) start (M.holds (pos 1) (now (x .entry)) (now (q .entry))) r ⌝ }
 {
     let mut at = start;
     let mut holds = true;
-    while is_constraint(code(s, at)) {
-        let b = code(s, at);
+    while is_constraint(codec::code(s, at)) {
+        let b = codec::code(s, at);
         let t = codec::tail(s, at + 1);
         holds = still(holds, b, t, x, q);
         at += 37;
@@ -92,7 +82,7 @@ fn judged(s: &[u8], start: usize, x: &[i64], q: &[i64]) -> Span
     }
 }
 
-fn no_values() -> [i64; 8]
+pub fn no_values() -> [i64; 8]
     ensures { λ r. ⌜ (length r ≡ 8) × AllWithin 549755813888 r ⌝ }
 {
     [0i64; 8]
@@ -101,7 +91,7 @@ fn no_values() -> [i64; 8]
 // The basic set whose commands start at `start`.
 fn spanned(s: &[u8], start: usize, x: &[i64]) -> Span
     requires { ⌜ Opened (now s) start × Point (now x) ⌝ }
-    ensures { λ r. ⌜ Spanned (now (s .entry)) start (now (x .entry)) r ⌝ }
+    ensures { λ r. ⌜ Spanned (now (s .entry)) start (M.inBasic (now (x .entry))) r ⌝ }
 {
     let mut q = no_values();
     let d = divided(s, start, x, &mut q);
@@ -157,7 +147,7 @@ pub fn point_fits(n: usize, point: [i32; 8]) -> bool
     true
 }
 
-fn wide(z: i32) -> i64
+pub fn wide(z: i32) -> i64
     ensures { λ r. ⌜ r ≡ z ⌝ }
 {
     z as i64

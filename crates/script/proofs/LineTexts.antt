@@ -8,6 +8,8 @@ use Rattle.model.specs.Lists.{concatMap}
 use Rattle.model.specs.Sets.{Kind}
 use Rattle.codec.specs.Bytes.{valueOf, signed, signedList, readDivision, readConstraint}
 use Rattle.script.specs.Text.{codes, number, line, word, divisionLine, constraintLine}
+use Rattle.query.specs.Search.{at}
+use Rattle.script.specs.Script.{foundLine}
 use Rattle.script.specs.Written.{signedIn}
 use Rattle.script.proofs.Writing.{concat-append, signed-take}
 
@@ -31,3 +33,10 @@ constraint-text n k c kind t h j q =
     ∙ ap (λ (c : ℕ). number (signedIn 4294967296 c) ++ concatMap number (A ++ B)) q
     ∙ ap₂ (λ (l m : List ℤ). number (signed 4 (valueOf (take 4 t))) ++ concatMap number (l ++ m)) (sym (signed-take n 8 (drop 4 t) h)) (sym (signed-take k 8 (drop 20 t) j)))
     ∙ sym (append-assoc (codes (word kind)) (concatMap number (signed 4 (valueOf (take 4 t)) ∷ (take n (signedList 8 (drop 4 t)) ++ take k (signedList 8 (drop 20 t))))) (10 ∷ []))
+
+pub at-text : (n : ℕ) (p : List ℤ) (k : ℕ) → codes "at" ++ (concatMap number (take n p) ++ (number (pos k) ++ (10 ∷ []))) ≡ foundLine k (at (take n p))
+at-text n p k =
+    ap (λ (l : List ℕ). codes "at" ++ l)
+    (sym (append-assoc (concatMap number (take n p)) (number (pos k)) (10 ∷ []))
+    ∙ ap (λ (l : List ℕ). (concatMap number (take n p) ++ l) ++ (10 ∷ [])) (sym (append-nil (number (pos k))))
+    ∙ ap (λ (l : List ℕ). l ++ (10 ∷ [])) (sym (concat-append number (take n p) (pos k ∷ []))))

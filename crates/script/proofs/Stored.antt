@@ -95,6 +95,19 @@ module _ (st : State) (fit : T (axesFit (st .axes))) (good : (m : ℕ) → Decod
       (pick (eqb b 0x46) (told-sound memberLine (memberBytes n (setAt st m) (coordinates 8 (drop 1 s))))
       (told-sound searchLine (searchBytes n (setAt st m) (coordinates 8 (drop 5 s)) (coordinates 8 (drop 37 s)) (valueOf (take 4 (drop 1 s)))))))))))
 
+-- "A refusal prints a line, .. and leaves the target set": the state is as it was, and the script goes on
+pub refusal-leaves : (st : State) (m k : ℕ) → (stored st m (refused k) .state ≡ st) × (stored st m (refused k) .goes ≡ true)
+refusal-leaves st m k = (refl, refl)
+
+-- a load over 8,000 bytes: the set's own refusal, else 11
+pub load-refused : (n : ℕ) (l : List ℕ) (k : ℕ) → decode n l ≡ refused k → loadBytes n l ≡ refused k
+unfolding loadBytes
+load-refused n l k e = rw e
+
+pub load-long : (n : ℕ) (l : List ℕ) (s : Set) → decode n l ≡ gives s → leb (length l) room ≡ false → loadBytes n l ≡ refused 11
+unfolding loadBytes
+load-long n l s e f = rw (e, f)
+
 -- ---- one step
 
 placed : (axes b : ℕ) (s : List ℕ) → ending axes (b ∷ s) ≡ 0 → T (inPlace axes b)

@@ -8,7 +8,9 @@ use native.Mathlib.Nat.{add-zero, add-assoc, pow-suc}
 use native.Mathlib.Omega.{arith}
 use lib.Dec.{ltb}
 use borrow.Author.Tests.{lt-ltb, le-ltb}
-use lib.IntN.{ℤ, pos, negsuc}
+use lib.IntN.{ℤ, pos, negsuc, natAbs}
+use lib.Signed.{_<ℤ_, _≤ℤ_}
+use Rattle.integers.specs.Size.{mag-negative, mag-nonneg}
 use lib.ListN.{length, getD, take, drop, set, length-append, length-take, length-drop, take-append-drop}
 use lib.Seq.{length-take-le, take-at, drop-at, drop-drop, drop-cons, set-split, drop-append-add, take-suc, length-front}
 use Rattle.model.specs.Lists.{concatMap}
@@ -168,3 +170,22 @@ pub signed-take : (n k : ℕ) (l : List ℕ) → n ≤ k → take n (signedList 
 signed-take zero k l h = refl
 signed-take (suc n) zero l h = absurd (omega arith)
 signed-take (suc n) (suc k) l h = ap (λ (r : List ℤ). signed 2 (valueOf (take 2 l)) ∷ r) (signed-take n k (drop 2 l) (omega arith))
+
+-- ---- signed numbers
+
+pub integer-below : (z : ℤ) (m : ℕ) → m ≡ natAbs z → z <ℤ pos 0 → (32 ∷ 45 ∷ digits 20 m []) ≡ number z
+integer-below z m e h = ap (λ (k : ℕ). 32 ∷ 45 ∷ digits 20 k []) (e ∙ ap natAbs (mag-negative h)) ∙ ap number (sym (mag-negative h))
+
+pub integer-from : (z : ℤ) (m : ℕ) → m ≡ natAbs z → pos 0 ≤ℤ z → number (pos m) ≡ number z
+integer-from z m e h = ap (λ (k : ℕ). number (pos k)) (e ∙ ap natAbs (mag-nonneg h)) ∙ ap number (sym (mag-nonneg h))
+
+-- one coordinate more
+pub integers-more : (p : List ℤ) (o o₁ o₂ : List ℕ) (i at k e : ℕ) (z : ℤ) → i < length p → z ≡ getD p i (pos 0)
+    → Writes (22 * i) (concatMap number (take i p)) o at k o₁ → Writes 22 (number z) o₁ k e o₂ → Writes (22 * (i + 1)) (concatMap number (take (i + 1) p)) o at e o₂
+integers-more p o o₁ o₂ i at k e z h q w x =
+    let t : take (i + 1) p ≡ take i p ++ (getD p i (pos 0) ∷ []) = rw add-one (take-suc p i (pos 0) h) in
+    writes-same (omega arith)
+    (ap (λ (l : List ℕ). concatMap number (take i p) ++ l) (sym (append-nil (number z)) ∙ ap (λ (y : ℤ). concatMap number (y ∷ [])) q)
+    ∙ sym (concat-append number (take i p) (getD p i (pos 0) ∷ []))
+    ∙ ap (concatMap number) (sym t))
+    (writes-more w x)

@@ -3,7 +3,7 @@ ghost use mathlib.Core.Path.{_≡_};
 ghost use mathlib.Core.List.{[]};
 ghost use Prim.Native.Nat.{ℕ, _+_, _*_, _≤_, _<_};
 ghost use lib.IntN.{pos};
-ghost use lib.ListN.{length, drop};
+ghost use lib.ListN.{length, take, drop};
 ghost use Rattle.model.specs.Lists.{concatMap};
 ghost use Rattle.codec.specs.Bytes.{signedList};
 ghost use Rattle.script.specs.Text as T;
@@ -65,6 +65,39 @@ pub fn coefficients(out: &mut [u8], at: usize, t: &[u8], p: usize, count: usize)
     let mut i = 0;
     while i < count {
         k = number(out, k, codec::u16_at(t, p + 2 * i), 65536);
+        i += 1;
+    }
+    k
+}
+
+fn wide(z: i32) -> i64
+    ensures { λ r. ⌜ r ≡ z ⌝ }
+{
+    z as i64
+}
+
+// A space and a signed number.
+fn integer(out: &mut [u8], at: usize, z: i32) -> usize
+    requires { ⌜ at + 22 ≤ length (now out) ⌝ }
+    ensures { λ r. ⌜ Writes 22 (T.number z) (now (out .entry)) at r (now (out .exit)) ⌝ }
+{
+    let m = integers::magnitude(wide(z));
+    if z < 0 {
+        let k = word(out, at, b" -");
+        return digits(out, k, m);
+    }
+    natural(out, at, m)
+}
+
+// The first n coordinates of a point.
+pub fn coordinates(out: &mut [u8], at: usize, p: [i32; 8], n: usize) -> usize
+    requires { ⌜ (n ≤ 8) × (at + 22 * n ≤ length (now out)) ⌝ }
+    ensures { λ r. ⌜ Writes (22 * n) (concatMap T.number (take n p)) (now (out .entry)) at r (now (out .exit)) ⌝ }
+{
+    let mut k = at;
+    let mut i = 0;
+    while i < n {
+        k = integer(out, k, p[i]);
         i += 1;
     }
     k

@@ -7,3 +7,9 @@ pub mod Verdicts
 pub mod Lines
 pub mod Moves
 pub mod Far
+pub mod Canonical
+pub mod Shown
+pub mod Bridge
+pub mod Fills
+pub mod Filled
+pub mod Asked

@@ -235,7 +235,7 @@ clear-line n l i f =
     record { fit = f .fit; long = length-set l i (pos 0) ∙ f .long; blank = λ k a. zero-cleared l i k (f .blank k a) }
 
 -- ---- functions that keep 0
-map-zero : (g : ℤ → ℤ) (l : List ℤ) (k : ℕ) → g (pos 0) ≡ pos 0 → getD (map g l) k (pos 0) ≡ g (getD l k (pos 0))
+pub map-zero : (g : ℤ → ℤ) (l : List ℤ) (k : ℕ) → g (pos 0) ≡ pos 0 → getD (map g l) k (pos 0) ≡ g (getD l k (pos 0))
 map-zero g [] k e = sym e
 map-zero g (x ∷ l) zero e = refl
 map-zero g (x ∷ l) (suc k) e = map-zero g l k e
@@ -251,7 +251,7 @@ pub minus-small : (b : ℕ) (l : List ℤ) → Small b l → Small b (minusRow l
 minus-small b l h k = subst (Within b) (sym (map-zero (λ x. pos 0 -ℤ x) l k refl)) (within-minus (h k))
 
 -- ---- what a combination keeps
-combine-at : (m b : ℤ) (l q : List ℤ) (k : ℕ) → length l ≡ length q → getD (combineRows m b l q) k (pos 0) ≡ getD l k (pos 0) *ℤ m -ℤ b *ℤ getD q k (pos 0)
+pub combine-at : (m b : ℤ) (l q : List ℤ) (k : ℕ) → length l ≡ length q → getD (combineRows m b l q) k (pos 0) ≡ getD l k (pos 0) *ℤ m -ℤ b *ℤ getD q k (pos 0)
 unfolding combineRows
 combine-at m b [] [] k e = sym (mulSub-none m b)
 combine-at m b [] (y ∷ q) k e = absurd (omega arith)
@@ -300,6 +300,13 @@ quot-positive : (x : ℤ) (n : ℕ) → pos 0 <ℤ x → 0 < n → n ≤ natAbs 
 quot-positive (pos a) n h p k = positive (a / n) (le-div-iff-mul-le p .1 (omega arith))
 quot-positive (negsuc a) n h p k = absurd (h .lt)
 
+pub reduce-over : (r : List ℤ) → pos 0 <ℤ getD r 0 (pos 0) → pos 0 <ℤ getD (reduceRow r) 0 (pos 0)
+unfolding reduceRow divideRow
+reduce-over r h =
+    let d = row-divisor r h in
+    let g = divisorFrom 0 r in
+    subst (λ x. pos 0 <ℤ x) (sym (map-zero (λ x. quotZ x (pos g)) r 0 (quot-zero (pos g) (positive g (d .0))))) (quot-positive (getD r 0 (pos 0)) g h (d .0) (d .1))
+
 pub reduce-sound : (n b : ℕ) (r : List ℤ) → Sound n b r → Sound n b (reduceRow r)
 unfolding reduceRow divideRow
 reduce-sound n b r h =
@@ -310,18 +317,18 @@ reduce-sound n b r h =
     record {
       line = map-line q n r z (h .line);
       small = λ k. subst (Within b) (sym (map-zero q r k z)) (record { size = le-trans (natAbs-quot (getD r k (pos 0)) g) (h .small k .size) });
-      den = subst (λ x. pos 0 <ℤ x) (sym (map-zero q r 0 z)) (quot-positive (getD r 0 (pos 0)) g (h .den) (d .0) (d .1));
+      den = reduce-over r (h .den);
     }
 
 -- ---- rows solved
-minus-positive : (x : ℤ) → ltZ x (pos 0) ≡ true → pos 0 <ℤ (pos 0 -ℤ x)
+pub minus-positive : (x : ℤ) → ltZ x (pos 0) ≡ true → pos 0 <ℤ (pos 0 -ℤ x)
 minus-positive x h = subst (λ z. pos 0 <ℤ z) (sym (minus-is x)) (go x h)
   where
     go : (x : ℤ) → ltZ x (pos 0) ≡ true → pos 0 <ℤ negℤ x
     go (pos n) h = absurd (not-suc-le-zero (ltb→lt n 0 (subst T (sym h) tt)))
     go (negsuc n) h = positive (suc n) (omega arith)
 
-nonzero-positive : (x : ℤ) → ltZ x (pos 0) ≡ false → (x ≡ pos 0 → ⊥) → pos 0 <ℤ x
+pub nonzero-positive : (x : ℤ) → ltZ x (pos 0) ≡ false → (x ≡ pos 0 → ⊥) → pos 0 <ℤ x
 nonzero-positive (pos zero) h f = absurd (f refl)
 nonzero-positive (pos (suc n)) h f = positive (suc n) (omega arith)
 nonzero-positive (negsuc n) h f = absurd (subst T h tt)

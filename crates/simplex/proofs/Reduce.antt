@@ -27,19 +27,22 @@ gcdFuel-is zero a b h = absurd (not-suc-le-zero h)
 gcdFuel-is (suc f) a zero h = record { left = dvd-refl a; right = dvd-zero a; most = λ k x y. x }
 gcdFuel-is (suc f) a (suc b) h = let m = mod-lt a (zero-lt-suc b) in step-is (gcdFuel-is f (suc b) (a % suc b) (omega arith))
 
-gcd-is : (a b : ℕ) → IsGcd a b (gcd a b)
-gcd-is a b = gcdFuel-is (suc b) a b (omega arith)
+pub euclid-is : (a b : ℕ) → IsGcd a b (gcd a b)
+euclid-is a b = gcdFuel-is (suc b) a b (omega arith)
 
 pub common-divides : (zs : List ℤ) → Divides (commonDivisor zs) zs
 common-divides [] = tt
 common-divides (z ∷ zs) =
-    (gcd-is (natAbs z) (commonDivisor zs) .left, divides-trans (gcd (natAbs z) (commonDivisor zs)) (commonDivisor zs) zs (gcd-is (natAbs z) (commonDivisor zs) .right) (common-divides zs))
+    (euclid-is (natAbs z) (commonDivisor zs) .left, divides-trans (gcd (natAbs z) (commonDivisor zs)) (commonDivisor zs) zs (euclid-is (natAbs z) (commonDivisor zs) .right) (common-divides zs))
 
 -- ---- division that comes out even
 
 rem-zero : (g : ℕ) (z : ℤ) → g ∣ natAbs z → remZ z (pos g) ≡ pos 0
 rem-zero g (pos a) h = ap pos (mod-eq-zero-of-dvd g h)
 rem-zero g (negsuc a) h = ap (λ (n : ℕ). negℤ (pos n)) (mod-eq-zero-of-dvd g h)
+
+pub exactly : (g : ℕ) (z : ℤ) → g ∣ natAbs z → pos g *ℤ quotZ z (pos g) ≡ z
+exactly g z d = lib.IntN.*ℤ-comm (pos g) (quotZ z (pos g)) ∙ exact z (pos g) (rem-zero g z d)
 
 pub evenly : (g : ℕ) (z : ℤ) → 0 < g → g ∣ natAbs z → pos g *ℤ floorDiv z g ≡ z
 evenly g z h d =

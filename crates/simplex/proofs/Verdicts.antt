@@ -72,7 +72,7 @@ lowest-some i (some v ∷ ms) a e = at (lowest (suc i) ms) refl e (lowest-some (
     at none q e f = first e
     at (some k) q e f = pick (ltb (k .0) v) k e (λ z. f (q ∙ z))
 
-lowest-none : (i : ℕ) (ms : List (Option ℕ)) → lowest i ms ≡ none → (m v : ℕ) → getD ms m none ≡ some v → ⊥
+pub lowest-none : (i : ℕ) (ms : List (Option ℕ)) → lowest i ms ≡ none → (m v : ℕ) → getD ms m none ≡ some v → ⊥
 lowest-none i [] e m v f = some-none (sym f)
 lowest-none i (none ∷ ms) e zero v f = some-none (sym f)
 lowest-none i (none ∷ ms) e (suc m) v f = lowest-none (suc i) ms e m v f
@@ -128,7 +128,7 @@ helps-nonzero none z a t e = subst (λ (x : ℤ). T (not (isZero x))) e t
 helps-nonzero (some equality) z a t e = t
 helps-nonzero (some inequality) z a t e = subst (λ (x : ℤ). T (not (nonNeg x))) (ap (λ (x : ℤ). z *ℤ x) e ∙ *ℤ-zero z) t
 
-zero-calm : (s : Option Kind) → T (violates s (pos 0)) → ⊥
+pub zero-calm : (s : Option Kind) → T (violates s (pos 0)) → ⊥
 zero-calm none t = t
 zero-calm (some equality) t = t
 zero-calm (some inequality) t = t
@@ -144,7 +144,7 @@ module _ (sort : ℕ → Option Kind) where
   found-row (r ∷ rs) zero v e = (zero-lt-suc (length rs), when-some (violates (sort (r .var)) (constantOf r)) (r .var) v e, when-is (violates (sort (r .var)) (constantOf r)) (r .var) v e)
   found-row (r ∷ rs) (suc m) v e = let h = found-row rs m v e in (suc-le-suc (h .0), h .1, h .2)
 
-  listed-row : (rs : List Row) (m : ℕ) → Violated rs m → getD (violatedRows sort rs) m none ≡ some (getD rs m noRow .var)
+  pub listed-row : (rs : List Row) (m : ℕ) → Violated rs m → getD (violatedRows sort rs) m none ≡ some (getD rs m noRow .var)
   listed-row [] m t = absurd (zero-calm (sort 0) t)
   listed-row (r ∷ rs) zero t = when-yes (violates (sort (r .var)) (constantOf r)) (r .var) t
   listed-row (r ∷ rs) (suc m) t = listed-row rs m t
@@ -229,8 +229,6 @@ module _ (sort : ℕ → Option Kind) (t : Tableau) where
   looked = found-by-row (lowest 0 (violatedRows sort (t .rows))) refl
 
 -- ---- no column helps: the row cannot reach its condition
-
-
 
 pub from-not-true : (b : Bool) → not b ≡ false → T b
 from-not-true true e = tt

@@ -1,2 +1,3 @@
 pub mod Tableau
 pub mod Table
+pub mod Answers

@@ -2,16 +2,21 @@
 -- A row is a list of 18 numbers: denominator, constant, and the entries of 16 columns. A variable's place is its row, or 64 more than
 -- its column. Its kind is 0 for a free variable, 1 for an inequality or a bound, 2 for an equality.
 use mathlib.Core.Path.{_≡_}
-use mathlib.Core.List.{List, [], _∷_, map}
+use mathlib.Core.List.{List, [], _∷_, _++_, map}
 use mathlib.Core.Bool.{Bool, true, false, not, cond}
-use Prim.Native.Nat.{ℕ, zero, suc, _+_, _-_, _≤_, _<_}
+use Prim.Native.Nat.{ℕ, zero, suc, _+_, _-_, _*_, _≤_, _<_}
 use lib.Dec.{leb, ltb, eqb}
-use lib.ListN.{getD, set, length}
+use lib.ListN.{getD, set, length, take}
 use lib.IntN.{ℤ, pos, negsuc, natAbs, _+ℤ_, _-ℤ_, _*ℤ_}
 use lib.Signed.{quotZ, ltZ, _<ℤ_}
 use Rattle.integers.specs.Z.{Within}
 use Rattle.integers.specs.Gcd.{gcd}
-use Rattle.model.specs.Sets.{isZero}
+use mathlib.Core.Option.{Option, none, some}
+use Rattle.model.specs.Sets as S
+use Rattle.model.specs.Sets.{isZero, Kind, equality, inequality, conditions, bounds}
+use Rattle.model.specs.Values.{basicSetOf, divisionOf, constraintOf}
+use Rattle.model.specs.declared.BasicSet.{BasicSet}
+use Rattle.simplex.specs.Tableau as T
 use Rattle.simplex.specs.Tableau.{bound}
 use Rattle.simplex.specs.declared.Verdict.{Verdict}
 use Rattle.simplex.specs.declared.Verdict.the-variants.{Point, Dropped, Long, Wide}
@@ -177,6 +182,44 @@ unfoldable pub runTable : List ℕ → ℕ → List (List ℤ) → List ℕ → 
 runTable kinds zero rows place = follow (moveOf rows place kinds 0) 0 (λ rows place. record { verdict = Long; left = 0; rows = rows; place = place }) rows place
 runTable kinds (suc n) rows place = follow (moveOf rows place kinds (suc n)) (suc n) (runTable kinds n) rows place
 
+-- ---- how a table shows a tableau of 8 + k columns: the k divisions' columns come first, so that those of absent axes are the last
+
+-- where the tableau's column j stands, and which one stands at c
+abbrev pub columnOf : ℕ → ℕ → ℕ
+columnOf k j = cond (ltb j 8) (k + j) (cond (ltb j (8 + k)) (j - 8) j)
+
+abbrev pub standing : ℕ → ℕ → ℕ
+standing k c = cond (ltb c k) (8 + c) (cond (ltb c (8 + k)) (c - k) c)
+
+-- f 0, f 1, .., of which there are n
+abbrev pub tabulate : {A : Type 0} → ℕ → (ℕ → A) → List A
+tabulate zero f = []
+tabulate (suc n) f = f 0 ∷ tabulate n (λ i. f (suc i))
+
+-- the number at place i of a row's 18
+unfoldable pub numberAt : ℕ → ℤ → List ℤ → ℕ → ℤ
+numberAt k d ns zero = d
+numberAt k d ns (suc zero) = getD ns 0 (pos 0)
+numberAt k d ns (suc (suc c)) = getD ns (suc (standing k c)) (pos 0)
+
+abbrev pub layout : ℕ → T.Row → List ℤ
+layout k r = tabulate 18 (numberAt k (r .den) (r .nums))
+
+abbrev pub kindNumber : Option Kind → ℕ
+kindNumber none = 0
+kindNumber (some inequality) = 1
+kindNumber (some equality) = 2
+
+-- ---- the first table of a basic set
+
+-- the first row of a constraint
+unfoldable pub startRow : ℕ → S.Constraint → List ℤ
+startRow k r = layout k (record { var = 0; den = pos 1; nums = r .constant ∷ T.pad 8 (r .axes) ++ T.pad k (r .divisions) })
+
+-- variable v's first place
+abbrev pub placeAt : ℕ → ℕ → ℕ
+placeAt k v = cond (ltb v 8) (64 + k + v) (cond (ltb v (8 + k)) (64 + (v - 8)) (v - (8 + k)))
+
 -- ---- what the functions ask
 
 -- every number lies within ±n
@@ -233,3 +276,48 @@ pub record Ran (rows : List (List ℤ)) (place kinds : List ℕ) (x : Ended) (ro
   pub pivots-are : x .pivots ≡ 200 - runTable kinds 200 rows place .left
   pub rows-are : rows′ ≡ runTable kinds 200 rows place .rows
   pub place-is : place′ ≡ runTable kinds 200 rows place .place
+
+-- ---- what the first table has
+
+-- s times the first n numbers of a, from place base on
+pub record Copied (base : ℕ) (s : ℤ) (n : ℕ) (a l l′ : List ℤ) : Type 0 where
+  pub long : length l′ ≡ length l
+  pub inside : (i : ℕ) → i < n → getD l′ (base + i) (pos 0) ≡ s *ℤ getD a i (pos 0)
+  pub low : (i : ℕ) → i < base → getD l′ i (pos 0) ≡ getD l i (pos 0)
+  pub high : (i : ℕ) → base + n ≤ i → getD l′ i (pos 0) ≡ getD l i (pos 0)
+
+-- a first row with constant z and axes s·a, and no division yet
+pub record Started (k : ℕ) (z s : ℤ) (a l : List ℤ) : Type 0 where
+  pub long : length l ≡ 18
+  pub den : getD l 0 (pos 0) ≡ pos 1
+  pub constant : getD l 1 (pos 0) ≡ z
+  pub divs : (c : ℕ) → c < k → getD l (c + 2) (pos 0) ≡ pos 0
+  pub axes : (i : ℕ) → i < 8 → getD l (k + 2 + i) (pos 0) ≡ s *ℤ getD a i (pos 0)
+  pub rest : (i : ℕ) → k + 10 ≤ i → getD l i (pos 0) ≡ pos 0
+
+-- the counts of a decoded basic set; candidates of a cut have them too
+pub record Valid (b : BasicSet) : Type 0 where
+  pub divs : b .divs ≤ 8
+  pub cons : b .cons ≤ 48
+  pub divisions : length (b .divisions) ≡ 8
+  pub constraints : length (b .constraints) ≡ 48
+
+-- the rows of the first n divisions' bounds are the first ones
+pub record Bounded (b : BasicSet) (n : ℕ) (rows rows′ : List (List ℤ)) : Type 0 where
+  pub long : length rows′ ≡ length rows
+  pub firsts : take (2 * n) rows′ ≡ map (startRow (b .divs)) (bounds 0 (map divisionOf (take n (b .divisions))))
+
+-- those of the first n constraints come next, and each has its kind
+pub record Ruled (b : BasicSet) (n : ℕ) (rows rows′ : List (List ℤ)) (kinds kinds′ : List ℕ) : Type 0 where
+  pub long : length rows′ ≡ length rows
+  pub names : length kinds′ ≡ length kinds
+  pub firsts : take (2 * b .divs + n) rows′ ≡ take (2 * b .divs) rows ++ map (startRow (b .divs)) (map constraintOf (take n (b .constraints)))
+  pub before : (v : ℕ) → v < 8 + 3 * b .divs → getD kinds′ v 0 ≡ getD kinds v 0
+  pub kinds-are : (c : ℕ) → c < n → getD kinds′ (8 + 3 * b .divs + c) 0 ≡ kindNumber (getD (map (λ r. some (constraintOf r .kind)) (b .constraints)) c none)
+
+-- the places of the first n variables, and their kinds but for the constraints
+pub record Named (k n : ℕ) (place place′ kinds kinds′ : List ℕ) : Type 0 where
+  pub long : length place′ ≡ length place
+  pub names : length kinds′ ≡ length kinds
+  pub places : (v : ℕ) → v < n → getD place′ v 0 ≡ placeAt k v
+  pub free : (v : ℕ) → v < n → getD kinds′ v 0 ≡ cond (ltb v (8 + k)) 0 1

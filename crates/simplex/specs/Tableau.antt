@@ -164,6 +164,16 @@ run fits sort (suc n) t =
       | pivot i j ↦ elim (fits j t) [ false ↦ wide | true ↦ run fits sort n (exchange i j t) ]
     ]
 
+-- how many pivots it makes
+unfoldable pub pivots : (ℕ → Tableau → Bool) → (ℕ → Option Kind) → ℕ → Tableau → ℕ
+pivots fits sort zero t = 0
+pivots fits sort (suc n) t =
+    elim (look sort t) [
+      | noneViolated ↦ 0
+      | noneHelps ↦ 0
+      | pivot i j ↦ elim (fits j t) [ false ↦ 0 | true ↦ suc (pivots fits sort n (exchange i j t)) ]
+    ]
+
 -- the same in two sizes of numbers: what does not fit the first goes on, from that very pivot, under the second
 unfoldable pub carry : (ℕ → Tableau → Bool) → (ℕ → Tableau → Bool) → (ℕ → Option Kind) → ℕ → Tableau → Verdict
 carry fits fits′ sort zero t = run fits′ sort zero t
@@ -224,6 +234,12 @@ testAt W b = run (narrow (bound W)) (sorts b) 200 (begin b)
 
 abbrev pub test : BasicSet → Verdict
 test b = testAt 64 b
+
+unfoldable pub pivotsAt : ℕ → BasicSet → ℕ
+pivotsAt W b = pivots (narrow (bound W)) (sorts b) 200 (begin b)
+
+abbrev pub pivotsMade : BasicSet → ℕ
+pivotsMade b = pivotsAt 64 b
 
 -- with no number limit, and n pivots
 unfoldable pub unlimited : ℕ → BasicSet → Verdict

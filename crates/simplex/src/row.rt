@@ -16,14 +16,14 @@ pub fn common_divisor(r: &[i64; 18], n: usize) -> u64
     ensures { λ g. ⌜ g ≡ divisor (now (r .entry)) ⌝ }
 {
     let mut g: u64 = 0;
-    let mut i: usize = 0;
-    while i < n {
+    let mut at: usize = 0;
+    while at < n {
         if g == 1 {
             return 1;
         }
-        let x = r[i];
+        let x = r[at];
         g = integers::gcd(integers::magnitude(x), g);
-        i += 1;
+        at += 1;
     }
     g
 }

@@ -10,8 +10,6 @@ use Rattle.query.proofs.Reading.{zero-bits}
 use Rattle.query.proofs.Points.{le-yes, le-no}
 use Rattle.query.proofs.membership.coordinate_fits.Statement.{statement}
 use Rattle.query.proofs.membership.coordinate_fits.Tie as tie
-use Rattle.query.proofs.membership.coordinate_fits.Reads as reads
-use Rattle.query.proofs.membership.coordinate_fits.Lts as lts
 
 returns : tie.Need-returns
 returns c =

@@ -14,11 +14,6 @@ use Rattle.codec.specs.Bytes.{readDivision}
 use Rattle.query.proofs.Holding.{Dividing, dividing-start, dividing-at, dividing-next, dividing-end}
 use Rattle.query.proofs.membership.divided.Statement.{statement}
 use Rattle.query.proofs.membership.divided.Tie as tie
-use Rattle.query.proofs.membership.divided.Reads as reads
-use Rattle.query.proofs.membership.divided.Lts as lts
-use Rattle.codec.proofs.tail.Reads as tail-reads
-use Rattle.query.proofs.membership.code.Reads as code-reads
-use Rattle.query.proofs.values.quotient_at.Reads as quotient-at-reads
 
 abbrev Inv-loop : tie.InvT-loop
 Inv-loop s start x q₀ at₀ d₀ q at d = Dividing s start x at d q

@@ -7,9 +7,6 @@ use Rattle.codec.proofs.Boundaries.{boundary-opened}
 use Rattle.query.proofs.Holding.{Finding, finding-start, finding-yes, finding-next, finding-inside, finding-end}
 use Rattle.query.proofs.membership.first_holding.Statement.{statement}
 use Rattle.query.proofs.membership.first_holding.Tie as tie
-use Rattle.query.proofs.membership.first_holding.Reads as reads
-use Rattle.query.proofs.membership.first_holding.Lts as lts
-use Rattle.query.proofs.membership.spanned.Reads as spanned-reads
 
 abbrev Inv-loop : tie.InvT-loop
 Inv-loop s x at₀ number₀ at number = Finding s x at number

@@ -13,12 +13,6 @@ use Rattle.query.proofs.Answers.{bad, axes-most, member-refused, member
 use borrow.Author.Needs.{needs}
 use Rattle.query.proofs.membership.member.Statement.{statement}
 use Rattle.query.proofs.membership.member.Tie as tie
-use Rattle.query.proofs.membership.member.Reads as reads
-use Rattle.query.proofs.membership.member.Lts as lts
-use Rattle.codec.proofs.check.Reads as check-reads
-use Rattle.query.proofs.membership.first_holding.Reads as first-holding-reads
-use Rattle.query.proofs.membership.point_fits.Reads as point-fits-reads
-use Rattle.query.proofs.membership.widened.Reads as widened-reads
 
 check-requires : tie.Need-check-requires
 check-requires c κs = search needs

@@ -2,8 +2,6 @@ use mathlib.Core.Path.{refl}
 use Rattle.query.proofs.Reading.{zeros-all}
 use Rattle.query.proofs.membership.no_values.Statement.{statement}
 use Rattle.query.proofs.membership.no_values.Tie as tie
-use Rattle.query.proofs.membership.no_values.Reads as reads
-use Rattle.query.proofs.membership.no_values.Lts as lts
 
 returns : tie.Need-returns
 returns c = (refl, zeros-all)

@@ -14,9 +14,6 @@ use Rattle.query.specs.Holding.{coordinateFits}
 use Rattle.query.proofs.Points.{fitsFrom, fits-start, fits-next, fits-stop, fits-end}
 use Rattle.query.proofs.membership.point_fits.Statement.{statement}
 use Rattle.query.proofs.membership.point_fits.Tie as tie
-use Rattle.query.proofs.membership.point_fits.Reads as reads
-use Rattle.query.proofs.membership.point_fits.Lts as lts
-use Rattle.query.proofs.membership.coordinate_fits.Reads as coordinate-fits-reads
 
 abbrev Inv-loop : tie.InvT-loop
 Inv-loop n point i₀ i = (i ≤ 8) × (length point ≡ 8) × (fitsFrom n i (drop i point) ≡ pointFits n point)

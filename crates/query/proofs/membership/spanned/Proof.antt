@@ -7,11 +7,6 @@ use Rattle.query.proofs.Holding.{spanned-is}
 use borrow.Author.Needs.{needs}
 use Rattle.query.proofs.membership.spanned.Statement.{statement}
 use Rattle.query.proofs.membership.spanned.Tie as tie
-use Rattle.query.proofs.membership.spanned.Reads as reads
-use Rattle.query.proofs.membership.spanned.Lts as lts
-use Rattle.query.proofs.membership.divided.Reads as divided-reads
-use Rattle.query.proofs.membership.judged.Reads as judged-reads
-use Rattle.query.proofs.membership.no_values.Reads as no-values-reads
 
 no-values-requires : tie.Need-no-values-requires
 no-values-requires c κs = search needs

@@ -8,9 +8,6 @@ use Rattle.query.proofs.Reading.{all-mono}
 use borrow.Author.Needs.{needs}
 use Rattle.query.proofs.membership.still.Statement.{statement}
 use Rattle.query.proofs.membership.still.Tie as tie
-use Rattle.query.proofs.membership.still.Reads as reads
-use Rattle.query.proofs.membership.still.Lts as lts
-use Rattle.query.proofs.values.holds_at.Reads as holds-at-reads
 
 holds-at-requires : tie.Need-holds-at-requires
 holds-at-requires c κs =

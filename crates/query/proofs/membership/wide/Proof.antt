@@ -6,8 +6,6 @@ use Rattle.integers.specs.Mach.{toZ-ofZ}
 use Rattle.integers.specs.Size.{fits-within, within-fits}
 use Rattle.query.proofs.membership.wide.Statement.{statement}
 use Rattle.query.proofs.membership.wide.Tie as tie
-use Rattle.query.proofs.membership.wide.Reads as reads
-use Rattle.query.proofs.membership.wide.Lts as lts
 
 cast-result : tie.Need-cast-result
 cast-result c = rw (toZ-ofZ (c .fits .z)) (within-fits (omega arith) (fits-within (c .fits .z)))

@@ -8,9 +8,6 @@ use Rattle.query.proofs.Points.{eight-is}
 use borrow.Author.Needs.{needs}
 use Rattle.query.proofs.membership.widened.Statement.{statement}
 use Rattle.query.proofs.membership.widened.Tie as tie
-use Rattle.query.proofs.membership.widened.Reads as reads
-use Rattle.query.proofs.membership.widened.Lts as lts
-use Rattle.query.proofs.membership.wide.Reads as wide-reads
 
 array-copy-out-wide : tie.Need-array-copy-out-wide
 array-copy-out-wide c = search needs

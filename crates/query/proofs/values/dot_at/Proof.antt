@@ -16,9 +16,6 @@ use Rattle.codec.specs.Bytes.{valueOf, signed, signedList}
 use Rattle.query.proofs.Reading.{Summed, summed-start, summed-next, summed-end, summed-size, fit-a, fit-x, fit-mul, fit-add}
 use Rattle.query.proofs.values.dot_at.Statement.{statement}
 use Rattle.query.proofs.values.dot_at.Tie as tie
-use Rattle.query.proofs.values.dot_at.Reads as reads
-use Rattle.query.proofs.values.dot_at.Lts as lts
-use Rattle.query.proofs.values.s16_at.Reads as s16-at-reads
 
 abbrev Inv-loop : tie.InvT-loop
 Inv-loop t p x s₀ i₀ q₀ s i q = Summed t p x s i q

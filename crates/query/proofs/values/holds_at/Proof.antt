@@ -18,9 +18,6 @@ use Rattle.query.proofs.Reading.{dots-fit, value-fits, zero-bits, nonne
 use borrow.Author.Needs.{needs}
 use Rattle.query.proofs.values.holds_at.Statement.{statement}
 use Rattle.query.proofs.values.holds_at.Tie as tie
-use Rattle.query.proofs.values.holds_at.Reads as reads
-use Rattle.query.proofs.values.holds_at.Lts as lts
-use Rattle.query.proofs.values.value_at.Reads as value-at-reads
 
 value-at-requires : tie.Need-value-at-requires
 value-at-requires c κs = search needs

@@ -17,10 +17,6 @@ use Rattle.query.proofs.Reading.{all-mono, sum-fits, sum-within, floor-
 use borrow.Author.Needs.{needs}
 use Rattle.query.proofs.values.quotient_at.Statement.{statement}
 use Rattle.query.proofs.values.quotient_at.Tie as tie
-use Rattle.query.proofs.values.quotient_at.Reads as reads
-use Rattle.query.proofs.values.quotient_at.Lts as lts
-use Rattle.query.proofs.values.dot_at.Reads as dot-at-reads
-use Rattle.query.proofs.values.s32_at.Reads as s32-at-reads
 
 s32-at-requires : tie.Need-s32-at-requires
 s32-at-requires c κs = search needs

@@ -18,10 +18,6 @@ use Rattle.query.proofs.Reading.{dots-fit, value-fits, zero-bits, nonne
 use borrow.Author.Needs.{needs}
 use Rattle.query.proofs.values.value_at.Statement.{statement}
 use Rattle.query.proofs.values.value_at.Tie as tie
-use Rattle.query.proofs.values.value_at.Reads as reads
-use Rattle.query.proofs.values.value_at.Lts as lts
-use Rattle.query.proofs.values.dot_at.Reads as dot-at-reads
-use Rattle.query.proofs.values.s32_at.Reads as s32-at-reads
 
 dot-at-requires : tie.Need-dot-at-requires
 dot-at-requires c κs = search needs

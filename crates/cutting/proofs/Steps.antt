@@ -1,0 +1,305 @@
+-- A cut step by step: the constraints that joined, and the steps from which its pieces are made.
+use mathlib.Core.Path.{_≡_, refl, sym, ap, ap₂, _∙_, subst}
+use mathlib.Core.Bool.{Bool, true, false, not, _&&_, _||_, cond}
+use mathlib.Core.List.{List, [], _∷_, _++_, map, append-assoc, append-nil}
+use Prim.Native.Nat.{ℕ, zero, suc, _+_, _-_, _*_, _/_, _%_, _≤_, _<_, zero-le, suc-le-suc}
+use native.Mathlib.Nat.{le-of-suc-le-suc, not-suc-le-zero, le-refl, add-zero}
+use native.Mathlib.Numerals.{add-one}
+use native.Mathlib.Omega.{arith}
+use borrow.Author.Tests.{eq-eqb, ne-eqb, le-leb, lt-leb}
+use lib.Dec.{T, leb, eqb}
+use lib.ListN.{length, take, drop, getD, set, length-append, length-map, length-set, length-take, drop-of-length-le, List·getD-append}
+use lib.Seq.{drop-cons, take-append-le, take-append-seam, take-all, take-take, getD-append-seam, length-take-le, take-suc-set, take-set-le}
+use Rattle.model.specs.Lists.{all, filter, consIf, isNil}
+use Rattle.model.specs.Sets.{Division, Kind, equality, inequality, Constraint, BasicSet}
+use Rattle.model.specs.Values.{constraintOf, basicSetOf}
+use Rattle.model.specs.declared.Constraint.{Constraint as StoredConstraint}
+use Rattle.model.specs.declared.BasicSet.{BasicSet as Stored}
+use Rattle.codec.specs.Bytes.{constantFits}
+use Rattle.codec.proofs.Valid.{All, all-app, ValidConstraint, Valid}
+use Rattle.integers.specs.Mach.{clash}
+use Rattle.algebra.specs.Cut.{above, below, opposites, oppositesAt, kept, cutBy, candidatesFit}
+use lib.IntN.{ℤ}
+use Rattle.cutting.specs.Cutting.{Tables, Sound, Extending, Putting, Below, Above, withLast, candidate, isEquality, noRule, pieceOf, Step, stepsAt}
+use Rattle.cutting.proofs.Placing.{map-take, map-pushed, noConstraint}
+use Rattle.algebra.proofs.Closed.{opposites-valid}
+
+-- ---- a constraint put behind the first ones
+
+pub put-is : (cs : List StoredConstraint) (cons at : ℕ) (r : StoredConstraint) → at ≤ cons → at < length cs
+    → map constraintOf (take (at + 1) (set cs at r)) ≡ take at (map constraintOf (take cons cs)) ++ (constraintOf r ∷ [])
+put-is cs cons at r h g =
+    map-pushed constraintOf noConstraint cs at r g
+    ∙ ap (λ (l : List Constraint). l ++ (constraintOf r ∷ [])) (ap (map constraintOf) (sym (take-take at cons cs h)) ∙ map-take constraintOf noConstraint at (take cons cs))
+
+length-stored : (w : Stored) → length (basicSetOf w .constraints) ≤ w .cons
+length-stored w =
+    let e = length-map (take (w .cons) (w .constraints)) constraintOf in
+    let f = length-take (w .cons) (w .constraints) in
+    omega arith
+
+-- behind all of them
+pub with-all : (w : Stored) (r : Constraint) → withLast (basicSetOf w) (w .cons) r ≡ candidate (basicSetOf w) r
+with-all w r = ap (λ (l : List Constraint). record { divisions = basicSetOf w .divisions; constraints = l ++ (r ∷ []) }) (take-all (w .cons) (basicSetOf w .constraints) (length-stored w))
+
+pub candidate-valid : (n : ℕ) (b : BasicSet) (r : Constraint) → Valid n b → ValidConstraint n (length (b .divisions)) r → length (b .constraints) < 48 → Valid n (candidate b r)
+candidate-valid n b r v u h =
+    record {
+      few-divisions = v .few-divisions;
+      few-constraints = let e = length-append (b .constraints) (r ∷ []) in omega arith;
+      divisions = v .divisions;
+      constraints = all-app (ValidConstraint n (length (b .divisions))) (b .constraints) (r ∷ []) (v .constraints) (u, tt);
+    }
+
+pub below-of : {n k : ℕ} {r : Constraint} → ValidConstraint n k r → Below r
+below-of v = record { axes = v .axes; divisions = v .divisions }
+
+pub above-of : {n k : ℕ} {r : Constraint} → r .kind ≡ equality → ValidConstraint n k r → Above r
+above-of {n} {k} {r} e v = record { constant = subst (λ (q : Kind). T (constantFits q (r .constant))) e (v .constant) }
+
+-- a candidate as it is stored
+pub stored-candidate : (w q : Stored) (o : StoredConstraint) (x : Constraint) → Putting w (w .cons) o q → constraintOf o ≡ x → basicSetOf q ≡ candidate (basicSetOf w) x
+stored-candidate w q o x p e = p .is ∙ with-all w (constraintOf o) ∙ ap (candidate (basicSetOf w)) e
+
+pub sound-candidate : (w q : Stored) (r o : StoredConstraint) (e : Extending w r) → Putting w (w .cons) o q → ValidConstraint (e .n) (length (basicSetOf w .divisions)) (constraintOf o) → Sound q
+sound-candidate w q r o e p v =
+    record {
+      n = e .n;
+      valid = subst (Valid (e .n)) (sym (stored-candidate w q o (constraintOf o) p refl)) (candidate-valid (e .n) (basicSetOf w) (constraintOf o) (e .valid) v (let l = length-stored w in let m = e .cons in omega arith));
+      divs = let d = p .divs in let m = e .divs in omega arith;
+      cons = let d = p .cons in let m = e .cons in omega arith;
+    }
+
+pub above-valid : (n k : ℕ) (r : Constraint) → r .kind ≡ equality → ValidConstraint n k r → ValidConstraint n k (above r)
+above-valid n k r e v = subst (λ (q : Kind). All (ValidConstraint n k) (oppositesAt q r)) e (opposites-valid n k r v) .0
+
+pub tables-kept : {rows rows′ : List (List ℤ)} {place place′ kinds kinds′ : List ℕ} → Tables rows place kinds → length rows′ ≡ length rows → length place′ ≡ length place → length kinds′ ≡ length kinds → Tables rows′ place′ kinds′
+tables-kept t p q r = record { high = p ∙ t .high; long = q ∙ t .long; wide = r ∙ t .wide }
+
+-- ---- what a turn stores
+
+pub bit-small : (b : Bool) → cond b 1 0 ≤ 1
+bit-small true = omega arith
+bit-small false = omega arith
+
+-- one step each for those that are kept
+pub steps-stored : (l : List ℕ) (n u v : ℕ) (a b : Bool) → n + 1 < length l → take (n + cond a 1 0 + cond b 1 0) (set (set l n u) (n + cond a 1 0) v) ≡ take n l ++ (cond a (u ∷ []) [] ++ cond b (v ∷ []) [])
+steps-stored l n u v true true h =
+    let g : n < length l = omega arith in
+    let k : n + 1 < length (set l n u) = rw (length-set) h in
+    let e : take (n + 1 + 1) (set (set l n u) (n + 1) v) ≡ take (n + 1) (set l n u) ++ (v ∷ []) = rw (add-one (n + 1)) (take-suc-set (set l n u) (n + 1) v k) in
+    let f : take (n + 1) (set l n u) ≡ take n l ++ (u ∷ []) = rw (add-one) (take-suc-set l n u g) in
+    e ∙ ap (λ (x : List ℕ). x ++ (v ∷ [])) f ∙ append-assoc (take n l) (u ∷ []) (v ∷ [])
+steps-stored l n u v true false h =
+    let g : n < length l = omega arith in
+    let f : take (n + 1) (set l n u) ≡ take n l ++ (u ∷ []) = rw (add-one) (take-suc-set l n u g) in
+    ap (λ (k : ℕ). take k (set (set l n u) (n + 1) v)) (add-zero (n + 1)) ∙ take-set-le (n + 1) (set l n u) (n + 1) v (le-refl (n + 1)) ∙ f
+steps-stored l n u v false true h =
+    let k : n < length (set l n u) = rw (length-set) (omega arith) in
+    let e : take (n + 1) (set (set l n u) n v) ≡ take n (set l n u) ++ (v ∷ []) = rw (add-one) (take-suc-set (set l n u) n v k) in
+    ap (λ (j : ℕ). take (j + 1) (set (set l n u) j v)) (add-zero n) ∙ e ∙ ap (λ (x : List ℕ). x ++ (v ∷ [])) (take-set-le n l n u (le-refl n))
+steps-stored l n u v false false h =
+    ap (λ (j : ℕ). take j (set (set l n u) (n + 0) v)) (add-zero (n + 0)) ∙ ap (λ (j : ℕ). take j (set (set l n u) j v)) (add-zero n)
+    ∙ take-set-le n (set l n u) n v (le-refl n) ∙ take-set-le n l n u (le-refl n) ∙ sym (append-nil (take n l))
+
+pub joined-stored : (cs : List StoredConstraint) (n : ℕ) (r : StoredConstraint) (b : Bool) → n < length cs
+    → map constraintOf (take (n + cond b 1 0) (set cs n r)) ≡ cond b (map constraintOf (take n cs) ++ (constraintOf r ∷ [])) (map constraintOf (take n cs))
+joined-stored cs n r true h = map-pushed constraintOf noConstraint cs n r h
+joined-stored cs n r false h = rw (add-zero) (ap (map constraintOf) (take-set-le n cs n r (le-refl n)))
+
+-- ---- one constraint of the cutter
+
+module _ (ds : List Division) where
+  abbrev over : List Constraint → BasicSet
+  over w = record { divisions = ds; constraints = w }
+
+  abbrev two : Bool → Bool → BasicSet → BasicSet → List BasicSet
+  two a b x y = cond a (x ∷ []) [] ++ cond b (y ∷ []) []
+
+  -- the kept candidates, from what is kept of each
+  module _ (keep : BasicSet → Bool) (w : List Constraint) (r : Constraint) (a b : Bool)
+      (p : a ≡ isEquality (r .kind) && keep (candidate (over w) (above r))) (q : b ≡ keep (candidate (over w) (below r))) where
+    pub kept-is : kept keep ds w (opposites r) ≡ two a b (candidate (over w) (above r)) (candidate (over w) (below r))
+    kept-is = at (r .kind) p
+      where
+        ends : (c : Bool) (y : BasicSet) → consIf c y [] ≡ cond c (y ∷ []) []
+        ends true y = refl
+        ends false y = refl
+
+        then : (c : Bool) (x : BasicSet) (l : List BasicSet) → consIf c x l ≡ cond c (x ∷ []) [] ++ l
+        then true x l = refl
+        then false x l = refl
+
+        at : (k : Kind) → a ≡ isEquality k && keep (candidate (over w) (above r)) → kept keep ds w (oppositesAt k r) ≡ two a b (candidate (over w) (above r)) (candidate (over w) (below r))
+        at equality p =
+            then (keep (candidate (over w) (above r))) (candidate (over w) (above r)) (consIf (keep (candidate (over w) (below r))) (candidate (over w) (below r)) [])
+            ∙ ap₂ (λ (c : Bool) (l : List BasicSet). cond c (candidate (over w) (above r) ∷ []) [] ++ l) (sym p) (ends (keep (candidate (over w) (below r))) (candidate (over w) (below r)) ∙ ap (λ (c : Bool). cond c (candidate (over w) (below r) ∷ []) []) (sym q))
+        at inequality p =
+            ends (keep (candidate (over w) (below r))) (candidate (over w) (below r))
+            ∙ ap₂ (λ (c d : Bool). cond c (candidate (over w) (above r) ∷ []) [] ++ cond d (candidate (over w) (below r) ∷ []) []) (sym p) (sym q)
+
+    nil-two : (c d : Bool) (x y : BasicSet) (u v : List Constraint) → cond (isNil (two c d x y)) u v ≡ cond (c || d) v u
+    nil-two true d x y u v = refl
+    nil-two false true x y u v = refl
+    nil-two false false x y u v = refl
+
+    pub working-is : cond (isNil (kept keep ds w (opposites r))) w (w ++ (r ∷ [])) ≡ cond (a || b) (w ++ (r ∷ [])) w
+    working-is = ap (λ (l : List BasicSet). cond (isNil l) w (w ++ (r ∷ []))) kept-is ∙ nil-two a b (candidate (over w) (above r)) (candidate (over w) (below r)) w (w ++ (r ∷ []))
+
+    pub above-equal : a ≡ true → r .kind ≡ equality
+    above-equal t = at (r .kind) refl p
+      where
+        at : (k : Kind) → r .kind ≡ k → a ≡ isEquality k && keep (candidate (over w) (above r)) → r .kind ≡ equality
+        at equality e p = e
+        at inequality e p = clash t p
+
+  -- the steps at a constraint's place make these candidates
+  module _ (w : List Constraint) (r : Constraint) where
+    full : List Constraint
+    full = w ++ (r ∷ [])
+
+    seam : (v : ℕ) → v / 2 ≡ length w → (o : Constraint → Constraint → Constraint)
+        → withLast (over (w ++ (r ∷ []))) (v / 2) (o (getD (w ++ (r ∷ [])) (v / 2) noRule) (getD (w ++ (r ∷ [])) (v / 2) noRule)) ≡ candidate (over w) (o r r)
+    seam v e o =
+        ap (λ (k : ℕ). withLast (over (w ++ (r ∷ []))) k (o (getD (w ++ (r ∷ [])) k noRule) (getD (w ++ (r ∷ [])) k noRule))) e
+        ∙ ap₂ (λ (l : List Constraint) (x : Constraint). record { divisions = ds; constraints = l ++ (o x x ∷ []) }) (take-append-seam w (r ∷ [])) (getD-append-seam w r [] noRule)
+
+    odd-piece : pieceOf (over (w ++ (r ∷ []))) (length w + length w + 1) ≡ candidate (over w) (above r)
+    odd-piece =
+        let h : (length w + length w + 1) / 2 ≡ length w = omega arith in
+        let m : (length w + length w + 1) % 2 ≡ 1 = omega arith in
+        seam (length w + length w + 1) h (λ x y. cond (eqb ((length w + length w + 1) % 2) 1) (above x) (below y))
+        ∙ ap (λ (c : Bool). candidate (over w) (cond c (above r) (below r))) (eq-eqb ((length w + length w + 1) % 2) 1 m)
+
+    even-piece : pieceOf (over (w ++ (r ∷ []))) (length w + length w + 0) ≡ candidate (over w) (below r)
+    even-piece =
+        let h : (length w + length w + 0) / 2 ≡ length w = omega arith in
+        let m : (length w + length w + 0) % 2 ≡ 1 → ⊥ = λ e. omega arith in
+        seam (length w + length w + 0) h (λ x y. cond (eqb ((length w + length w + 0) % 2) 1) (above x) (below y))
+        ∙ ap (λ (c : Bool). candidate (over w) (cond c (above r) (below r))) (ne-eqb ((length w + length w + 0) % 2) 1 m)
+
+    new-pieces : (a b : Bool) → map (pieceOf (over (cond (a || b) (w ++ (r ∷ [])) w))) (stepsAt (length w) a b) ≡ two a b (candidate (over w) (above r)) (candidate (over w) (below r))
+    new-pieces true true = ap₂ (λ (x y : BasicSet). x ∷ y ∷ []) odd-piece even-piece
+    new-pieces true false = ap (λ (x : BasicSet). x ∷ []) odd-piece
+    new-pieces false true = ap (λ (x : BasicSet). x ∷ []) even-piece
+    new-pieces false false = refl
+
+    old-piece : (v : ℕ) → v / 2 < length w → pieceOf (over (w ++ (r ∷ []))) v ≡ pieceOf (over w) v
+    old-piece v h =
+        ap₂ (λ (l : List Constraint) (x : Constraint). record { divisions = ds; constraints = l ++ (cond (eqb (v % 2) 1) (above x) (below x) ∷ []) })
+        (take-append-le (v / 2) w (r ∷ []) (omega arith)) (List·getD-append w (r ∷ []) noRule (v / 2) h)
+
+    old-pieces : (vs : List ℕ) → All (Step w) vs → map (pieceOf (over (w ++ (r ∷ [])))) vs ≡ map (pieceOf (over w)) vs
+    old-pieces [] s = refl
+    old-pieces (v ∷ vs) s = ap₂ (λ (x : BasicSet) (l : List BasicSet). x ∷ l) (old-piece v (s .0 .inside)) (old-pieces vs (s .1))
+
+    kept-pieces : (c : Bool) (vs : List ℕ) → All (Step w) vs → map (pieceOf (over (cond c (w ++ (r ∷ [])) w))) vs ≡ map (pieceOf (over w)) vs
+    kept-pieces true vs s = old-pieces vs s
+    kept-pieces false vs s = refl
+
+-- ---- steps stay steps
+
+step-more : (w : List Constraint) (r : Constraint) (v : ℕ) → Step w v → Step (w ++ (r ∷ [])) v
+step-more w r v s =
+    record {
+      inside = let e = length-append w (r ∷ []) in let h = s .inside in omega arith;
+      equal = λ m. ap (λ (x : Constraint). x .kind) (List·getD-append w (r ∷ []) noRule (v / 2) (s .inside)) ∙ s .equal m;
+    }
+
+steps-more : (c : Bool) (w : List Constraint) (r : Constraint) (vs : List ℕ) → All (Step w) vs → All (Step (cond c (w ++ (r ∷ [])) w)) vs
+steps-more false w r vs s = s
+steps-more true w r [] s = tt
+steps-more true w r (v ∷ vs) s = (step-more w r v (s .0), steps-more true w r vs (s .1))
+
+steps-new : (w : List Constraint) (r : Constraint) (a b : Bool) → (a ≡ true → r .kind ≡ equality) → All (Step (cond (a || b) (w ++ (r ∷ [])) w)) (stepsAt (length w) a b)
+steps-new w r a b q = at a b q
+  where
+    odd : r .kind ≡ equality → Step (w ++ (r ∷ [])) (length w + length w + 1)
+    odd e =
+        let h : (length w + length w + 1) / 2 ≡ length w = omega arith in
+        record {
+          inside = let l = length-append w (r ∷ []) in omega arith;
+          equal = λ m. ap (λ (k : ℕ). getD (w ++ (r ∷ [])) k noRule .kind) h ∙ ap (λ (x : Constraint). x .kind) (getD-append-seam w r [] noRule) ∙ e;
+        }
+
+    even : Step (w ++ (r ∷ [])) (length w + length w + 0)
+    even =
+        record {
+          inside = let l = length-append w (r ∷ []) in omega arith;
+          equal = λ m. absurd (no m);
+        }
+      where
+        no : (length w + length w + 0) % 2 ≡ 1 → ⊥
+        no m = omega arith
+
+    at : (a b : Bool) → (a ≡ true → r .kind ≡ equality) → All (Step (cond (a || b) (w ++ (r ∷ [])) w)) (stepsAt (length w) a b)
+    at true true q = (odd (q refl), (even, tt))
+    at true false q = (odd (q refl), tt)
+    at false true q = (even, tt)
+    at false false q = tt
+
+-- ---- the cut so far: k constraints of the cutter done, w joined, the pieces made from the steps
+
+pub record Carved (keep : BasicSet → Bool) (ds : List Division) (w₀ rs : List Constraint) (k : ℕ) (w : List Constraint) (vs : List ℕ) : Type 0 where
+  pub pieces : map (pieceOf (over ds w)) vs ++ cutBy keep ds w (drop k rs) ≡ cutBy keep ds w₀ rs
+  pub fits : candidatesFit keep ds w (drop k rs) ≡ candidatesFit keep ds w₀ rs
+  pub steps : All (Step w) vs
+  pub every : (n d : ℕ) → All (ValidConstraint n d) w₀ → All (ValidConstraint n d) rs → All (ValidConstraint n d) w
+
+pub carved-start : (keep : BasicSet → Bool) (ds : List Division) (w rs : List Constraint) → Carved keep ds w rs 0 w []
+carved-start keep ds w rs = record { pieces = refl; fits = refl; steps = tt; every = λ n d p q. p }
+
+module _ (keep : BasicSet → Bool) (ds : List Division) (w₀ rs : List Constraint) (k : ℕ) (w : List Constraint) (vs : List ℕ) (c : Carved keep ds w₀ rs k w vs) where
+  -- a candidate over 48
+  pub carved-full : k < length rs → 48 ≤ length w → candidatesFit keep ds w₀ rs ≡ false
+  carved-full h g =
+      let l : 48 < length w + 1 = omega arith in
+      sym (c .fits) ∙ ap (candidatesFit keep ds w) (drop-cons rs k noRule h)
+      ∙ ap (λ (b : Bool). b && candidatesFit keep ds (cond (isNil (kept keep ds w (opposites (getD rs k noRule)))) w (w ++ (getD rs k noRule ∷ []))) (drop (suc k) rs)) (lt-leb (length w + 1) 48 l)
+
+  module _ (h : k < length rs) (room : length w < 48) (r : Constraint) (is : getD rs k noRule ≡ r) (a b : Bool)
+      (p : a ≡ isEquality (r .kind) && keep (candidate (over ds w) (above r))) (q : b ≡ keep (candidate (over ds w) (below r))) where
+    here : drop k rs ≡ r ∷ drop (k + 1) rs
+    here = rw (add-one) (drop-cons rs k noRule h ∙ ap (λ (x : Constraint). x ∷ drop (suc k) rs) is)
+
+    pub carved-next : Carved keep ds w₀ rs (k + 1) (cond (a || b) (w ++ (r ∷ [])) w) (vs ++ stepsAt (length w) a b)
+    carved-next =
+        let w′ : List Constraint = cond (a || b) (w ++ (r ∷ [])) w in
+        let l : length w + 1 ≤ 48 = omega arith in
+        record {
+          pieces =
+              ap (λ (x : List BasicSet). x ++ cutBy keep ds w′ (drop (k + 1) rs))
+              (map-both (pieceOf (over ds w′)) vs (stepsAt (length w) a b) ∙ ap₂ (λ (x y : List BasicSet). x ++ y) (kept-pieces ds w r (a || b) vs (c .steps)) (new-pieces ds w r a b))
+              ∙ append-assoc (map (pieceOf (over ds w)) vs) (two ds a b (candidate (over ds w) (above r)) (candidate (over ds w) (below r))) (cutBy keep ds w′ (drop (k + 1) rs))
+              ∙ ap (λ (x : List BasicSet). map (pieceOf (over ds w)) vs ++ x)
+              (ap₂ (λ (x : List BasicSet) (y : List Constraint). x ++ cutBy keep ds y (drop (k + 1) rs)) (sym (kept-is ds keep w r a b p q)) (sym (working-is ds keep w r a b p q))
+              ∙ ap (cutBy keep ds w) (sym here))
+              ∙ c .pieces;
+          fits =
+              sym (ap (λ (x : Bool). x && candidatesFit keep ds w′ (drop (k + 1) rs)) (le-leb (length w + 1) 48 l))
+              ∙ ap (λ (y : List Constraint). leb (length w + 1) 48 && candidatesFit keep ds y (drop (k + 1) rs)) (sym (working-is ds keep w r a b p q))
+              ∙ ap (candidatesFit keep ds w) (sym here)
+              ∙ c .fits;
+          steps = all-app (Step w′) vs (stepsAt (length w) a b) (steps-more (a || b) w r vs (c .steps)) (steps-new w r a b (above-equal ds keep w r a b p q));
+          every = λ n d x y. every-more (ValidConstraint n d) (c .every n d x y) y (a || b);
+        }
+      where
+        map-both : (f : ℕ → BasicSet) (l m : List ℕ) → map f (l ++ m) ≡ map f l ++ map f m
+        map-both f [] m = refl
+        map-both f (x ∷ l) m = ap (λ (z : List BasicSet). f x ∷ z) (map-both f l m)
+
+        last : (P : Constraint → Type 0) (j : ℕ) (l : List Constraint) → All P l → All P (drop j l)
+        last P zero l p = p
+        last P (suc j) [] p = p
+        last P (suc j) (x ∷ l) p = last P j l (p .1)
+
+        every-more : (P : Constraint → Type 0) → All P w → All P rs → (t : Bool) → All P (cond t (w ++ (r ∷ [])) w)
+        every-more P x y false = x
+        every-more P x y true = all-app P w (r ∷ []) x (subst (All P) here (last P k rs y) .0, tt)
+
+  pub carved-end : length rs ≤ k → (map (pieceOf (over ds w)) vs ≡ cutBy keep ds w₀ rs) × (candidatesFit keep ds w₀ rs ≡ true)
+  carved-end h =
+      let e : drop k rs ≡ [] = drop-of-length-le rs h in (
+        sym (ap (λ (l : List Constraint). map (pieceOf (over ds w)) vs ++ cutBy keep ds w l) e ∙ append-nil (map (pieceOf (over ds w)) vs)) ∙ c .pieces,
+        sym (c .fits) ∙ ap (candidatesFit keep ds w) e,
+      )

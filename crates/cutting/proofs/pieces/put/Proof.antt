@@ -1,0 +1,39 @@
+use mathlib.Core.Path.{_≡_, refl, sym, ap, ap₂, _∙_, subst}
+use mathlib.Core.Bool.{Bool, true, false, not, _&&_, _||_, cond}
+use mathlib.Core.List.{List, [], _∷_, _++_, map}
+use Prim.Native.Nat.{ℕ, zero, suc, _+_, _-_, _*_, _/_, _%_, _≤_, _<_}
+use native.Mathlib.Omega.{arith}
+use native.Mathlib.Numerals.{add-one}
+use lib.Dec.{T, eqb, leb}
+use lib.ListN.{length, take, drop, getD, set, length-set, length-map}
+use Rattle.model.specs.Sets as S
+use Rattle.model.specs.Values.{kindIs, divisionOf, constraintOf, basicSetOf}
+use Rattle.algebra.specs.Cut as C
+use Rattle.cutting.proofs.Steps.{put-is}
+use borrow.Author.Needs.{needs}
+use Rattle.cutting.proofs.pieces.put.Statement.{statement}
+use Rattle.cutting.proofs.pieces.put.Tie as tie
+use Rattle.cutting.proofs.pieces.put.Reads as reads
+use Rattle.cutting.proofs.pieces.put.Lts as lts
+
+-- src/pieces.rt:44:5
+mul-r : tie.Need-mul-r
+mul-r c = search needs
+
+-- src/pieces.rt:44:5
+element-set-from-r : tie.Need-element-set-from-r
+element-set-from-r c = search needs
+
+-- src/pieces.rt:45:14
+add-q : tie.Need-add-q
+add-q c = search needs
+
+-- src/pieces.rt:39:1
+returns : tie.Need-returns
+returns c =
+    let l : length (c .args .w .constraints) ≡ 48 = simp length-map at (c .good .0 .1 .1 .1 .0 .1 .0 .1) in
+    let e = put-is (c .args .w .constraints) (c .args .w .cons) (c .args .at) (c .args .r) (c .pre .0) (omega arith) in
+    record { is = λ i. record { divisions = basicSetOf (c .args .w) .divisions; constraints = e i }; divs = refl; cons = refl }
+
+pub put-spec : {M : Type 1} → statement M
+put-spec = tie.close (tie.spec mul-r element-set-from-r add-q returns)

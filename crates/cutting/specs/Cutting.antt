@@ -1,0 +1,171 @@
+-- What the functions that join and cut ask and give.
+use mathlib.Core.Path.{_≡_}
+use mathlib.Core.Bool.{Bool, true, false, _&&_, _||_, cond}
+use mathlib.Core.List.{List, [], _∷_, _++_, map}
+use mathlib.Core.Option.{Option, none, some}
+use Prim.Native.Nat.{ℕ, _+_, _*_, _/_, _%_, _≤_, _<_}
+use lib.Dec.{T, leb, ltb, eqb}
+use lib.IntN.{ℤ, pos}
+use lib.ListN.{length, take, getD}
+use Rattle.model.specs.Lists.{all, any}
+use Rattle.model.specs.Sets.{Division, Kind, equality, inequality, Constraint, BasicSet}
+use Rattle.model.specs.Values.{kindIs, divisionOf, constraintOf, basicSetOf}
+use Rattle.model.specs.declared.Division.{Division as StoredDivision}
+use Rattle.model.specs.declared.Constraint.{Constraint as StoredConstraint}
+use Rattle.model.specs.declared.BasicSet.{BasicSet as Stored}
+use Rattle.codec.specs.Bytes.{coefficient, constantFits}
+use Rattle.codec.proofs.Valid.{All, ValidConstraint, Valid}
+use Rattle.algebra.specs.Cut.{above, below, seek, join, keeps, cut, cutFits, both, bothFits}
+use Rattle.cutting.specs.declared.divisions.Joined.{Joined}
+use Rattle.cutting.specs.declared.pieces.Survivors.{Survivors}
+use Rattle.cutting.specs.declared.pieces.CutSteps.{CutSteps}
+use Rattle.cutting.specs.declared.pieces.Pairing.{Pairing}
+
+-- coefficients whose opposites fit
+pub record Below (r : Constraint) : Type 0 where
+  pub axes : T (all coefficient (r .axes))
+  pub divisions : T (all coefficient (r .divisions))
+
+-- an equality's constant, so that e − 1 fits
+pub record Above (r : Constraint) : Type 0 where
+  pub constant : T (constantFits equality (r .constant))
+
+-- place r of n, none where it is n
+abbrev pub placeOf : ℕ → ℕ → Option ℕ
+placeOf n r = cond (ltb r n) (some r) none
+
+-- what `seek` finds, for each list of taken places that the flags show
+pub record Seeking (e : Division) (ds : List Division) (n : ℕ) (flags : List Bool) (r : ℕ) : Type 0 where
+  pub found : (taken : List ℕ) → ((i : ℕ) → i < n → getD flags i false ≡ any (eqb i) taken) → seek e taken 0 ds ≡ placeOf n r
+
+pub record Joining (ds es : List Division) (m : ℕ) (r : Joined) : Type 0 where
+  pub fits : r .fits ≡ leb (length (join ds es .all)) 8
+  pub few : r .divs ≤ 8
+  pub all : r .fits ≡ true → map divisionOf (take (r .divs) (r .divisions)) ≡ join ds es .all
+  pub places : r .fits ≡ true → take m (r .places) ≡ join ds es .places
+
+-- places that a join within 8 divisions gives
+pub record Placed (is : List ℕ) : Type 0 where
+  pub ds : List Division
+  pub es : List Division
+  pub places : is ≡ join ds es .places
+  pub few : length (join ds es .all) ≤ 8
+
+-- ---- one cut
+
+-- the lent tables of the test for fractions have the sizes that it needs
+pub record Tables (rows : List (List ℤ)) (place kinds : List ℕ) : Type 0 where
+  pub high : length rows ≡ 64
+  pub long : length place ≡ 80
+  pub wide : length kinds ≡ 80
+
+-- a value that is a valid basic set, over some number of axes
+pub record Sound (b : Stored) : Type 0 where
+  pub n : ℕ
+  pub valid : Valid n (basicSetOf b)
+  pub divs : b .divs ≤ 8
+  pub cons : b .cons ≤ 48
+
+-- with a constraint that may follow
+pub record Extending (w : Stored) (r : StoredConstraint) : Type 0 where
+  pub n : ℕ
+  pub valid : Valid n (basicSetOf w)
+  pub new : ValidConstraint n (length (basicSetOf w .divisions)) (constraintOf r)
+  pub divs : w .divs ≤ 8
+  pub cons : w .cons < 48
+
+-- the first constraints of b, then r
+abbrev pub withLast : BasicSet → ℕ → Constraint → BasicSet
+withLast b at r = record { divisions = b .divisions; constraints = take at (b .constraints) ++ (r ∷ []) }
+
+pub record Putting (w : Stored) (at : ℕ) (r : StoredConstraint) (q : Stored) : Type 0 where
+  pub is : basicSetOf q ≡ withLast (basicSetOf w) at (constraintOf r)
+  pub divs : q .divs ≡ w .divs
+  pub cons : q .cons ≡ at + 1
+
+abbrev pub candidate : BasicSet → Constraint → BasicSet
+candidate b o = record { divisions = b .divisions; constraints = b .constraints ++ (o ∷ []) }
+
+abbrev pub isEquality : Kind → Bool
+isEquality equality = true
+isEquality inequality = false
+
+pub record Keeping (b : BasicSet) (r : Constraint) (k : Survivors) : Type 0 where
+  pub above : k .above ≡ isEquality (r .kind) && keeps (candidate b (above r))
+  pub below : k .below ≡ keeps (candidate b (below r))
+
+-- a constraint that no list has
+abbrev pub noRule : Constraint
+noRule = record { kind = inequality; constant = pos 0; axes = []; divisions = [] }
+
+-- the piece of step v
+abbrev pub pieceOf : BasicSet → ℕ → BasicSet
+pieceOf b v = withLast b (v / 2) (cond (eqb (v % 2) 1) (above (getD (b .constraints) (v / 2) noRule)) (below (getD (b .constraints) (v / 2) noRule)))
+
+-- a step within the working constraints, odd only at an equality
+pub record Step (w : List Constraint) (v : ℕ) : Type 0 where
+  pub inside : v / 2 < length w
+  pub equal : v % 2 ≡ 1 → getD w (v / 2) noRule .kind ≡ equality
+
+-- the steps of a constraint at place `at`
+abbrev pub stepsAt : ℕ → Bool → Bool → List ℕ
+stepsAt at a b = cond a ((at + at + 1) ∷ []) [] ++ cond b ((at + at + 0) ∷ []) []
+
+pub record Turning (s : CutSteps) (r : StoredConstraint) : Type 0 where
+  pub extending : Extending (s .working) r
+  pub count : s .count ≤ s .working .cons + s .working .cons
+
+pub record Turned (s : CutSteps) (r : StoredConstraint) (x : CutSteps) : Type 0 where
+  pub kept : Survivors
+  pub keeping : Keeping (basicSetOf (s .working)) (constraintOf r) kept
+  pub steps : take (x .count) (x .steps) ≡ take (s .count) (s .steps) ++ stepsAt (s .working .cons) (kept .above) (kept .below)
+  pub divisions : map divisionOf (take (x .working .divs) (x .working .divisions)) ≡ map divisionOf (take (s .working .divs) (s .working .divisions))
+  pub constraints :
+      map constraintOf (take (x .working .cons) (x .working .constraints))
+      ≡ cond (kept .above || kept .below) (map constraintOf (take (s .working .cons) (s .working .constraints)) ++ (constraintOf r ∷ [])) (map constraintOf (take (s .working .cons) (s .working .constraints)))
+  pub divs : x .working .divs ≡ s .working .divs
+  pub cons : x .working .cons ≡ s .working .cons + cond (kept .above || kept .below) 1 0
+  pub count : x .count ≡ s .count + (cond (kept .above) 1 0 + cond (kept .below) 1 0)
+  pub fits : x .fits ≡ true
+
+pub record Begun (a : Stored) (ds : List StoredDivision) (n : ℕ) (f : Bool) (r : CutSteps) : Type 0 where
+  pub divisions : r .working .divisions ≡ ds
+  pub constraints : r .working .constraints ≡ a .constraints
+  pub divs : r .working .divs ≡ n
+  pub cons : r .working .cons ≡ a .cons
+  pub count : r .count ≡ 0
+  pub fits : r .fits ≡ f
+
+-- two valid basic sets over the same axes
+pub record Pair (a c : Stored) : Type 0 where
+  pub n : ℕ
+  pub first : Valid n (basicSetOf a)
+  pub second : Valid n (basicSetOf c)
+  pub divs : a .divs ≤ 8
+  pub cons : a .cons ≤ 48
+  pub divs′ : c .divs ≤ 8
+  pub cons′ : c .cons ≤ 48
+
+pub record CutIs (a c : Stored) (r : CutSteps) : Type 0 where
+  pub fits : r .fits ≡ cutFits keeps (basicSetOf a) (basicSetOf c)
+  pub pieces : r .fits ≡ true → map (pieceOf (basicSetOf (r .working))) (take (r .count) (r .steps)) ≡ cut keeps (basicSetOf a) (basicSetOf c)
+  pub steps : r .fits ≡ true → All (Step (basicSetOf (r .working) .constraints)) (take (r .count) (r .steps))
+  pub valid : r .fits ≡ true → (n : ℕ) → Valid n (basicSetOf a) → Valid n (basicSetOf c) → Valid n (basicSetOf (r .working))
+  pub divs : r .fits ≡ true → r .working .divs ≤ 8
+  pub cons : r .fits ≡ true → r .working .cons ≤ 48
+  pub count : r .fits ≡ true → r .count ≤ 96
+
+pub record Piece (w : Stored) (v : ℕ) : Type 0 where
+  pub sound : Sound w
+  pub step : Step (basicSetOf w .constraints) v
+
+pub record PieceIs (w : Stored) (v : ℕ) (r : Stored) : Type 0 where
+  pub is : basicSetOf r ≡ pieceOf (basicSetOf w) v
+  pub divs : r .divs ≡ w .divs
+  pub cons : r .cons ≤ 48
+
+pub record BothIs (a c : Stored) (r : Pairing) : Type 0 where
+  pub fits : r .fits ≡ bothFits keeps (basicSetOf a) (basicSetOf c)
+  pub is : r .fits ≡ true → basicSetOf (r .set) ≡ both (basicSetOf a) (basicSetOf c)
+  pub divs : r .fits ≡ true → r .set .divs ≤ 8
+  pub cons : r .fits ≡ true → r .set .cons ≤ 48

@@ -1,0 +1,259 @@
+// One cut (document 01, "Cutting rules"): the kept candidates of a basic set and a cutter.
+ghost use mathlib.Core.Path.{_≡_};
+ghost use mathlib.Core.Bool.{Bool, true, false, _||_, cond};
+ghost use Prim.Native.Nat.{ℕ, _+_, _≤_, _<_};
+ghost use Rattle.model.specs.Values.{constraintOf, basicSetOf};
+ghost use Rattle.algebra.specs.Cut as C;
+ghost use Rattle.cutting.specs.Cutting.{Begun, Tables, Sound, Extending, Putting, Keeping, Turning, Turned, Pair, CutIs, Piece, PieceIs, BothIs};
+use crate::divisions::join;
+use crate::divisions::moved;
+use crate::opposites::above;
+use crate::opposites::below;
+use model::BasicSet;
+use model::Constraint;
+use simplex::Verdict;
+use simplex::test_basic;
+
+// Which opposites of a constraint give a kept candidate.
+pub struct Survivors {
+    pub above: bool,
+    pub below: bool,
+}
+
+// The pieces of a cut: `working` has all constraints that joined it, and step v of the first `count` stands for the piece whose last
+// constraint is the opposite of the working constraint v / 2, above it where v is odd and below it where v is even.
+pub struct CutSteps {
+    pub working: BasicSet,
+    pub steps: [u8; 96],
+    pub count: usize,
+    pub fits: bool,
+}
+
+// Whether the test for fractions keeps a candidate.
+pub fn keeps(b: BasicSet, rows: &mut [[i64; 18]], place: &mut [usize], kinds: &mut [u8]) -> bool
+    requires { ⌜ Sound b × Tables (now rows) (now place) (now kinds) ⌝ }
+    ensures { λ r. ⌜ r ≡ C.keeps (basicSetOf b) ⌝ }
+{
+    let e = test_basic(b, rows, place, kinds);
+    let v = e.verdict;
+    match v {
+        Verdict::Point => true,
+        Verdict::Dropped => false,
+        Verdict::Long => true,
+        Verdict::Wide => true,
+    }
+}
+
+// The first `at` constraints of w, then r.
+fn put(w: BasicSet, at: usize, r: Constraint) -> BasicSet
+    requires { ⌜ (at ≤ w .cons) × (at < 48) ⌝ }
+    ensures { λ q. ⌜ Putting w at r q ⌝ }
+{
+    let mut q = w;
+    q.constraints[at] = r;
+    q.cons = at + 1;
+    q
+}
+
+fn kept(
+    w: BasicSet,
+    r: Constraint,
+    rows: &mut [[i64; 18]],
+    place: &mut [usize],
+    kinds: &mut [u8],
+) -> Survivors
+    requires { ⌜ Extending w r × Tables (now rows) (now place) (now kinds) ⌝ }
+    ensures { λ k. ⌜ Keeping (basicSetOf w) (constraintOf r) k ⌝ }
+{
+    let at = w.cons;
+    let equality = r.equality;
+    let o = below(r);
+    let b = put(w, at, o);
+    let lower = keeps(b, rows, place, kinds);
+    if equality {
+        let p = above(r);
+        let a = put(w, at, p);
+        let upper = keeps(a, rows, place, kinds);
+        return Survivors {
+            above: upper,
+            below: lower,
+        };
+    }
+    Survivors {
+        above: false,
+        below: lower,
+    }
+}
+
+fn one(b: bool) -> usize
+    ensures { λ r. ⌜ r ≡ cond b 1 0 ⌝ }
+{
+    if b {
+        return 1;
+    }
+    0
+}
+
+fn either(k: Survivors) -> bool
+    ensures { λ r. ⌜ r ≡ (k .above || k .below) ⌝ }
+{
+    let a = k.above;
+    if a {
+        return true;
+    }
+    k.below
+}
+
+fn step(at: usize, up: usize) -> u8
+    requires { ⌜ (at < 48) × (up ≤ 1) ⌝ }
+    ensures { λ r. ⌜ r ≡ at + at + up ⌝ }
+{
+    (at + at + up) as u8
+}
+
+// One constraint of the cutter: its kept candidates, and itself joined unless both were dropped.
+fn turn(
+    s: CutSteps,
+    r: Constraint,
+    rows: &mut [[i64; 18]],
+    place: &mut [usize],
+    kinds: &mut [u8],
+) -> CutSteps
+    requires { ⌜ Turning s r × Tables (now rows) (now place) (now kinds) ⌝ }
+    ensures { λ x. ⌜ Turned s r x ⌝ }
+{
+    let w = s.working;
+    let at = w.cons;
+    let k = kept(w, r, rows, place, kinds);
+    let mut steps = s.steps;
+    let n = s.count;
+    let m = n + one(k.above);
+    steps[n] = step(at, 1);
+    steps[m] = step(at, 0);
+    let count = m + one(k.below);
+    let mut q = w;
+    q.constraints[at] = r;
+    q.cons = at + one(either(k));
+    CutSteps {
+        working: q,
+        steps,
+        count,
+        fits: true,
+    }
+}
+
+fn begin(a: BasicSet, divisions: [model::Division; 8], divs: usize, fits: bool) -> CutSteps
+    ensures { λ r. ⌜ Begun a divisions divs fits r ⌝ }
+{
+    let mut w = a;
+    w.divisions = divisions;
+    w.divs = divs;
+    CutSteps {
+        working: w,
+        steps: [0u8; 96],
+        count: 0,
+        fits,
+    }
+}
+
+// Not `fits`: a join over 8 divisions or a candidate over 48 constraints (refusal 10).
+pub fn cut(
+    a: BasicSet,
+    c: BasicSet,
+    rows: &mut [[i64; 18]],
+    place: &mut [usize],
+    kinds: &mut [u8],
+) -> CutSteps
+    requires { ⌜ Pair a c × Tables (now rows) (now place) (now kinds) ⌝ }
+    ensures { λ r. ⌜ CutIs a c r ⌝ }
+{
+    let ds = a.divisions;
+    let n = a.divs;
+    let es = c.divisions;
+    let m = c.divs;
+    let j = join(ds, n, es, m);
+    let all = j.divisions;
+    let places = j.places;
+    let fits = j.fits;
+    let mut s = begin(a, all, j.divs, fits);
+    if !fits {
+        return s;
+    }
+    let cons = c.cons;
+    let mut k = 0;
+    while k < cons {
+        if s.working.cons == 48 {
+            s.fits = false;
+            return s;
+        }
+        let e = c.constraints[k];
+        let r = moved(e, places, m);
+        s = turn(s, r, rows, place, kinds);
+        k += 1;
+    }
+    s
+}
+
+// The piece of step v.
+pub fn piece(w: BasicSet, v: u8) -> BasicSet
+    requires { ⌜ Piece w v ⌝ }
+    ensures { λ r. ⌜ PieceIs w v r ⌝ }
+{
+    let at = (v / 2) as usize;
+    let r = w.constraints[at];
+    if v % 2 == 1 {
+        let p = above(r);
+        return put(w, at, p);
+    }
+    let o = below(r);
+    put(w, at, o)
+}
+
+// Two basic sets in one; not `fits`: over 8 divisions or 48 constraints (refusal 10).
+pub struct Pairing {
+    pub set: BasicSet,
+    pub fits: bool,
+}
+
+// The constraints of a, then those of c, moved.
+pub fn both(a: BasicSet, c: BasicSet) -> Pairing
+    requires { ⌜ Pair a c ⌝ }
+    ensures { λ r. ⌜ BothIs a c r ⌝ }
+{
+    let ds = a.divisions;
+    let n = a.divs;
+    let es = c.divisions;
+    let m = c.divs;
+    let j = join(ds, n, es, m);
+    let fits = j.fits;
+    let cons = a.cons;
+    let more = c.cons;
+    if !fits {
+        return Pairing {
+            set: a,
+            fits: false,
+        };
+    }
+    if 48 < cons + more {
+        return Pairing {
+            set: a,
+            fits: false,
+        };
+    }
+    let places = j.places;
+    let mut constraints = a.constraints;
+    let mut k = 0;
+    while k < more {
+        let e = c.constraints[k];
+        constraints[cons + k] = moved(e, places, m);
+        k += 1;
+    }
+    let divisions = j.divisions;
+    let set = BasicSet {
+        divisions,
+        constraints,
+        divs: j.divs,
+        cons: cons + more,
+    };
+    Pairing { set, fits: true }
+}

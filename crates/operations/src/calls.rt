@@ -1,0 +1,53 @@
+// The four operations on the bytes of sets.
+ghost use mathlib.Core.Path.{_≡_};
+ghost use lib.ListN.{length};
+ghost use Rattle.codec.specs.Places.{setFrom};
+ghost use Rattle.algebra.specs.Cut as C;
+ghost use Rattle.algebra.specs.Cut.{keeps, unionFits};
+ghost use Rattle.algebra.specs.Operations.{unionBytes};
+ghost use Rattle.algebra.specs.Result.{Result};
+ghost use Rattle.operations.specs.Outcome.{outcomeIs};
+ghost use Rattle.operations.specs.Results.{Sets, Made};
+use crate::counts::count;
+use crate::results::Done;
+use crate::results::Outcome;
+use crate::results::finish;
+use crate::results::refuse;
+use codec::check;
+use codec::copy_bytes;
+
+fn append(a: &[u8], b: &[u8], out: &mut [u8]) -> Done
+    requires { ⌜ Sets (now a) (now b) ⌝ }
+    ensures { λ r. ⌜ Made (unionFits keeps (setFrom (now (a .entry)) 0) (setFrom (now (b .entry)) 0)) (C.union (setFrom (now (a .entry)) 0) (setFrom (now (b .entry)) 0)) (now (out .entry)) r (now (out .exit)) ⌝ }
+{
+    let n = count(a) + count(b);
+    if 32 < n {
+        return Done {
+            at: 0,
+            count: n,
+            fits: false,
+        };
+    }
+    let m = copy_bytes(a, out, 0);
+    let e = copy_bytes(b, out, m);
+    Done {
+        at: e,
+        count: n,
+        fits: true,
+    }
+}
+
+pub fn union(n: usize, a: &[u8], b: &[u8], out: &mut [u8]) -> Outcome
+    ensures { λ r. ⌜ Result (length (now (out .entry))) (unionBytes n (length (now (out .entry))) (now (a .entry)) (now (b .entry))) (outcomeIs r) (now (out .exit)) ⌝ }
+{
+    let k = check(n, a);
+    if k != 0 {
+        return refuse(k, out);
+    }
+    let m = check(n, b);
+    if m != 0 {
+        return refuse(m, out);
+    }
+    let d = append(a, b, out);
+    finish(d, out)
+}

@@ -1,0 +1,199 @@
+// The public calls below the board's C interface, for tests and benchmarks written in C: each does what the call that it names does.
+
+#[no_mangle]
+pub extern "C" fn probe_check(n: usize, set: &[u8]) -> u32 {
+    codec::check(n, set)
+}
+
+// codec::basic: the bytes of the part as far as `out` goes; the result is their number.
+#[no_mangle]
+pub extern "C" fn probe_part(n: usize, set: &[u8], k: usize, out: &mut [u8]) -> usize {
+    codec::copy_bytes(codec::basic(n, set, k), out, 0)
+}
+
+// query::member: 1 in, 0 out, 100 and the number of a refusal.
+#[no_mangle]
+pub extern "C" fn probe_member(
+    n: usize,
+    set: &[u8],
+    x1: i32,
+    x2: i32,
+    x3: i32,
+    x4: i32,
+    x5: i32,
+    x6: i32,
+    x7: i32,
+    x8: i32,
+) -> u64 {
+    let m = query::member(n, set, [x1, x2, x3, x4, x5, x6, x7, x8]);
+    match m {
+        query::Membership::In => 1,
+        query::Membership::Out => 0,
+        query::Membership::Refused(k) => 100 + k as u64,
+    }
+}
+
+// query::holder: the bytes of the part, as above.
+#[no_mangle]
+pub extern "C" fn probe_holder<'a>(
+    n: usize,
+    first: &'a [u8],
+    second: &'a [u8],
+    x1: i32,
+    x2: i32,
+    x3: i32,
+    x4: i32,
+    x5: i32,
+    x6: i32,
+    x7: i32,
+    x8: i32,
+    out: &mut [u8],
+) -> usize {
+    codec::copy_bytes(
+        query::holder(n, first, second, [x1, x2, x3, x4, x5, x6, x7, x8]),
+        out,
+        0,
+    )
+}
+
+// simplex::test: 0 point, 1 dropped, 2 long, 3 wide, 4 no such basic set, 100 and the number of a refusal.
+#[no_mangle]
+pub extern "C" fn probe_test(n: usize, set: &[u8], k: usize) -> u64 {
+    let t = simplex::test(n, set, k);
+    match t {
+        simplex::Tested::Refused(r) => 100 + r as u64,
+        simplex::Tested::NoSuchSet => 4,
+        simplex::Tested::Answers(e) => verdict(e),
+    }
+}
+
+fn verdict(e: simplex::Ended) -> u64 {
+    let v = e.verdict;
+    match v {
+        simplex::Verdict::Point => 0,
+        simplex::Verdict::Dropped => 1,
+        simplex::Verdict::Long => 2,
+        simplex::Verdict::Wide => 3,
+    }
+}
+
+// The pivots that the test made.
+#[no_mangle]
+pub extern "C" fn probe_pivots(n: usize, set: &[u8], k: usize) -> usize {
+    let t = simplex::test(n, set, k);
+    match t {
+        simplex::Tested::Refused(_) => 0,
+        simplex::Tested::NoSuchSet => 0,
+        simplex::Tested::Answers(e) => e.pivots,
+    }
+}
+
+// query::first_point: 0 at a point, 1 none, 2 spent, 100 and the number of a refusal.
+#[no_mangle]
+pub extern "C" fn probe_search(
+    n: usize,
+    set: &[u8],
+    limit: u32,
+    l1: i32,
+    l2: i32,
+    l3: i32,
+    l4: i32,
+    l5: i32,
+    l6: i32,
+    l7: i32,
+    l8: i32,
+    h1: i32,
+    h2: i32,
+    h3: i32,
+    h4: i32,
+    h5: i32,
+    h6: i32,
+    h7: i32,
+    h8: i32,
+) -> u64 {
+    let r = query::first_point(
+        n,
+        set,
+        [l1, l2, l3, l4, l5, l6, l7, l8],
+        [h1, h2, h3, h4, h5, h6, h7, h8],
+        limit,
+    );
+    let o = r.outcome;
+    match o {
+        query::Outcome::At => 0,
+        query::Outcome::Nothing => 1,
+        query::Outcome::Spent => 2,
+        query::Outcome::Refused(k) => 100 + k as u64,
+    }
+}
+
+// Its tally.
+#[no_mangle]
+pub extern "C" fn probe_tally(
+    n: usize,
+    set: &[u8],
+    limit: u32,
+    l1: i32,
+    l2: i32,
+    l3: i32,
+    l4: i32,
+    l5: i32,
+    l6: i32,
+    l7: i32,
+    l8: i32,
+    h1: i32,
+    h2: i32,
+    h3: i32,
+    h4: i32,
+    h5: i32,
+    h6: i32,
+    h7: i32,
+    h8: i32,
+) -> u32 {
+    let r = query::first_point(
+        n,
+        set,
+        [l1, l2, l3, l4, l5, l6, l7, l8],
+        [h1, h2, h3, h4, h5, h6, h7, h8],
+        limit,
+    );
+    r.tested
+}
+
+// Its coordinate i, from 0.
+#[no_mangle]
+pub extern "C" fn probe_coordinate(
+    n: usize,
+    set: &[u8],
+    limit: u32,
+    l1: i32,
+    l2: i32,
+    l3: i32,
+    l4: i32,
+    l5: i32,
+    l6: i32,
+    l7: i32,
+    l8: i32,
+    h1: i32,
+    h2: i32,
+    h3: i32,
+    h4: i32,
+    h5: i32,
+    h6: i32,
+    h7: i32,
+    h8: i32,
+    i: usize,
+) -> i64 {
+    let r = query::first_point(
+        n,
+        set,
+        [l1, l2, l3, l4, l5, l6, l7, l8],
+        [h1, h2, h3, h4, h5, h6, h7, h8],
+        limit,
+    );
+    let p = r.point;
+    if i < 8 {
+        return p[i];
+    }
+    0
+}

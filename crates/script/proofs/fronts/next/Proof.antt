@@ -1,0 +1,69 @@
+use Rattle.script.specs.declared.fronts.Front.the-variants.{Whole}
+use mathlib.Core.Path.{_≡_, refl, sym, ap, _∙_}
+use native.Mathlib.Omega.{arith}
+use borrow.Author.Tests.{not-true, not-false}
+use Rattle.script.proofs.FrontLaws.{front-none, front-unknown, front-place, front-cut, front-whole, width-of, load-there, width-least}
+use borrow.Author.Needs.{needs}
+use Rattle.script.proofs.fronts.next.Statement.{statement}
+use Rattle.script.proofs.fronts.next.Tie as tie
+
+cut-off-requires : tie.Need-cut-off-requires
+cut-off-requires c κs = search needs
+
+returns : tie.Need-returns
+returns c = c .cut-off .ensures ∙ sym (front-none (c .before .before .before .args .axes) (c .before .before .before .args .ended) (c .before .before .before .args .s .now) (c .before .if1 .taken))
+
+shared-slice-read-b : tie.Need-shared-slice-read-b
+shared-slice-read-b c = search needs
+
+fixed-width-requires : tie.Need-fixed-width-requires
+fixed-width-requires c κs = search needs
+
+returns-2 : tie.Need-returns-2
+returns-2 c = sym (front-unknown (c .before .before .before .before .before .args .axes) (c .before .before .before .before .before .args .ended) (c .before .before .before .before .before .args .s .now) (c .before .fixed-width .result) (c .before .before .before .if1 .left) (c .before .fixed-width .ensures .0) (c .if2 .taken))
+
+in-place-requires : tie.Need-in-place-requires
+in-place-requires c κs = search needs
+
+returns-3 : tie.Need-returns-3
+returns-3 c = sym (front-place (c .before .before .before .before .before .before .before .args .axes) (c .before .before .before .before .before .before .before .args .ended) (c .before .before .before .before .before .before .before .args .s .now) (c .before .before .before .fixed-width .result) (c .before .before .before .before .before .if1 .left) (c .before .before .before .fixed-width .ensures .0) (c .before .before .if2 .left) (sym (c .before .in-place .ensures) ∙ not-true _ (c .if3 .taken)))
+
+cut-off-requires-2 : tie.Need-cut-off-requires-2
+cut-off-requires-2 c κs = search needs
+
+returns-4 : tie.Need-returns-4
+returns-4 c = let l = width-least (c .before .before .before .before .before .before .before .before .before .args .s .now) (c .before .before .before .before .before .fixed-width .result) (c .before .before .before .before .before .before .before .if1 .left) (c .before .before .before .before .before .fixed-width .ensures .0) in c .cut-off2 .ensures ∙ sym (front-cut (c .before .before .before .before .before .before .before .before .before .args .axes) (c .before .before .before .before .before .before .before .before .before .args .ended) (c .before .before .before .before .before .before .before .before .before .args .s .now) (c .before .before .before .before .before .fixed-width .result) (c .before .before .before .before .before .before .before .if1 .left) (c .before .before .before .before .before .fixed-width .ensures .0) (c .before .before .before .before .if2 .left) (sym (c .before .before .before .in-place .ensures) ∙ not-false _ (c .before .before .if3 .left)) (omega arith))
+
+load-length-requires : tie.Need-load-length-requires
+load-length-requires c κs = λ e. load-there _ (c .before .before .before .before .fixed-width .result) _ (c .before .before .before .before .fixed-width .ensures .0) (c .if4 .left) e
+
+add-l : tie.Need-add-l
+add-l c = search needs
+
+cut-off-requires-3 : tie.Need-cut-off-requires-3
+cut-off-requires-3 c κs = search needs
+
+returns-5 : tie.Need-returns-5
+returns-5 c = let l = width-of (c .before .before .before .before .before .before .before .before .before .before .before .args .s .now) (c .before .before .before .before .before .before .before .fixed-width .result) (c .before .before .load-length .result) (c .before .before .before .before .before .before .before .before .before .if1 .left) (c .before .before .before .before .before .before .before .fixed-width .ensures .0) (c .before .before .load-length .ensures .0) in c .cut-off3 .ensures ∙ sym (front-cut (c .before .before .before .before .before .before .before .before .before .before .before .args .axes) (c .before .before .before .before .before .before .before .before .before .before .before .args .ended) (c .before .before .before .before .before .before .before .before .before .before .before .args .s .now) (c .before .before .before .before .before .before .before .fixed-width .result) (c .before .before .before .before .before .before .before .before .before .if1 .left) (c .before .before .before .before .before .before .before .fixed-width .ensures .0) (c .before .before .before .before .before .before .if2 .left) (sym (c .before .before .before .before .before .in-place .ensures) ∙ not-false _ (c .before .before .before .before .if3 .left)) (omega arith))
+
+returns-6 : tie.Need-returns-6
+returns-6 c = let l = width-of (c .before .before .before .before .before .before .before .before .before .before .args .s .now) (c .before .before .before .before .before .before .fixed-width .result) (c .before .load-length .result) (c .before .before .before .before .before .before .before .before .if1 .left) (c .before .before .before .before .before .before .fixed-width .ensures .0) (c .before .load-length .ensures .0) in ap Whole l ∙ sym (front-whole (c .before .before .before .before .before .before .before .before .before .before .args .axes) (c .before .before .before .before .before .before .before .before .before .before .args .ended) (c .before .before .before .before .before .before .before .before .before .before .args .s .now) (c .before .before .before .before .before .before .fixed-width .result) (c .before .before .before .before .before .before .before .before .if1 .left) (c .before .before .before .before .before .before .fixed-width .ensures .0) (c .before .before .before .before .before .if2 .left) (sym (c .before .before .before .before .in-place .ensures) ∙ not-false _ (c .before .before .before .if3 .left)) (omega arith))
+
+pub next-spec : {M : Type 1} → statement M
+next-spec =
+    tie.close
+    (tie.spec
+    cut-off-requires
+    returns
+    shared-slice-read-b
+    fixed-width-requires
+    returns-2
+    in-place-requires
+    returns-3
+    cut-off-requires-2
+    returns-4
+    load-length-requires
+    add-l
+    cut-off-requires-3
+    returns-5
+    returns-6)

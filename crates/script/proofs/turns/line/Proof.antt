@@ -1,0 +1,61 @@
+use mathlib.Core.Path.{_≡_, refl, ap, ap₂, sym, subst, _∙_}
+use mathlib.Core.Bool.{Bool, true, false, cond, _&&_}
+use mathlib.Core.List.{List, [], _∷_, _++_}
+use Prim.Native.Nat.{ℕ, suc, _+_, _-_, _*_, _≤_, _<_}
+use native.Mathlib.Omega.{arith}
+use lib.ListN.{length, take, drop, getD}
+use Rattle.script.proofs.TurnLaws.{line-basic, line-division, line-constraint}
+use Rattle.script.proofs.Writing.{writes-same}
+use Rattle.codec.proofs.Parsing.{width-division, width-constraint}
+use borrow.Author.Needs.{needs}
+use Rattle.script.proofs.turns.line.Statement.{statement}
+use Rattle.script.proofs.turns.line.Tie as tie
+
+slice-aggregate-counted-line : tie.Need-slice-aggregate-counted-line
+slice-aggregate-counted-line c = search needs
+
+add-counted-line : tie.Need-add-counted-line
+add-counted-line c = search needs
+
+counted-line-requires : tie.Need-counted-line-requires
+counted-line-requires c κs = search needs
+
+same-length : tie.Need-same-length
+same-length c = search needs
+
+returns : tie.Need-returns
+returns c = writes-same (omega arith) (line-basic (c .before .before .before .before .before .before .before .before .args .axes) (c .before .before .before .before .before .before .before .before .args .c) (c .before .before .before .before .before .before .before .before .args .b) (c .before .before .before .before .before .before .before .before .args .t .now) (c .before .before .before .before .before .if1 .taken)) (c .before .before .counted-line .ensures)
+
+division-line-requires : tie.Need-division-line-requires
+division-line-requires c κs = let w = width-division (c .before .before .before .before .before .args .b) (c .before .if2 .taken) in let h = c .before .before .before .before .before .pre .whole in (c .before .before .before .before .before .pre .line-long, c .before .before .before .before .before .pre .axes, omega arith)
+
+same-length-2 : tie.Need-same-length-2
+same-length-2 c = search needs
+
+returns-2 : tie.Need-returns-2
+returns-2 c = writes-same (omega arith) (line-division (c .before .before .before .before .before .before .before .before .args .axes) (c .before .before .before .before .before .before .before .before .args .c) (c .before .before .before .before .before .before .before .before .args .b) (c .before .before .before .before .before .before .before .before .args .t .now) (c .before .before .before .before .if2 .taken)) (c .before .before .division-line .ensures)
+
+constraint-line-requires : tie.Need-constraint-line-requires
+constraint-line-requires c κs = let k = c .before .before .before .before .before .pre .known in let w = width-constraint (c .before .before .before .before .before .args .b) (c .before .before .if1 .left) (c .before .if2 .left) (λ z. omega arith) in let h = c .before .before .before .before .before .pre .whole in (c .before .before .before .before .before .pre .line-long, c .before .before .before .before .before .pre .axes, c .before .before .before .before .before .pre .few-divisions, omega arith)
+
+same-length-3 : tie.Need-same-length-3
+same-length-3 c = search needs
+
+returns-3 : tie.Need-returns-3
+returns-3 c = writes-same (omega arith) (line-constraint (c .before .before .before .before .before .before .before .before .args .axes) (c .before .before .before .before .before .before .before .before .args .c) (c .before .before .before .before .before .before .before .before .args .b) (c .before .before .before .before .before .before .before .before .args .t .now) (c .before .before .before .before .before .if1 .left) (c .before .before .before .before .if2 .left)) (c .before .before .constraint-line .ensures)
+
+pub line-spec : {M : Type 1} → statement M
+line-spec =
+    tie.close
+    (tie.spec
+    slice-aggregate-counted-line
+    add-counted-line
+    counted-line-requires
+    same-length
+    returns
+    division-line-requires
+    same-length-2
+    returns-2
+    constraint-line-requires
+    same-length-3
+    returns-3)

@@ -1,0 +1,90 @@
+use Rattle.script.specs.Written.{Wrote}
+use Rattle.script.specs.Turns.{lineOf}
+use Rattle.script.specs.declared.turns.Cursor.{Cursor}
+use mathlib.Core.Path.{_≡_, refl, ap, ap₂, sym, subst, _∙_}
+use mathlib.Core.Bool.{Bool, true, false, cond, _&&_}
+use mathlib.Core.List.{List, [], _∷_, _++_}
+use Prim.Native.Nat.{ℕ, suc, _+_, _-_, _*_, _≤_, _<_}
+use native.Mathlib.Omega.{arith}
+use lib.ListN.{length, take, drop, getD}
+use Rattle.script.proofs.TurnLaws.{says-quiet, says-same, over-end, over-unknown, over-cut, line-there}
+use lib.ListN.{length-drop}
+use Rattle.script.specs.Turns.{memory, lineTurn, stateAt}
+use Rattle.script.specs.declared.turns.Listing.the-variants.{Nothing, From}
+use Rattle.script.specs.declared.turns.Next.the-variants.{Goes}
+use borrow.Author.Needs.{needs}
+use Rattle.script.proofs.turns.listing_turn.Statement.{statement}
+use Rattle.script.proofs.turns.listing_turn.Tie as tie
+
+table-requires : tie.Need-table-requires
+table-requires c κs = search needs
+
+over-requires : tie.Need-over-requires
+over-requires c κs = search needs
+
+returns : tie.Need-returns
+returns c = says-same (sym (over-end (c .before .before .before .before .before .before .args .axes) (memory [] [] []) (c .before .before .before .before .before .before .args .c) _ (c .before .before .before .before .before .before .args .c .place) (c .before .if1 .taken)) ∙ ap (λ (l : List ℕ). lineTurn (c .before .before .before .before .before .before .args .axes) (memory [] [] []) (c .before .before .before .before .before .before .args .c) (drop (c .before .before .before .before .before .before .args .c .place) l)) (c .before .before .table .ensures)) (says-quiet (stateAt (c .before .before .before .before .before .before .args .axes) Nothing) (memory [] [] []) Goes (c .before .before .before .before .before .before .args .out .now) (c .over .ensures))
+
+shared-slice-read-b : tie.Need-shared-slice-read-b
+shared-slice-read-b c = search needs
+
+width-requires : tie.Need-width-requires
+width-requires c κs = search needs
+
+over-requires-2 : tie.Need-over-requires-2
+over-requires-2 c κs = search needs
+
+returns-2 : tie.Need-returns-2
+returns-2 c = says-same (sym (over-unknown (c .before .before .before .before .before .before .before .before .before .args .axes) (memory [] [] []) (c .before .before .before .before .before .before .before .before .before .args .c) _ (c .before .before .before .before .before .before .before .before .before .args .c .place) (c .before .before .before .before .if1 .left) (c .before .before .width .result) (c .before .before .width .ensures) (c .before .if2 .taken)) ∙ ap (λ (l : List ℕ). lineTurn (c .before .before .before .before .before .before .before .before .before .args .axes) (memory [] [] []) (c .before .before .before .before .before .before .before .before .before .args .c) (drop (c .before .before .before .before .before .before .before .before .before .args .c .place) l)) (c .before .before .before .before .before .table .ensures)) (says-quiet (stateAt (c .before .before .before .before .before .before .before .before .before .args .axes) Nothing) (memory [] [] []) Goes (c .before .before .before .before .before .before .before .before .before .args .out .now) (c .over2 .ensures))
+
+sub-if3 : tie.Need-sub-if3
+sub-if3 c = search needs
+
+over-requires-3 : tie.Need-over-requires-3
+over-requires-3 c κs = search needs
+
+returns-3 : tie.Need-returns-3
+returns-3 c = says-same (sym (over-cut (c .before .before .before .before .before .before .before .before .before .before .args .axes) (memory [] [] []) (c .before .before .before .before .before .before .before .before .before .before .args .c) _ (c .before .before .before .before .before .before .before .before .before .before .args .c .place) (c .before .before .before .before .before .if1 .left) (c .before .before .before .width .result) (c .before .before .before .width .ensures) (c .before .before .if2 .left) (c .before .if3 .taken)) ∙ ap (λ (l : List ℕ). lineTurn (c .before .before .before .before .before .before .before .before .before .before .args .axes) (memory [] [] []) (c .before .before .before .before .before .before .before .before .before .before .args .c) (drop (c .before .before .before .before .before .before .before .before .before .before .args .c .place) l)) (c .before .before .before .before .before .before .table .ensures)) (says-quiet (stateAt (c .before .before .before .before .before .before .before .before .before .before .args .axes) Nothing) (memory [] [] []) Goes (c .before .before .before .before .before .before .before .before .before .before .args .out .now) (c .over3 .ensures))
+
+add-tail : tie.Need-add-tail
+add-tail c = search needs
+
+tail-requires : tie.Need-tail-requires
+tail-requires c κs = search needs
+
+line-requires : tie.Need-line-requires
+line-requires c κs =
+    let e = c .before .before .before .before .width .ensures in let t = ap length (c .before .tail .ensures) in
+    record { axes = c .before .before .before .before .before .before .before .before .before .before .before .pre .2; line-long = c .before .before .before .before .before .before .before .before .before .before .before .pre .3; few-basics = c .before .before .before .before .before .before .before .before .before .before .before .pre .1 .few-basics; few-divisions = c .before .before .before .before .before .before .before .before .before .before .before .pre .1 .few-divisions; known = omega arith; whole = omega (arith, length-drop (c .before .before .before .before .before .before .before .before .before .before .before .args .c .place + 1) (c .before .before .before .before .before .before .before .table .result .now)) }
+
+past-requires : tie.Need-past-requires
+past-requires c κs = let f = c .before .before .before .before .before .before .before .before .before .before .before .before .before .before .pre .0 .fit (c .before .before .before .before .before .before .before .before .before .before .before .before .before .before .args .c .set) in let i = c .before .before .before .before .before .before .before .before .before .before .before .before .before .before .pre .1 .place-in in (omega arith, c .before .before .before .before .before .before .before .before .before .before .before .before .before .before .pre .1 .few-basics, c .before .before .before .before .before .before .before .before .before .before .before .before .before .before .pre .1 .few-divisions)
+
+same-length : tie.Need-same-length
+same-length c = search needs
+
+returns-4 : tie.Need-returns-4
+returns-4 c =
+    says-same (sym (line-there (c .before .before .before .before .before .before .before .before .before .before .before .before .before .before .before .args .axes) (memory [] [] []) (c .before .before .before .before .before .before .before .before .before .before .before .before .before .before .before .args .c) _ (c .before .before .before .before .before .before .before .before .before .before .before .before .before .before .before .args .c .place) (c .before .before .before .before .before .before .before .before .before .before .if1 .left) (c .before .before .before .before .before .before .before .before .width .result) (c .before .before .before .before .before .before .before .before .width .ensures) (c .before .before .before .before .before .before .before .if2 .left) (c .before .before .before .before .before .before .if3 .left)) ∙ ap (λ (l : List ℕ). lineTurn (c .before .before .before .before .before .before .before .before .before .before .before .before .before .before .before .args .axes) (memory [] [] []) (c .before .before .before .before .before .before .before .before .before .before .before .before .before .before .before .args .c) (drop (c .before .before .before .before .before .before .before .before .before .before .before .before .before .before .before .args .c .place) l)) (c .before .before .before .before .before .before .before .before .before .before .before .table .ensures))
+    (record { text = subst (λ (l : List ℕ). Wrote (lineOf (c .before .before .before .before .before .before .before .before .before .before .before .before .before .before .before .args .axes) (c .before .before .before .before .before .before .before .before .before .before .before .before .before .before .before .args .c) (getD (c .before .before .before .before .before .before .before .before .before .before .before .table .result .now) (c .before .before .before .before .before .before .before .before .before .before .before .before .before .before .before .args .c .place) 0) l) (c .before .before .before .before .before .before .before .before .before .before .before .before .before .before .before .args .out .now) 0 (c .before .before .before .line .result) (c .before .before .before .line .last .1 .1 .1 .1 .0)) (c .before .before .before .before .before .tail .ensures) (c .before .before .before .line .ensures .wrote); used = refl; state = ap (λ (x : Cursor). stateAt (c .before .before .before .before .before .before .before .before .before .before .before .before .before .before .before .args .axes) (From x)) (c .past .ensures); next = refl })
+
+pub listing-turn-spec : {M : Type 1} → statement M
+listing-turn-spec =
+    tie.close
+    (tie.spec
+    table-requires
+    over-requires
+    returns
+    shared-slice-read-b
+    width-requires
+    over-requires-2
+    returns-2
+    sub-if3
+    over-requires-3
+    returns-3
+    add-tail
+    tail-requires
+    line-requires
+    past-requires
+    same-length
+    returns-4)

@@ -1,0 +1,37 @@
+use lib.Dec.{eqb}
+use mathlib.Core.Path.{_≡_, refl, ap, ap₂, sym, subst, _∙_}
+use mathlib.Core.Bool.{Bool, true, false, cond, _&&_}
+use mathlib.Core.List.{List, [], _∷_, _++_}
+use Prim.Native.Nat.{ℕ, suc, _+_, _-_, _*_, _≤_, _<_}
+use native.Mathlib.Omega.{arith}
+use lib.ListN.{length, take, drop, getD}
+use Rattle.script.proofs.TurnLaws.{past-is, width-most}
+use borrow.Author.Tests.{eq-eqb, ne-eqb}
+use borrow.Author.Needs.{needs}
+use Rattle.script.proofs.turns.past.Statement.{statement}
+use Rattle.script.proofs.turns.past.Tie as tie
+
+width-requires : tie.Need-width-requires
+width-requires c κs = search needs
+
+add-place : tie.Need-add-place
+add-place c = let w = width-most (c .before .before .args .b) in let e = c .before .width .ensures in omega arith
+
+add-t9 : tie.Need-add-t9
+add-t9 c = search needs
+
+returns : tie.Need-returns
+returns c = past-is (c .before .before .before .args .c) (c .before .before .before .args .b) _ _ _ (ap (λ (w : ℕ). c .before .before .before .args .c .place + w) (c .before .before .width .ensures)) (ap (λ (x : Bool). cond x (c .before .before .before .args .c .basics + 1) (c .before .before .before .args .c .basics)) (sym (eq-eqb _ _ (c .if1 .taken)))) (ap (λ (x : Bool). cond x 0 (cond (eqb (c .before .before .before .args .b) 0x12) (c .before .before .before .args .c .divisions + 1) (c .before .before .before .args .c .divisions))) (sym (eq-eqb _ _ (c .if1 .taken))))
+
+add-t10 : tie.Need-add-t10
+add-t10 c = search needs
+
+returns-2 : tie.Need-returns-2
+returns-2 c = past-is (c .before .before .before .before .args .c) (c .before .before .before .before .args .b) _ _ _ (ap (λ (w : ℕ). c .before .before .before .before .args .c .place + w) (c .before .before .before .width .ensures)) (ap (λ (x : Bool). cond x (c .before .before .before .before .args .c .basics + 1) (c .before .before .before .before .args .c .basics)) (sym (ne-eqb _ _ (c .before .if1 .left)))) (ap₂ (λ (x y : Bool). cond x 0 (cond y (c .before .before .before .before .args .c .divisions + 1) (c .before .before .before .before .args .c .divisions))) (sym (ne-eqb _ _ (c .before .if1 .left))) (sym (eq-eqb _ _ (c .if2 .taken))))
+
+returns-3 : tie.Need-returns-3
+returns-3 c = past-is (c .before .before .before .before .args .c) (c .before .before .before .before .args .b) _ _ _ (ap (λ (w : ℕ). c .before .before .before .before .args .c .place + w) (c .before .before .before .width .ensures)) (ap (λ (x : Bool). cond x (c .before .before .before .before .args .c .basics + 1) (c .before .before .before .before .args .c .basics)) (sym (ne-eqb _ _ (c .before .if1 .left)))) (ap₂ (λ (x y : Bool). cond x 0 (cond y (c .before .before .before .before .args .c .divisions + 1) (c .before .before .before .before .args .c .divisions))) (sym (ne-eqb _ _ (c .before .if1 .left))) (sym (ne-eqb _ _ (c .if2 .left))))
+
+pub past-spec : {M : Type 1} → statement M
+past-spec =
+    tie.close (tie.spec width-requires add-place add-t9 returns add-t10 returns-2 returns-3)

@@ -1,0 +1,245 @@
+// The script program, turn by turn, in lent memory.
+ghost use mathlib.Core.Path.{_≡_};
+ghost use mathlib.Core.Bool.{Bool, true, false};
+ghost use Prim.Native.Nat.{ℕ, suc, _+_, _≤_, _<_};
+ghost use lib.Dec.{leb};
+ghost use lib.ListN.{length, getD, drop};
+ghost use Rattle.model.specs.Lists.{all};
+ghost use Rattle.codec.specs.Bytes.{widthOf};
+ghost use Rattle.script.specs.Script.{room};
+ghost use Rattle.script.specs.Written.{Writes};
+ghost use Rattle.script.specs.Turns as D;
+ghost use Rattle.script.specs.Turns.{Memory, Fitted, Usable, tableAt, lineOf, quiet, frontTurn, frontOf, turnOf, Says, TurnIs, Holds, Shows};
+ghost use mathlib.Core.List.{[]};
+ghost use Rattle.script.specs.declared.turns.Listing.the-variants.{Nothing};
+ghost use Rattle.script.specs.declared.turns.Next.the-variants.{Goes};
+use crate::commands::CommandDone;
+use crate::lines::constraint_line;
+use crate::lines::counted_line;
+use crate::lines::division_line;
+use crate::memory::table;
+
+// Where a listing stands: the place of the next command in the set's bytes, the basic sets opened before it, and the
+// divisions of the last one.
+pub struct Cursor {
+    pub set: usize,
+    pub place: usize,
+    pub basics: usize,
+    pub divisions: usize,
+}
+
+pub enum Listing {
+    Nothing,
+    From(Cursor),
+}
+
+// n, 0 before `10` gives it, and the listing that is under way.
+pub struct State {
+    pub axes: usize,
+    pub listing: Listing,
+}
+
+pub enum Next {
+    // another turn
+    Goes,
+    // more input, or that there is none, before the next turn
+    Reads,
+    Ends,
+    // memory or a state that no turn leaves
+    Misused,
+}
+
+// What a turn did: the length of its text, the bytes of input that it used, the state after it, and what comes next.
+pub struct Turn {
+    pub text: usize,
+    pub used: usize,
+    pub state: State,
+    pub next: Next,
+}
+
+fn silent(state: State, next: Next) -> Turn
+    ensures { λ r. ⌜ r ≡ D.silentTurn state next ⌝ }
+{
+    Turn {
+        text: 0,
+        used: 0,
+        state,
+        next,
+    }
+}
+
+// The line of the command b of a listing, with the bytes t after it.
+fn line(axes: usize, c: Cursor, b: u8, t: &[u8], out: &mut [u8]) -> usize
+    requires { ⌜ Shows axes c b (now t) (now out) ⌝ }
+    ensures { λ r. ⌜ Writes 512 (lineOf axes c b (now (t .entry))) (now (out .entry)) 0 r (now (out .exit)) ⌝ }
+{
+    let basics = c.basics;
+    let divisions = c.divisions;
+    if b == 0x11 {
+        return counted_line(out, b"basic", (basics + 1) as u64);
+    }
+    if b == 0x12 {
+        return division_line(out, axes, t);
+    }
+    constraint_line(out, axes, divisions, b, t)
+}
+
+// The cursor after that command.
+fn past(c: Cursor, b: u8) -> Cursor
+    requires { ⌜ (c .place ≤ room) × (c .basics ≤ room) × (c .divisions ≤ 8) ⌝ }
+    ensures { λ r. ⌜ r ≡ D.past c b ⌝ }
+{
+    let set = c.set;
+    let place = c.place + codec::width(b);
+    let basics = c.basics;
+    let divisions = c.divisions;
+    if b == 0x11 {
+        return Cursor {
+            set,
+            place,
+            basics: basics + 1,
+            divisions: 0,
+        };
+    }
+    if b == 0x12 {
+        return Cursor {
+            set,
+            place,
+            basics,
+            divisions: divisions + 1,
+        };
+    }
+    Cursor {
+        set,
+        place,
+        basics,
+        divisions,
+    }
+}
+
+fn over(axes: usize) -> Turn
+    ensures { λ r. ⌜ r ≡ D.silentTurn (D.stateAt axes Nothing) Goes ⌝ }
+{
+    let state = State {
+        axes,
+        listing: Listing::Nothing,
+    };
+    silent(state, Next::Goes)
+}
+
+// One line of a listing.
+fn listing_turn(axes: usize, c: Cursor, tables: &[u8], lengths: &[usize], out: &mut [u8]) -> Turn
+    requires { ⌜ Fitted (now tables) (now lengths) × D.CursorIn c (now lengths) × (axes ≤ 8) × (512 ≤ length (now out)) ⌝ }
+    ensures { λ r. ⌜ Says (D.lineTurn axes (D.memory [] [] []) c (drop (c .place) (tableAt (now (tables .entry)) (now (lengths .entry)) (c .set)))) r (now (out .entry)) (now (out .exit)) ⌝ }
+{
+    let set = c.set;
+    let place = c.place;
+    let s = table(tables, lengths, set);
+    if s.len() <= place {
+        return over(axes);
+    }
+    let b = s[place];
+    let w = codec::width(b);
+    if w == 0 {
+        return over(axes);
+    }
+    if s.len() - place < w {
+        return over(axes);
+    }
+    let text = line(axes, c, b, codec::tail(s, place + 1), out);
+    let state = State {
+        axes,
+        listing: Listing::From(past(c, b)),
+    };
+    Turn {
+        text,
+        used: 0,
+        state,
+        next: Next::Goes,
+    }
+}
+
+fn after(d: CommandDone, used: usize) -> Turn
+    ensures { λ r. ⌜ r ≡ D.afterTurn d used ⌝ }
+{
+    let text = d.text;
+    let goes = d.goes;
+    let axes = d.axes;
+    let listing = d.listing;
+    let state = State { axes, listing };
+    if goes {
+        return Turn {
+            text,
+            used,
+            state,
+            next: Next::Goes,
+        };
+    }
+    Turn {
+        text,
+        used,
+        state,
+        next: Next::Ends,
+    }
+}
+
+// Whether each length is within its table.
+fn lengths_fit(lengths: &[usize]) -> bool
+    ensures { λ r. ⌜ r ≡ all (λ (l : ℕ). leb l room) (now (lengths .entry)) ⌝ }
+{
+    let mut i = 0;
+    while i < lengths.len() {
+        if 8000 < lengths[i] {
+            return false;
+        }
+        i += 1;
+    }
+    true
+}
+
+fn cursor_fits(c: Cursor, lengths: &[usize]) -> bool
+    requires { ⌜ length (now lengths) ≡ 4 ⌝ }
+    ensures { λ r. ⌜ r ≡ D.cursorIn (now (lengths .entry)) c ⌝ }
+{
+    let set = c.set;
+    let place = c.place;
+    if 3 < set {
+        return false;
+    }
+    if lengths[set] < place {
+        return false;
+    }
+    if 8000 < c.basics {
+        return false;
+    }
+    c.divisions <= 8
+}
+
+fn usable(state: State, tables: &[u8], lengths: &[usize], result: &[u8], width: usize) -> bool
+    ensures { λ r. ⌜ r ≡ D.usable state (D.memory (now (tables .entry)) (now (lengths .entry)) (now (result .entry))) width ⌝ }
+{
+    let axes = state.axes;
+    let listing = state.listing;
+    if tables.len() != 32000 {
+        return false;
+    }
+    if lengths.len() != 4 {
+        return false;
+    }
+    if !lengths_fit(lengths) {
+        return false;
+    }
+    if result.len() != 8000 {
+        return false;
+    }
+    if width < 512 {
+        return false;
+    }
+    if 8 < axes {
+        return false;
+    }
+    match listing {
+        Listing::Nothing => true,
+        Listing::From(c) => cursor_fits(c, lengths),
+    }
+}

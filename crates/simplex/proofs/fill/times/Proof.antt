@@ -1,0 +1,30 @@
+use mathlib.Core.Path.{_≡_, refl, sym, ap, ap₂, _∙_}
+use mathlib.Core.Bool.{true, false, cond}
+use Prim.Native.Nat.{ℕ, _+_, _-_, _≤_, _<_}
+use native.Mathlib.Omega.{arith}
+use borrow.Author.Needs.{needs}
+use borrow.Author.Tests.{lt-ltb, le-ltb}
+use lib.Dec.{ltb}
+use lib.ListN.{length, getD, set}
+use lib.IntN.{ℤ, pos, negℤ, _-ℤ_, _*ℤ_}
+use mir.Syntax.{w16, w32, w64}
+use mir.Val.{toZ, ofZ}
+use mir.Facts.{toZ-ofZ}
+use Rattle.simplex.proofs.Lines.{wider, fits}
+use Rattle.simplex.proofs.Fills.{short-fits, times-fit}
+use Rattle.simplex.proofs.fill.times.Statement.{statement}
+use Rattle.simplex.proofs.fill.times.Tie as tie
+use Rattle.simplex.proofs.fill.times.Reads as reads
+use Rattle.simplex.proofs.fill.times.Lts as lts
+
+cast-result : tie.Need-cast-result
+cast-result c = simp (toZ-ofZ (c .fits .x)) (short-fits (c .fits .x))
+
+mul-result : tie.Need-mul-result
+mul-result c = simp (toZ-ofZ (c .fits .x), toZ-ofZ (c .fits .s), toZ-ofZ (short-fits (c .fits .x))) (times-fit (c .pre) (c .fits .x))
+
+returns : tie.Need-returns
+returns c = simp (toZ-ofZ (c .fits .x), toZ-ofZ (c .fits .s), toZ-ofZ (short-fits (c .fits .x)), toZ-ofZ (times-fit (c .pre) (c .fits .x)))
+
+pub times-spec : {M : Type 1} → statement M
+times-spec = tie.close (tie.spec cast-result mul-result returns)

@@ -1,0 +1,26 @@
+use mathlib.Core.Path.{_≡_, refl, sym, ap, ap₂, _∙_}
+use mathlib.Core.Bool.{true, false, cond}
+use Prim.Native.Nat.{ℕ, _+_, _-_, _≤_, _<_}
+use native.Mathlib.Omega.{arith}
+use borrow.Author.Needs.{needs}
+use borrow.Author.Tests.{lt-ltb, le-ltb}
+use lib.Dec.{ltb}
+use lib.ListN.{length, getD, set}
+use lib.IntN.{ℤ, pos, negℤ, _-ℤ_, _*ℤ_}
+use mir.Syntax.{w16, w32, w64}
+use mir.Val.{toZ, ofZ}
+use mir.Facts.{toZ-ofZ}
+use Rattle.simplex.proofs.Fills.{word-fits}
+use Rattle.simplex.proofs.fill.wide.Statement.{statement}
+use Rattle.simplex.proofs.fill.wide.Tie as tie
+use Rattle.simplex.proofs.fill.wide.Reads as reads
+use Rattle.simplex.proofs.fill.wide.Lts as lts
+
+cast-result : tie.Need-cast-result
+cast-result c = simp (toZ-ofZ (c .fits .x)) (word-fits (c .fits .x))
+
+returns : tie.Need-returns
+returns c = simp (toZ-ofZ (c .fits .x), toZ-ofZ (word-fits (c .fits .x)))
+
+pub wide-spec : {M : Type 1} → statement M
+wide-spec = tie.close (tie.spec cast-result returns)

@@ -1,0 +1,156 @@
+/* The engine's public calls behind the line mode of tools/second: one call a line, one answer a line, so that `compare calls` can hold
+ * both against each other. Of a part it gets the bytes; their place is the first basic set with these bytes, which is the only one that the call can mean. */
+#define _POSIX_C_SOURCE 200809L
+#include <inttypes.h>
+#include <stdio.h>
+#include <stdlib.h>
+#include <string.h>
+
+typedef struct { uint8_t *bytes; size_t length; } table;
+
+#define EIGHT int32_t, int32_t, int32_t, int32_t, int32_t, int32_t, int32_t, int32_t
+#define ARGS(x) x[0], x[1], x[2], x[3], x[4], x[5], x[6], x[7]
+uint32_t probe_check(size_t, const uint8_t *, size_t);
+size_t probe_part(size_t, const uint8_t *, size_t, size_t, uint8_t *, size_t);
+uint64_t probe_member(size_t, const uint8_t *, size_t, EIGHT);
+size_t probe_holder(size_t, const uint8_t *, size_t, const uint8_t *, size_t, EIGHT, uint8_t *, size_t);
+uint64_t probe_test(size_t, const uint8_t *, size_t, size_t);
+size_t probe_pivots(size_t, const uint8_t *, size_t, size_t);
+uint64_t probe_search(size_t, const uint8_t *, size_t, uint32_t, EIGHT, EIGHT);
+uint32_t probe_tally(size_t, const uint8_t *, size_t, uint32_t, EIGHT, EIGHT);
+int64_t probe_coordinate(size_t, const uint8_t *, size_t, uint32_t, EIGHT, EIGHT, size_t);
+
+static char *word(char **rest)
+{
+    char *w = strtok_r(NULL, " \n", rest);
+    if (!w) { puts("bad line"); exit(2); }
+    return w;
+}
+
+static int digit(char c) { return c <= '9' ? c - '0' : c - 'a' + 10; }
+
+static table bytes(char **rest)
+{
+    char *w = word(rest);
+    table t;
+    t.length = strcmp(w, "-") ? strlen(w) / 2 : 0;
+    t.bytes = malloc(t.length + 1);
+    if (!t.bytes) exit(2);
+    for (size_t i = 0; i < t.length; i++) t.bytes[i] = (uint8_t)(digit(w[2 * i]) * 16 + digit(w[2 * i + 1]));
+    return t;
+}
+
+static size_t number(char **rest) { return strtoull(word(rest), NULL, 10); }
+
+static void eight(char **rest, int32_t x[8])
+{
+    for (int i = 0; i < 8; i++) x[i] = (int32_t)strtol(word(rest), NULL, 10);
+}
+
+/* the place of the first basic set of t that has these bytes; -1: none */
+static long place(const table *t, const uint8_t *part, size_t length)
+{
+    size_t at = 0;
+    while (at < t->length) {
+        size_t end = at + 1;
+        while (end < t->length && t->bytes[end] != 0x11) end += t->bytes[end] == 0x12 ? 23 : 37;
+        if (end - at == length && end <= t->length && !memcmp(t->bytes + at, part, length)) return (long)at;
+        at = end;
+    }
+    return -1;
+}
+
+static void check(char **rest)
+{
+    size_t n = number(rest);
+    table t = bytes(rest);
+    printf("%" PRIu32 "\n", probe_check(n, t.bytes, t.length));
+    free(t.bytes);
+}
+
+static void part(char **rest)
+{
+    static uint8_t out[2000];
+    size_t n = number(rest);
+    table t = bytes(rest);
+    size_t k = number(rest), length = probe_part(n, t.bytes, t.length, k, out, sizeof out);
+    long at = length ? place(&t, out, length) : 0;
+    printf("%ld %zu\n", at, length);
+    free(t.bytes);
+}
+
+static void refused_or(uint64_t r, const char *const *words) { if (r >= 100) printf("refused %" PRIu64 "\n", r - 100); else puts(words[r]); }
+
+static void member(char **rest)
+{
+    static const char *const words[] = {"out", "in"};
+    int32_t x[8];
+    size_t n = number(rest);
+    table t = bytes(rest);
+    eight(rest, x);
+    refused_or(probe_member(n, t.bytes, t.length, ARGS(x)), words);
+    free(t.bytes);
+}
+
+static void holder(char **rest)
+{
+    static uint8_t out[2000];
+    int32_t x[8];
+    size_t n = number(rest);
+    table a = bytes(rest), b = bytes(rest);
+    eight(rest, x);
+    size_t length = probe_holder(n, a.bytes, a.length, b.bytes, b.length, ARGS(x), out, sizeof out);
+    long at = length ? place(&a, out, length) : 0;
+    if (at >= 0) printf("first %ld %zu\n", at, length);
+    else printf("second %ld %zu\n", place(&b, out, length), length);
+    free(a.bytes);
+    free(b.bytes);
+}
+
+static void test(char **rest)
+{
+    static const char *const words[] = {"point", "dropped", "long", "wide"};
+    size_t n = number(rest);
+    table t = bytes(rest);
+    size_t k = number(rest);
+    uint64_t r = probe_test(n, t.bytes, t.length, k);
+    if (r >= 100) printf("refused %" PRIu64 "\n", r - 100);
+    else if (r == 4) puts("none");
+    else printf("%s %zu\n", words[r], probe_pivots(n, t.bytes, t.length, k));
+    free(t.bytes);
+}
+
+static void search(char **rest)
+{
+    int32_t l[8], h[8];
+    size_t n = number(rest);
+    table t = bytes(rest);
+    uint32_t limit = (uint32_t)strtoul(word(rest), NULL, 10);
+    eight(rest, l);
+    eight(rest, h);
+    uint64_t r = probe_search(n, t.bytes, t.length, limit, ARGS(l), ARGS(h));
+    if (r >= 100) { printf("refused %" PRIu64 "\n", r - 100); free(t.bytes); return; }
+    printf(r == 0 ? "at" : r == 1 ? "none" : "spent");
+    for (size_t i = 0; r == 0 && i < n; i++) printf(" %" PRId64, probe_coordinate(n, t.bytes, t.length, limit, ARGS(l), ARGS(h), i));
+    printf(" %" PRIu32 "\n", probe_tally(n, t.bytes, t.length, limit, ARGS(l), ARGS(h)));
+    free(t.bytes);
+}
+
+int main(void)
+{
+    char *line = NULL;
+    size_t size = 0;
+    while (getline(&line, &size, stdin) > 0) {
+        char *rest, *w = strtok_r(line, " \n", &rest);
+        if (!w) puts("bad line");
+        else if (!strcmp(w, "check")) check(&rest);
+        else if (!strcmp(w, "part")) part(&rest);
+        else if (!strcmp(w, "member")) member(&rest);
+        else if (!strcmp(w, "holder")) holder(&rest);
+        else if (!strcmp(w, "test")) test(&rest);
+        else if (!strcmp(w, "search")) search(&rest);
+        else puts("bad line");
+    }
+    free(line);
+    return 0;
+}
