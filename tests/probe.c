@@ -1,5 +1,6 @@
 /* The engine's public calls behind the line mode of tools/second: one call a line, one answer a line, so that `compare calls` can hold
- * both against each other. Of a part it gets the bytes; their place is the first basic set with these bytes, which is the only one that the call can mean. */
+ * both against each other. Of a part the library gives the bytes here: they are looked for at basic set k, or, of a holder, at the first basic
+ * set with these bytes, which holds every point that a later one with the same bytes does. */
 #define _POSIX_C_SOURCE 200809L
 #include <inttypes.h>
 #include <stdio.h>
@@ -47,16 +48,26 @@ static void eight(char **rest, int32_t x[8])
     for (int i = 0; i < 8; i++) x[i] = (int32_t)strtol(word(rest), NULL, 10);
 }
 
-/* the place of the first basic set of t that has these bytes; -1: none */
-static long place(const table *t, const uint8_t *part, size_t length)
+/* the place behind the basic set at a place */
+static size_t behind(const table *t, size_t at)
 {
-    size_t at = 0;
-    while (at < t->length) {
-        size_t end = at + 1;
-        while (end < t->length && t->bytes[end] != 0x11) end += t->bytes[end] == 0x12 ? 23 : 37;
-        if (end - at == length && end <= t->length && !memcmp(t->bytes + at, part, length)) return (long)at;
-        at = end;
-    }
+    at++;
+    while (at < t->length && t->bytes[at] != 0x11) at += t->bytes[at] == 0x12 ? 23 : 37;
+    return at;
+}
+
+static int stands(const table *t, size_t at, const uint8_t *part, size_t length)
+{
+    size_t end = behind(t, at);
+    return end <= t->length && end - at == length && !memcmp(t->bytes + at, part, length);
+}
+
+/* the place of the first basic set of t that has these bytes, of basic set k alone where k is not 0; -1: none */
+static long place(const table *t, size_t k, const uint8_t *part, size_t length)
+{
+    size_t i = 1;
+    for (size_t at = 0; at < t->length; at = behind(t, at), i++)
+        if ((k == 0 || i == k) && stands(t, at, part, length)) return (long)at;
     return -1;
 }
 
@@ -74,7 +85,7 @@ static void part(char **rest)
     size_t n = number(rest);
     table t = bytes(rest);
     size_t k = number(rest), length = probe_part(n, t.bytes, t.length, k, out, sizeof out);
-    long at = length ? place(&t, out, length) : 0;
+    long at = length ? place(&t, k, out, length) : 0;
     printf("%ld %zu\n", at, length);
     free(t.bytes);
 }
@@ -100,9 +111,9 @@ static void holder(char **rest)
     table a = bytes(rest), b = bytes(rest);
     eight(rest, x);
     size_t length = probe_holder(n, a.bytes, a.length, b.bytes, b.length, ARGS(x), out, sizeof out);
-    long at = length ? place(&a, out, length) : 0;
+    long at = length ? place(&a, 0, out, length) : 0;
     if (at >= 0) printf("first %ld %zu\n", at, length);
-    else printf("second %ld %zu\n", place(&b, out, length), length);
+    else printf("second %ld %zu\n", place(&b, 0, out, length), length);
     free(a.bytes);
     free(b.bytes);
 }
