@@ -1,3 +1,6 @@
 pub mod Chained
 pub mod Counting
 pub mod Answering
+pub mod Onward
+pub mod Along
+pub mod Meeting

@@ -4,17 +4,30 @@ ghost use lib.ListN.{length};
 ghost use Rattle.codec.specs.Places.{setFrom};
 ghost use Rattle.algebra.specs.Cut as C;
 ghost use Rattle.algebra.specs.Cut.{keeps, unionFits};
-ghost use Rattle.algebra.specs.Operations.{unionBytes};
+ghost use Rattle.algebra.specs.Operations.{unionBytes, intersectionBytes, differenceBytes, complementBytes};
 ghost use Rattle.algebra.specs.Result.{Result};
 ghost use Rattle.operations.specs.Outcome.{outcomeIs};
-ghost use Rattle.operations.specs.Results.{Sets, Made};
+ghost use Rattle.operations.specs.Results.{Sets, Made, Checks};
 use crate::counts::count;
+use crate::levels::subtract;
+use crate::pairs::intersect;
 use crate::results::Done;
 use crate::results::Outcome;
 use crate::results::finish;
 use crate::results::refuse;
 use codec::check;
 use codec::copy_bytes;
+
+// 0, or the refusal of the first set, or else of the second.
+fn check_two(n: usize, a: &[u8], b: &[u8]) -> u32
+    ensures { λ r. ⌜ Checks n (now (a .entry)) (now (b .entry)) r ⌝ }
+{
+    let k = check(n, a);
+    if k != 0 {
+        return k;
+    }
+    check(n, b)
+}
 
 fn append(a: &[u8], b: &[u8], out: &mut [u8]) -> Done
     requires { ⌜ Sets (now a) (now b) ⌝ }
@@ -40,14 +53,45 @@ fn append(a: &[u8], b: &[u8], out: &mut [u8]) -> Done
 pub fn union(n: usize, a: &[u8], b: &[u8], out: &mut [u8]) -> Outcome
     ensures { λ r. ⌜ Result (length (now (out .entry))) (unionBytes n (length (now (out .entry))) (now (a .entry)) (now (b .entry))) (outcomeIs r) (now (out .exit)) ⌝ }
 {
+    let k = check_two(n, a, b);
+    if k != 0 {
+        return refuse(k, out);
+    }
+    let d = append(a, b, out);
+    finish(d, out)
+}
+
+pub fn intersection(n: usize, a: &[u8], b: &[u8], out: &mut [u8]) -> Outcome
+    ensures { λ r. ⌜ Result (length (now (out .entry))) (intersectionBytes n (length (now (out .entry))) (now (a .entry)) (now (b .entry))) (outcomeIs r) (now (out .exit)) ⌝ }
+{
+    let k = check_two(n, a, b);
+    if k != 0 {
+        return refuse(k, out);
+    }
+    let d = intersect(a, b, out);
+    finish(d, out)
+}
+
+pub fn difference(n: usize, a: &[u8], b: &[u8], out: &mut [u8]) -> Outcome
+    ensures { λ r. ⌜ Result (length (now (out .entry))) (differenceBytes n (length (now (out .entry))) (now (a .entry)) (now (b .entry))) (outcomeIs r) (now (out .exit)) ⌝ }
+{
+    let k = check_two(n, a, b);
+    if k != 0 {
+        return refuse(k, out);
+    }
+    let d = subtract(a, b, out);
+    finish(d, out)
+}
+
+// The difference of the rule-less basic set, whose one byte is `11`, and the set.
+pub fn complement(n: usize, a: &[u8], out: &mut [u8]) -> Outcome
+    ensures { λ r. ⌜ Result (length (now (out .entry))) (complementBytes n (length (now (out .entry))) (now (a .entry))) (outcomeIs r) (now (out .exit)) ⌝ }
+{
     let k = check(n, a);
     if k != 0 {
         return refuse(k, out);
     }
-    let m = check(n, b);
-    if m != 0 {
-        return refuse(m, out);
-    }
-    let d = append(a, b, out);
+    let whole = [17u8; 1];
+    let d = subtract(&whole, a, out);
     finish(d, out)
 }

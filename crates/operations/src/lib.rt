@@ -1,7 +1,12 @@
 // Union, intersection, difference and complement of sets (document 01, "Cutting rules").
 mod calls;
 mod counts;
+mod levels;
+mod pairs;
 mod results;
 
+pub use calls::complement;
+pub use calls::difference;
+pub use calls::intersection;
 pub use calls::union;
 pub use results::Outcome;

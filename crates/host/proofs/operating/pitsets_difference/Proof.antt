@@ -1,0 +1,31 @@
+use Rattle.integers.specs.Mach.{result-is}
+use mathlib.Core.Path.{_∙_}
+use mir.Syntax.{w64}
+use Rattle.codec.proofs.Valid.{bytes-of}
+use Rattle.algebra.specs.Operations.{differenceBytes}
+use Rattle.algebra.proofs.Again.{difference-within}
+use lib.ListN.{length}
+use Rattle.host.proofs.Lengths.{short-of, hosted}
+use borrow.Author.Needs.{needs}
+use Rattle.host.proofs.operating.pitsets_difference.Statement.{statement}
+use Rattle.host.proofs.operating.pitsets_difference.Tie as tie
+
+difference-requires : tie.Need-difference-requires
+difference-requires c κs = search needs
+
+number-requires : tie.Need-number-requires
+number-requires c κs =
+    let u = c .before .before .difference in let g = c .before .before .before in let s = g .before .before .before .before .args in
+    short-of (differenceBytes (s .n) (length (s .out .now)) (s .a .now) (s .b .now)) (u .result) (u .ensures) (s .n)
+    (λ l. difference-within (s .n) (length (s .out .now)) (s .a .now) (s .b .now) l (bytes-of (s .a .now) (λ i. g .before .before .before .shared-slice-known .given i .fits)) (bytes-of (s .b .now) (λ i. g .before .before .shared-slice-known2 .given i .fits)))
+
+same-length : tie.Need-same-length
+same-length c = search needs
+
+returns : tie.Need-returns
+returns c =
+    let u = c .before .before .before .difference in let s = c .before .before .before .before .before .before .before .before .args in
+    hosted (differenceBytes (s .n) (length (s .out .now)) (s .a .now) (s .b .now)) (u .result) (u .ensures) _ (result-is w64 _ (c .number .ok) ∙ c .number .ensures)
+
+pub pitsets-difference-spec : {M : Type 1} → statement M
+pitsets-difference-spec = tie.close (tie.spec difference-requires number-requires same-length returns)

@@ -1,0 +1,31 @@
+use Rattle.integers.specs.Mach.{result-is}
+use mathlib.Core.Path.{_∙_}
+use mir.Syntax.{w64}
+use Rattle.codec.proofs.Valid.{bytes-of}
+use Rattle.algebra.specs.Operations.{intersectionBytes}
+use Rattle.algebra.proofs.Again.{intersection-within}
+use lib.ListN.{length}
+use Rattle.host.proofs.Lengths.{short-of, hosted}
+use borrow.Author.Needs.{needs}
+use Rattle.host.proofs.operating.pitsets_intersection.Statement.{statement}
+use Rattle.host.proofs.operating.pitsets_intersection.Tie as tie
+
+intersection-requires : tie.Need-intersection-requires
+intersection-requires c κs = search needs
+
+number-requires : tie.Need-number-requires
+number-requires c κs =
+    let u = c .before .before .intersection in let g = c .before .before .before in let s = g .before .before .before .before .args in
+    short-of (intersectionBytes (s .n) (length (s .out .now)) (s .a .now) (s .b .now)) (u .result) (u .ensures) (s .n)
+    (λ l. intersection-within (s .n) (length (s .out .now)) (s .a .now) (s .b .now) l (bytes-of (s .a .now) (λ i. g .before .before .before .shared-slice-known .given i .fits)) (bytes-of (s .b .now) (λ i. g .before .before .shared-slice-known2 .given i .fits)))
+
+same-length : tie.Need-same-length
+same-length c = search needs
+
+returns : tie.Need-returns
+returns c =
+    let u = c .before .before .before .intersection in let s = c .before .before .before .before .before .before .before .before .args in
+    hosted (intersectionBytes (s .n) (length (s .out .now)) (s .a .now) (s .b .now)) (u .result) (u .ensures) _ (result-is w64 _ (c .number .ok) ∙ c .number .ensures)
+
+pub pitsets-intersection-spec : {M : Type 1} → statement M
+pitsets-intersection-spec = tie.close (tie.spec intersection-requires number-requires same-length returns)

@@ -1,0 +1,9 @@
+// The engine for the board's host in C: numbers and byte slices in, a signed number out (include/pitsets.h).
+mod asking;
+mod operating;
+
+pub use asking::pitsets_member;
+pub use operating::pitsets_complement;
+pub use operating::pitsets_difference;
+pub use operating::pitsets_intersection;
+pub use operating::pitsets_union;

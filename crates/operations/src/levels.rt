@@ -1,0 +1,86 @@
+// The difference: recursion over the cutters left; each level hands each of its pieces to the next at once.
+ghost use Rattle.model.specs.Values.{basicSetOf};
+ghost use Rattle.codec.specs.Places.{setFrom};
+ghost use Rattle.algebra.specs.Cut.{keeps, cutAll, cutAllFits, difference, differenceFits};
+ghost use Rattle.cutting.specs.Cutting.{Tables};
+ghost use Rattle.operations.specs.Results.{Ready, Emits, Made, Sets, Level};
+use crate::counts::count;
+use crate::results::Done;
+use crate::results::emit;
+use codec::decode_basic;
+use cutting::cut;
+use cutting::piece;
+use model::BasicSet;
+
+// The pieces that the `left` cutters from `pos` on leave of p.
+pub fn cut_all(
+    left: usize,
+    p: BasicSet,
+    b: &[u8],
+    pos: usize,
+    out: &mut [u8],
+    s: Done,
+    rows: &mut [[i64; 18]],
+    place: &mut [usize],
+    kinds: &mut [u8],
+) -> Done
+    requires { ⌜ Level left p (now b) pos × Ready s × Tables (now rows) (now place) (now kinds) ⌝ }
+    ensures { λ r. ⌜ Emits (cutAll keeps (setFrom (now (b .entry)) pos) (basicSetOf p)) (cutAllFits keeps (setFrom (now (b .entry)) pos) (basicSetOf p)) (now (out .entry)) s r (now (out .exit)) ⌝ }
+{
+    if left == 0 {
+        return emit(p, out, s);
+    }
+    let v = decode_basic(b, pos + 1);
+    let next = pos + 1 + 23 * v.divs + 37 * v.cons;
+    let c = cut(p, v, rows, place, kinds);
+    let fits = c.fits;
+    if !fits {
+        return Done {
+            at: s.at,
+            count: s.count,
+            fits: false,
+        };
+    }
+    let w = c.working;
+    let n = c.count;
+    let mut t = s;
+    let mut i = 0;
+    while i < n {
+        let v = c.steps[i];
+        let q = piece(w, v);
+        t = cut_all(left - 1, q, b, next, out, t, rows, place, kinds);
+        let on = t.fits;
+        if !on {
+            return t;
+        }
+        i += 1;
+    }
+    t
+}
+
+// Each basic set of a in order, cut by all of b.
+pub fn subtract(a: &[u8], b: &[u8], out: &mut [u8]) -> Done
+    requires { ⌜ Sets (now a) (now b) ⌝ }
+    ensures { λ r. ⌜ Made (differenceFits keeps (setFrom (now (a .entry)) 0) (setFrom (now (b .entry)) 0)) (difference keeps (setFrom (now (a .entry)) 0) (setFrom (now (b .entry)) 0)) (now (out .entry)) r (now (out .exit)) ⌝ }
+{
+    let left = count(b);
+    let mut rows = [[0i64; 18]; 64];
+    let mut place = [0usize; 80];
+    let mut kinds = [0u8; 80];
+    let mut t = Done {
+        at: 0,
+        count: 0,
+        fits: true,
+    };
+    let mut pos = 0;
+    while pos < a.len() {
+        let p = decode_basic(a, pos + 1);
+        t = cut_all(left, p, b, 0, out, t, &mut rows, &mut place, &mut kinds);
+        let on = t.fits;
+        if !on {
+            return t;
+        }
+        pos = pos + 1 + 23 * p.divs + 37 * p.cons;
+    }
+    t
+}

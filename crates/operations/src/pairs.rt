@@ -1,0 +1,95 @@
+// The intersection: each basic set of the first with each of the second.
+ghost use lib.ListN.{length};
+ghost use Rattle.model.specs.Values.{basicSetOf};
+ghost use Rattle.codec.specs.Places.{setFrom};
+ghost use Rattle.algebra.specs.Cut as C;
+ghost use Rattle.algebra.specs.Cut.{bothFits, intersection, intersectionFits};
+ghost use Rattle.cutting.specs.Cutting.{Tables, Pair};
+ghost use Rattle.operations.specs.Results.{Ready, Emits, Made, Sets, Level, meeting, meetings, meetingsFit};
+use crate::results::Done;
+use crate::results::emit;
+use codec::decode_basic;
+use cutting::both;
+use cutting::keeps;
+use model::BasicSet;
+
+// p and v in one, where the test for fractions keeps it.
+fn meet(
+    p: BasicSet,
+    v: BasicSet,
+    out: &mut [u8],
+    s: Done,
+    rows: &mut [[i64; 18]],
+    place: &mut [usize],
+    kinds: &mut [u8],
+) -> Done
+    requires { ⌜ Pair p v × Ready s × Tables (now rows) (now place) (now kinds) ⌝ }
+    ensures { λ r. ⌜ Emits (meeting (basicSetOf p) (basicSetOf v)) (bothFits C.keeps (basicSetOf p) (basicSetOf v)) (now (out .entry)) s r (now (out .exit)) ⌝ }
+{
+    let c = both(p, v);
+    let fits = c.fits;
+    if !fits {
+        return Done {
+            at: s.at,
+            count: s.count,
+            fits: false,
+        };
+    }
+    let m = c.set;
+    if keeps(m, rows, place, kinds) {
+        return emit(m, out, s);
+    }
+    s
+}
+
+// p with each basic set of b.
+fn meet_all(
+    p: BasicSet,
+    b: &[u8],
+    out: &mut [u8],
+    s: Done,
+    rows: &mut [[i64; 18]],
+    place: &mut [usize],
+    kinds: &mut [u8],
+) -> Done
+    requires { ⌜ Level (length (setFrom (now b) 0)) p (now b) 0 × Ready s × Tables (now rows) (now place) (now kinds) ⌝ }
+    ensures { λ r. ⌜ Emits (meetings (setFrom (now (b .entry)) 0) (basicSetOf p)) (meetingsFit (setFrom (now (b .entry)) 0) (basicSetOf p)) (now (out .entry)) s r (now (out .exit)) ⌝ }
+{
+    let mut t = s;
+    let mut pos = 0;
+    while pos < b.len() {
+        let v = decode_basic(b, pos + 1);
+        t = meet(p, v, out, t, rows, place, kinds);
+        let on = t.fits;
+        if !on {
+            return t;
+        }
+        pos = pos + 1 + 23 * v.divs + 37 * v.cons;
+    }
+    t
+}
+
+pub fn intersect(a: &[u8], b: &[u8], out: &mut [u8]) -> Done
+    requires { ⌜ Sets (now a) (now b) ⌝ }
+    ensures { λ r. ⌜ Made (intersectionFits C.keeps (setFrom (now (a .entry)) 0) (setFrom (now (b .entry)) 0)) (intersection C.keeps (setFrom (now (a .entry)) 0) (setFrom (now (b .entry)) 0)) (now (out .entry)) r (now (out .exit)) ⌝ }
+{
+    let mut rows = [[0i64; 18]; 64];
+    let mut place = [0usize; 80];
+    let mut kinds = [0u8; 80];
+    let mut t = Done {
+        at: 0,
+        count: 0,
+        fits: true,
+    };
+    let mut pos = 0;
+    while pos < a.len() {
+        let p = decode_basic(a, pos + 1);
+        t = meet_all(p, b, out, t, &mut rows, &mut place, &mut kinds);
+        let on = t.fits;
+        if !on {
+            return t;
+        }
+        pos = pos + 1 + 23 * p.divs + 37 * p.cons;
+    }
+    t
+}

@@ -1,0 +1,92 @@
+/* May this truck run? A permit set, a closure taken away, and two trucks asked.
+ * Axes: payload in tonnes, road, minute of the shift. Build and run: make -C host example && host/example */
+#include <inttypes.h>
+#include <stdio.h>
+#include <string.h>
+
+#include "pitsets.h"
+
+enum { AXES = 3 };
+
+/* ---- writing a set: little-endian numbers, as document 01 lays them out */
+typedef struct {
+    uint8_t bytes[8000];
+    size_t length;
+} table;
+
+static void put(table *t, uint32_t value, int bytes)
+{
+    for (int i = 0; i < bytes; i++) t->bytes[t->length++] = (uint8_t)(value >> (8 * i));
+}
+
+static void basic_set(table *t) { put(t, 0x11, 1); }
+
+/* floor((axes·x + constant) / divisor) */
+static void division(table *t, uint16_t divisor, int32_t constant, const int16_t axes[AXES])
+{
+    put(t, 0x12, 1);
+    put(t, divisor, 2);
+    put(t, (uint32_t)constant, 4);
+    for (int i = 0; i < 8; i++) put(t, (uint16_t)(i < AXES ? axes[i] : 0), 2);
+}
+
+/* constant + axes·x + q·(the first division) ≥ 0 */
+static void at_least_0(table *t, int32_t constant, const int16_t axes[AXES], int16_t q)
+{
+    put(t, 0x14, 1);
+    put(t, (uint32_t)constant, 4);
+    for (int i = 0; i < 8; i++) put(t, (uint16_t)(i < AXES ? axes[i] : 0), 2);
+    put(t, (uint16_t)q, 2);
+    for (int i = 1; i < 8; i++) put(t, 0, 2);
+}
+
+static int ask(const char *who, const uint8_t *set, size_t length, const int32_t point[AXES])
+{
+    int64_t answer = pitsets_member_at(AXES, set, length, point);
+    if (answer < 0) {
+        printf("%s: refused %" PRId64 ", %s\n", who, -answer, pitsets_reason(answer));
+        return 1;
+    }
+    printf("%s: %s\n", who, answer ? "may run" : "must wait");
+    return 0;
+}
+
+int main(void)
+{
+    static table permit, closure;
+    static uint8_t allowed[8000];
+    const int16_t tonnes[AXES] = {1, 0, 0}, less[AXES] = {-1, 0, 0}, road[AXES] = {0, 1, 0}, no_road[AXES] = {0, -1, 0};
+    const int16_t minute[AXES] = {0, 0, 1}, none[AXES] = {0, 0, 0};
+
+    /* permit: 0 to 240 tonnes, roads 1 to 9 */
+    basic_set(&permit);
+    at_least_0(&permit, 0, tonnes, 0);
+    at_least_0(&permit, 240, less, 0);
+    at_least_0(&permit, -1, road, 0);
+    at_least_0(&permit, 9, no_road, 0);
+
+    /* closure: road 4 in the half hours 6 to 8 of the shift */
+    basic_set(&closure);
+    division(&closure, 30, 0, minute);
+    at_least_0(&closure, -4, road, 0);
+    at_least_0(&closure, 4, no_road, 0);
+    at_least_0(&closure, -6, none, 1);
+    at_least_0(&closure, 8, none, -1);
+
+    int64_t length = pitsets_difference(AXES, permit.bytes, permit.length, closure.bytes, closure.length, allowed, sizeof allowed);
+    if (length < 0) {
+        printf("refused %" PRId64 ", %s\n", -length, pitsets_reason(length));
+        return 1;
+    }
+    printf("allowed: %" PRId64 " bytes\n", length);
+
+    const int32_t early[AXES] = {180, 4, 120}, late[AXES] = {180, 4, 200}, far[AXES] = {180, 4, 2000000};
+    int failed = ask("truck at minute 120 on road 4", allowed, (size_t)length, early);
+    failed |= ask("truck at minute 200 on road 4", allowed, (size_t)length, late);
+    ask("truck at minute 2000000", allowed, (size_t)length, far);
+
+    /* a refusal names its reason, and the result table is all 0 */
+    length = pitsets_difference(AXES, permit.bytes, permit.length - 1, closure.bytes, closure.length, allowed, sizeof allowed);
+    printf("a permit cut off: refused %" PRId64 ", %s\n", -length, pitsets_reason(length));
+    return failed;
+}

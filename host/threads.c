@@ -1,0 +1,38 @@
+/* Two threads at once: each repeats the same calls on tables of its own, and every answer is that of the first round. */
+#include <pthread.h>
+#include <stdio.h>
+#include <string.h>
+
+#include "pitsets.h"
+
+enum { ROUNDS = 2000 };
+
+/* 0 ≤ x ≤ 2186, and the points with floor(x / 10) = 218 (document 01, "Worked on the board") */
+static const uint8_t range[75] = {0x11, 0x14, 0, 0, 0, 0, 1, 0, [38] = 0x14, 0x8A, 0x08, 0, 0, 0xFF, 0xFF};
+static const uint8_t tenth[61] = {0x11, 0x12, 10, 0, 0, 0, 0, 0, 1, 0, [24] = 0x13, 0x26, 0xFF, 0xFF, 0xFF, [45] = 1};
+
+static void *work(void *failed)
+{
+    uint8_t first[200], again[200];
+    int64_t length = pitsets_difference(1, range, sizeof range, tenth, sizeof tenth, first, sizeof first);
+    if (length != 135) *(int *)failed = 1;
+    for (int i = 0; i < ROUNDS; i++) {
+        memset(again, i & 0xFF, sizeof again);
+        if (pitsets_difference(1, range, sizeof range, tenth, sizeof tenth, again, sizeof again) != length) *(int *)failed = 1;
+        if (memcmp(first, again, sizeof first)) *(int *)failed = 1;
+        if (pitsets_member(1, first, (size_t)length, 2179, 0, 0, 0, 0, 0, 0, 0) != 1) *(int *)failed = 1;
+        if (pitsets_member(1, first, (size_t)length, 2180, 0, 0, 0, 0, 0, 0, 0) != 0) *(int *)failed = 1;
+    }
+    return NULL;
+}
+
+int main(void)
+{
+    pthread_t t[2];
+    int failed[2] = {0, 0};
+    for (int i = 0; i < 2; i++)
+        if (pthread_create(&t[i], NULL, work, &failed[i])) return 2;
+    for (int i = 0; i < 2; i++) pthread_join(t[i], NULL);
+    puts(failed[0] || failed[1] ? "threads differ" : "threads agree");
+    return failed[0] || failed[1];
+}
