@@ -1,21 +1,20 @@
 #!/usr/bin/env bash
-# The engine's public calls, through the static library of the crate probe, against the second program: generated calls, answer by answer.
+# The engine's public calls, through the static library of the crate probe, against the stored calls and the second program, answer by
+# answer, and by meaning.
 # CALLS (default 10000) scales the run; the last line is 'N passed, M failed'.
 cd "$(dirname "$0")/.." || exit 2
 calls=${CALLS:-10000}
 passed=0
 failed=0
-rt staticlib probe >/dev/null || { echo "0 passed, 1 failed"; exit 1; }
-mkdir -p target/tests
-gcc -O2 -std=c99 -Wall -Wextra -Werror -o target/tests/probe tests/probe.c target/staticlib/libprobe.a || { echo "0 passed, 1 failed"; exit 1; }
+bash tests/build-probe || { echo "0 passed, 1 failed"; exit 1; }
 
-# held SEED COUNT KIND..
-held() {
-  local seed=$1 count=$2 out line
-  shift 2
-  out=$(tools/target/release/compare calls target/tests/probe "$count" "$seed" "$@" 2>&1)
+# counted NAME COMMAND..: the command's closing line joins the sum.
+counted() {
+  local name=$1 out line
+  shift
+  out=$("$@" 2>&1)
   line=$(tail -n 1 <<<"$out")
-  echo "$*: $line"
+  echo "$name: $line (${SECONDS} s)"
   if [[ $line =~ ^([0-9]+)\ passed,\ ([0-9]+)\ failed$ ]]; then
     passed=$((passed + BASH_REMATCH[1]))
     failed=$((failed + BASH_REMATCH[2]))
@@ -26,8 +25,18 @@ held() {
   fi
 }
 
+# held SEED COUNT KIND..: each answer byte for byte the second program's.
+held() {
+  local seed=$1 count=$2
+  shift 2
+  counted "$*" tools/target/release/compare calls target/tests/probe "$count" "$seed" "$@"
+}
+
+counted "stored calls" tools/target/release/hexscript calls target/tests/probe -- tests/calls/*.txt
 held 5 "$calls" check part
 held 6 $((2 * calls)) member holder search
 held 7 $((5 * calls)) test
+held 8 "$calls" union intersection difference complement
+counted "by meaning" tools/target/release/meaning $((calls / 10)) 9 target/tests/probe
 echo "$passed passed, $failed failed"
 [ "$failed" -eq 0 ]

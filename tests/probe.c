@@ -21,6 +21,11 @@ uint64_t probe_search(size_t, const uint8_t *, size_t, uint32_t, EIGHT, EIGHT);
 uint32_t probe_tally(size_t, const uint8_t *, size_t, uint32_t, EIGHT, EIGHT);
 int64_t probe_coordinate(size_t, const uint8_t *, size_t, uint32_t, EIGHT, EIGHT, size_t);
 
+size_t probe_union(size_t, const uint8_t *, size_t, const uint8_t *, size_t, uint8_t *, size_t);
+size_t probe_intersection(size_t, const uint8_t *, size_t, const uint8_t *, size_t, uint8_t *, size_t);
+size_t probe_difference(size_t, const uint8_t *, size_t, const uint8_t *, size_t, uint8_t *, size_t);
+size_t probe_complement(size_t, const uint8_t *, size_t, uint8_t *, size_t);
+
 static char *word(char **rest)
 {
     char *w = strtok_r(NULL, " \n", rest);
@@ -147,6 +152,45 @@ static void search(char **rest)
     free(t.bytes);
 }
 
+/* The result's table and a guard behind it, full of what no call writes: every byte of the table must come from the call, none of the guard. */
+enum { GUARD = 64, OLD = 0xa5 };
+
+static table lent(size_t room)
+{
+    table t = {malloc(room + GUARD), room};
+    if (!t.bytes) exit(2);
+    memset(t.bytes, OLD, room + GUARD);
+    return t;
+}
+
+static void answer(size_t r, table t)
+{
+    for (size_t i = 0; i < GUARD; i++)
+        if (t.bytes[t.length + i] != OLD) { puts("wrote behind the table"); free(t.bytes); return; }
+    if (r > SIZE_MAX - 100) printf("refused %zu ", SIZE_MAX - r);
+    else printf("gives %zu ", r);
+    for (size_t i = 0; i < t.length; i++) printf("%02x", t.bytes[i]);
+    puts(t.length ? "" : "-");
+    free(t.bytes);
+}
+
+static void of_two(char **rest, size_t (*call)(size_t, const uint8_t *, size_t, const uint8_t *, size_t, uint8_t *, size_t))
+{
+    size_t n = number(rest);
+    table t = lent(number(rest)), a = bytes(rest), b = bytes(rest);
+    answer(call(n, a.bytes, a.length, b.bytes, b.length, t.bytes, t.length), t);
+    free(a.bytes);
+    free(b.bytes);
+}
+
+static void complement(char **rest)
+{
+    size_t n = number(rest);
+    table t = lent(number(rest)), a = bytes(rest);
+    answer(probe_complement(n, a.bytes, a.length, t.bytes, t.length), t);
+    free(a.bytes);
+}
+
 int main(void)
 {
     char *line = NULL;
@@ -160,6 +204,10 @@ int main(void)
         else if (!strcmp(w, "holder")) holder(&rest);
         else if (!strcmp(w, "test")) test(&rest);
         else if (!strcmp(w, "search")) search(&rest);
+        else if (!strcmp(w, "union")) of_two(&rest, probe_union);
+        else if (!strcmp(w, "intersection")) of_two(&rest, probe_intersection);
+        else if (!strcmp(w, "difference")) of_two(&rest, probe_difference);
+        else if (!strcmp(w, "complement")) complement(&rest);
         else puts("bad line");
     }
     free(line);

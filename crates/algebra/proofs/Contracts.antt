@@ -8,13 +8,14 @@ use native.Mathlib.Omega.{arith}
 use lib.Dec.{T, leb, ltb, eqb, leb→le, le→leb, lt→ltb, ltb→lt, eqb→eq, nltb→le}
 use lib.IntN.{ℤ, pos, negsuc}
 use lib.ListN.{length, take, drop}
+use Rattle.integers.specs.LittleEndian.{bytes-drop}
 use Rattle.model.specs.Lists.{all}
 use Rattle.model.specs.Sets.{equality, inequality, BasicSet, Set, inSet, wellFormed, absent}
 use Rattle.algebra.specs.Cut.{keeps, union, unionFits, bothFits, intersection, intersectionFits, cutAllFits, difference, differenceFits, complement, complementFits}
 use Rattle.codec.specs.Bytes.{Answer, refused, gives, valueOf, signed, signedList, Command, opens, division, constraint, encode, readDivision, readConstraint, readCommand, widthOf, Counts, within, coefficient, constantFits, refusal, testsOf, counted, Built, build, axesFit, decode}
 use Rattle.algebra.specs.Operations.{result, onOne, onTwo, unionBytes, intersectionBytes, differenceBytes, complementBytes}
 use Rattle.model.proofs.Count.{and-left, and-right, to-T}
-use Rattle.codec.proofs.Decoded.{Parsed, done, next, Bytes, drop-bytes, decoded, decode-formed, all-passed, no-way}
+use Rattle.codec.proofs.Decoded.{Parsed, done, next, Bytes, decoded, decode-formed, all-passed, no-way}
 use Rattle.codec.proofs.Valid.{All, all-app, Valid, valid-decodes, decode-valid}
 use Rattle.algebra.proofs.Closed.{difference-valid, difference-decodes, intersection-valid}
 use Rattle.algebra.proofs.Kept.{difference-points, intersection-points, complement-points}

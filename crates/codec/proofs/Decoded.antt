@@ -8,7 +8,10 @@ use native.Mathlib.Omega.{arith}
 use lib.Dec.{T, leb, ltb, eqb, leb→le, le→leb, ltb→lt, lt→ltb, eqb→eq, not-T, T-not}
 use lib.IntN.{ℤ, pos, negsuc, natAbs}
 use lib.Signed.{leZ}
-use lib.ListN.{length, take, drop}
+use lib.ListN.{length, take, drop, take-append-drop}
+use lib.Seq.{length-take-le}
+pub use Rattle.integers.specs.LittleEndian.{Bytes}
+use Rattle.integers.specs.LittleEndian.{bytes-value, value-small, unsigned-signed, bytes-take, bytes-drop}
 use Rattle.model.specs.Lists.{all, concatMap}
 use Rattle.model.specs.Sets.{Division, Kind, equality, inequality, Constraint, Set, absent, wellFormed}
 use Rattle.codec.specs.Bytes.{Answer, refused, gives, bytesOf, valueOf, unsigned, signed, signedBytes, Command, opens, division, constraint, opcode, encodeCommand, commands, encode, signedList, readDivision, readConstraint, Counts, firstFailing, testsOf, refusal, counted, widthOf, readCommand, Built, build, after, parse, setOf, axesFit, decode, headRefusal}
@@ -177,10 +180,6 @@ decode-formed n bs s e =
 
 -- ---- the bytes of the decoded set are the bytes
 
-abbrev pub Bytes : List ℕ → Type 0
-Bytes [] = Unit {0}
-Bytes (b ∷ s) = (b < 256) × Bytes s
-
 pub clean-start : (n : ℕ) (k : Counts) (cs : List Command) → Unrefused n k cs → k .basics ≡ 0 → (build cs .divisions ≡ []) × (build cs .constraints ≡ [])
 clean-start n k [] u e = (refl, refl)
 clean-start n k (opens ∷ cs) u e = (refl, refl)
@@ -208,54 +207,18 @@ commands-back n k (constraint r ∷ cs) u =
     more : (a : ℕ) → 0 < a + 1
     more a = omega arith
 
-unsigned-2 : (n : ℕ) → n < 65536 → unsigned 2 (signed 2 n) ≡ n
-unsigned-2 n h = at (ltb (2 * n) 65536)
-  where
-    at : (b : Bool) → unsigned 2 (cond b (pos n) (negsuc (65536 - suc n))) ≡ n
-    at true = refl
-    at false = omega arith
+-- k bytes as a number, and back
+value-back : (k : ℕ) (s : List ℕ) → Bytes s → k ≤ length s → bytesOf k (valueOf (take k s)) ++ drop k s ≡ s
+value-back k s p h =
+    let l : length (take k s) ≡ k = length-take-le k s h in
+    ap (λ (j : ℕ). bytesOf j (valueOf (take k s)) ++ drop k s) (sym l)
+    ∙ ap (λ (t : List ℕ). t ++ drop k s) (bytes-value (take k s) (bytes-take k s p)) ∙ take-append-drop k s
 
-unsigned-4 : (n : ℕ) → n < 4294967296 → unsigned 4 (signed 4 n) ≡ n
-unsigned-4 n h = at (ltb (2 * n) 4294967296)
-  where
-    at : (b : Bool) → unsigned 4 (cond b (pos n) (negsuc (4294967296 - suc n))) ≡ n
-    at true = refl
-    at false = omega arith
-
-cons : {a b : ℕ} {s t : List ℕ} → a ≡ b → s ≡ t → a ∷ s ≡ b ∷ t
-cons e f = ap₂ (λ (x : ℕ) (l : List ℕ). x ∷ l) e f
-
-two-bytes : (a b : ℕ) → a < 256 → b < 256 → bytesOf 2 (valueOf (a ∷ b ∷ [])) ≡ a ∷ b ∷ []
-two-bytes a b h i = cons (omega arith) (cons (omega arith) refl)
-
-four-bytes : (a b c d : ℕ) → a < 256 → b < 256 → c < 256 → d < 256 → bytesOf 4 (valueOf (a ∷ b ∷ c ∷ d ∷ [])) ≡ a ∷ b ∷ c ∷ d ∷ []
-four-bytes a b c d h i j k = cons (omega arith) (cons (omega arith) (cons (omega arith) (cons (omega arith) refl)))
-
-back-2 : (s t : List ℕ) → Bytes s → 2 ≤ length s → bytesOf 2 (valueOf (take 2 s)) ++ drop 2 s ≡ s
-back-2 [] t p h = absurd (not-suc-le-zero h)
-back-2 (a ∷ []) t p h = absurd (not-suc-le-zero (le-of-suc-le-suc h))
-back-2 (a ∷ b ∷ s) t p h = ap (λ (l : List ℕ). l ++ s) (two-bytes a b (p .0) (p .1 .0))
-
-signed-back-2 : (s : List ℕ) → Bytes s → 2 ≤ length s → signedBytes 2 (signed 2 (valueOf (take 2 s))) ++ drop 2 s ≡ s
-signed-back-2 [] p h = absurd (not-suc-le-zero h)
-signed-back-2 (a ∷ []) p h = absurd (not-suc-le-zero (le-of-suc-le-suc h))
-signed-back-2 (a ∷ b ∷ s) p h =
-    let x = p .0 in let y = p .1 .0 in
-    ap (λ (n : ℕ). bytesOf 2 n ++ s) (unsigned-2 (valueOf (a ∷ b ∷ [])) (omega arith)) ∙ ap (λ (l : List ℕ). l ++ s) (two-bytes a b x y)
-
-signed-back-4 : (s : List ℕ) → Bytes s → 4 ≤ length s → signedBytes 4 (signed 4 (valueOf (take 4 s))) ++ drop 4 s ≡ s
-signed-back-4 [] p h = absurd (not-suc-le-zero h)
-signed-back-4 (a ∷ []) p h = absurd (not-suc-le-zero (le-of-suc-le-suc h))
-signed-back-4 (a ∷ b ∷ []) p h = absurd (not-suc-le-zero (le-of-suc-le-suc (le-of-suc-le-suc h)))
-signed-back-4 (a ∷ b ∷ c ∷ []) p h = absurd (not-suc-le-zero (le-of-suc-le-suc (le-of-suc-le-suc (le-of-suc-le-suc h))))
-signed-back-4 (a ∷ b ∷ c ∷ d ∷ s) p h =
-    let x = p .0 in let y = p .1 .0 in let z = p .1 .1 .0 in let w = p .1 .1 .1 .0 in
-    ap (λ (n : ℕ). bytesOf 4 n ++ s) (unsigned-4 (valueOf (a ∷ b ∷ c ∷ d ∷ [])) (omega arith)) ∙ ap (λ (l : List ℕ). l ++ s) (four-bytes a b c d x y z w)
-
-pub drop-bytes : (k : ℕ) (s : List ℕ) → Bytes s → Bytes (drop k s)
-drop-bytes zero s p = p
-drop-bytes (suc k) [] p = tt
-drop-bytes (suc k) (b ∷ s) p = drop-bytes k s (p .1)
+signed-back : (k : ℕ) (s : List ℕ) → Bytes s → k ≤ length s → signedBytes k (signed k (valueOf (take k s))) ++ drop k s ≡ s
+signed-back k s p h =
+    let l : length (take k s) ≡ k = length-take-le k s h in
+    let v : valueOf (take k s) < 256 ^ k = subst (λ (j : ℕ). valueOf (take k s) < 256 ^ j) l (value-small (take k s) (bytes-take k s p)) in
+    ap (λ (n : ℕ). bytesOf k n ++ drop k s) (unsigned-signed k (valueOf (take k s)) v) ∙ value-back k s p h
 
 abbrev twice : ℕ → ℕ
 twice zero = 0
@@ -268,7 +231,7 @@ list-back (suc m) (a ∷ []) p h = absurd (not-suc-le-zero (le-of-suc-le-suc h))
 list-back (suc m) (a ∷ b ∷ s) p h =
     append-assoc (signedBytes 2 (signed 2 (valueOf (a ∷ b ∷ [])))) (concatMap (signedBytes 2) (signedList m s)) (drop (twice m) s)
     ∙ ap (λ (l : List ℕ). signedBytes 2 (signed 2 (valueOf (a ∷ b ∷ []))) ++ l) (list-back m s (p .1 .1) (le-of-suc-le-suc (le-of-suc-le-suc h)))
-    ∙ signed-back-2 (a ∷ b ∷ s) p (suc-le-suc (suc-le-suc zero-le))
+    ∙ signed-back 2 (a ∷ b ∷ s) p (suc-le-suc (suc-le-suc zero-le))
 
 body-12 : (s : List ℕ) → Bytes s → 22 ≤ length s → encodeCommand (division (readDivision s)) ++ drop 22 s ≡ 0x12 ∷ s
 body-12 s p h =
@@ -278,9 +241,9 @@ body-12 s p h =
     (append-assoc (bytesOf 2 (valueOf (take 2 s)) ++ signedBytes 4 (signed 4 (valueOf (take 4 (drop 2 s))))) (concatMap (signedBytes 2) (signedList 8 (drop 6 s))) (drop 22 s)
     ∙ append-assoc (bytesOf 2 (valueOf (take 2 s))) (signedBytes 4 (signed 4 (valueOf (take 4 (drop 2 s))))) (concatMap (signedBytes 2) (signedList 8 (drop 6 s)) ++ drop 22 s)
     ∙ ap (λ (l : List ℕ). bytesOf 2 (valueOf (take 2 s)) ++ (signedBytes 4 (signed 4 (valueOf (take 4 (drop 2 s)))) ++ l))
-    (ap (λ (l : List ℕ). concatMap (signedBytes 2) (signedList 8 (drop 6 s)) ++ l) (sym (lib.Seq.drop-drop 16 6 s)) ∙ list-back 8 (drop 6 s) (drop-bytes 6 s p) d₆ ∙ sym (lib.Seq.drop-drop 4 2 s))
-    ∙ ap (λ (l : List ℕ). bytesOf 2 (valueOf (take 2 s)) ++ l) (signed-back-4 (drop 2 s) (drop-bytes 2 s p) (omega arith))
-    ∙ back-2 s s p (omega arith))
+    (ap (λ (l : List ℕ). concatMap (signedBytes 2) (signedList 8 (drop 6 s)) ++ l) (sym (lib.Seq.drop-drop 16 6 s)) ∙ list-back 8 (drop 6 s) (bytes-drop 6 s p) d₆ ∙ sym (lib.Seq.drop-drop 4 2 s))
+    ∙ ap (λ (l : List ℕ). bytesOf 2 (valueOf (take 2 s)) ++ l) (signed-back 4 (drop 2 s) (bytes-drop 2 s p) (omega arith))
+    ∙ value-back 2 s p (omega arith))
 
 body-constraint : (k : Kind) (s : List ℕ) → Bytes s → 36 ≤ length s → encodeCommand (constraint (readConstraint k s)) ++ drop 36 s ≡ opcode k ∷ s
 body-constraint k s p h =
@@ -291,9 +254,9 @@ body-constraint k s p h =
     ∙ append-assoc (signedBytes 4 (signed 4 (valueOf (take 4 s)))) (concatMap (signedBytes 2) (signedList 8 (drop 4 s))) (concatMap (signedBytes 2) (signedList 8 (drop 20 s)) ++ drop 36 s)
     ∙ ap (λ (l : List ℕ). signedBytes 4 (signed 4 (valueOf (take 4 s))) ++ l)
     (ap (λ (l : List ℕ). concatMap (signedBytes 2) (signedList 8 (drop 4 s)) ++ l)
-    (ap (λ (l : List ℕ). concatMap (signedBytes 2) (signedList 8 (drop 20 s)) ++ l) (sym (lib.Seq.drop-drop 16 20 s)) ∙ list-back 8 (drop 20 s) (drop-bytes 20 s p) d₂₀ ∙ sym (lib.Seq.drop-drop 16 4 s))
-    ∙ list-back 8 (drop 4 s) (drop-bytes 4 s p) d₄)
-    ∙ signed-back-4 s p (omega arith))
+    (ap (λ (l : List ℕ). concatMap (signedBytes 2) (signedList 8 (drop 20 s)) ++ l) (sym (lib.Seq.drop-drop 16 20 s)) ∙ list-back 8 (drop 20 s) (bytes-drop 20 s p) d₂₀ ∙ sym (lib.Seq.drop-drop 16 4 s))
+    ∙ list-back 8 (drop 4 s) (bytes-drop 4 s p) d₄)
+    ∙ signed-back 4 s p (omega arith))
 
 encode-read : (b : ℕ) (s : List ℕ) → T (ltb 0 (widthOf b)) → T (leb (widthOf b) (suc (length s))) → Bytes s → encodeCommand (readCommand b s) ++ drop (widthOf b - 1) s ≡ b ∷ s
 encode-read b s w l p = at₁ (eqb b 0x11) refl
@@ -326,7 +289,7 @@ encode-read b s w l p = at₁ (eqb b 0x11) refl
 pub bytes-back : (n : ℕ) (k : Counts) (s : List ℕ) (cs : List Command) → Parsed n k s cs → Bytes s → concatMap encodeCommand cs ≡ s
 bytes-back n k [] [] done p = refl
 bytes-back n k (_ ∷ _) (_ ∷ cs) (next b s w l z q) p =
-    ap (λ (t : List ℕ). encodeCommand (readCommand b s) ++ t) (bytes-back n (counted k (readCommand b s)) (drop (widthOf b - 1) s) cs q (drop-bytes (widthOf b - 1) s (p .1)))
+    ap (λ (t : List ℕ). encodeCommand (readCommand b s) ++ t) (bytes-back n (counted k (readCommand b s)) (drop (widthOf b - 1) s) cs q (bytes-drop (widthOf b - 1) s (p .1)))
     ∙ encode-read b s w l (p .1)
 
 -- a set has one encoding

@@ -7,8 +7,9 @@ use native.Mathlib.Nat.{le-of-suc-le-suc, not-suc-le-zero, zero-lt-suc, le-refl}
 use native.Mathlib.Omega.{arith}
 use lib.Dec.{T, leb, ltb, eqb, leb→le, le→leb, ltb→lt, lt→ltb, eqb→eq, not-T, T-not}
 use lib.IntN.{ℤ, pos, negsuc, natAbs}
-use lib.Signed.{leZ}
+use lib.Signed.{leZ, mag}
 use lib.ListN.{length, take, drop}
+use Rattle.integers.specs.LittleEndian.{value-bytes, signed-bytes}
 use Rattle.model.specs.Lists.{all, concatMap}
 use Rattle.model.specs.Sets.{Division, Kind, equality, inequality, Constraint, Set}
 use Rattle.codec.specs.Bytes.{refused, gives, bytesOf, valueOf, unsigned, signed, signedBytes, Command, opens, division, constraint, opcode, encodeCommand, commands, encode, signedList, readDivision, readConstraint, Counts, coefficient, firstFailing, refusal, counted, widthOf, readCommand, Built, build, after, parse, setOf, axesFit, decode, headRefusal}
@@ -17,43 +18,9 @@ use Rattle.model.proofs.Count.{and-left, and-right, from-T, suc-inj, no-suc}
 
 -- ---- numbers, at any width
 
-to-false : (b : Bool) → T (not b) → b ≡ false
-to-false true t = absurd t
-to-false false t = refl
-
 -- z is in the range of two's complement, with H half of 256 ^ k
 abbrev pub Fits : ℕ → ℤ → Type 0
-Fits H (pos n) = n < H
-Fits H (negsuc n) = n < H
-
--- k bytes hold a number below 256 ^ k
-pub value-bytes : (k n : ℕ) → n < 256 ^ k → valueOf (bytesOf k n) ≡ n
-value-bytes zero n h = omega arith
-value-bytes (suc k) n h =
-    let l : n < 256 ^ k * 256 = subst (λ (m : ℕ). n < m) (native.Mathlib.Nat.pow-suc 256 k) h in
-    let e = value-bytes k (n / 256) (below (256 ^ k) n l) in omega arith
-  where
-    below : (m n : ℕ) → n < m * 256 → n / 256 < m
-    below m n h = omega arith
-
-pub signed-unsigned : (k H : ℕ) → 256 ^ k ≡ 2 * H → (z : ℤ) → Fits H z → signed k (unsigned k z) ≡ z
-signed-unsigned k H e (pos n) h = ap (λ (b : Bool). cond b (pos n) (negsuc (256 ^ k - suc n))) (from-T (ltb (2 * n) (256 ^ k)) (lt→ltb (2 * n) (256 ^ k) (omega arith)))
-signed-unsigned k H e (negsuc n) h =
-    ap (λ (b : Bool). cond b (pos (256 ^ k - suc n)) (negsuc (256 ^ k - suc (256 ^ k - suc n)))) (to-false (ltb (2 * (256 ^ k - suc n)) (256 ^ k)) (not-T (ltb (2 * (256 ^ k - suc n)) (256 ^ k)) (λ t. clash (256 ^ k) n e h (ltb→lt (2 * (256 ^ k - suc n)) (256 ^ k) t))))
-    ∙ ap negsuc (back (256 ^ k) n e h)
-  where
-    clash : (W n : ℕ) → W ≡ 2 * H → n < H → 2 * (W - suc n) < W → ⊥
-    clash W n e h l = omega arith
-
-    back : (W n : ℕ) → W ≡ 2 * H → n < H → W - suc (W - suc n) ≡ n
-    back W n e h = omega arith
-
-pub signed-bytes : (k H : ℕ) → 256 ^ k ≡ 2 * H → (z : ℤ) → Fits H z → signed k (valueOf (signedBytes k z)) ≡ z
-signed-bytes k H e z h = ap (signed k) (value-bytes k (unsigned k z) (small z h)) ∙ signed-unsigned k H e z h
-  where
-    small : (z : ℤ) → Fits H z → unsigned k z < 256 ^ k
-    small (pos n) h = omega arith
-    small (negsuc n) h = omega arith
+Fits H z = mag z < H
 
 bytes-2 : (n : ℕ) → n < 65536 → valueOf (bytesOf 2 n) ≡ n
 bytes-2 = value-bytes 2

@@ -1,4 +1,5 @@
 pub mod Parsing
+mod Flags
 pub mod Split
 pub mod Encoded
 pub mod Decoded

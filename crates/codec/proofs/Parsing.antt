@@ -12,46 +12,15 @@ use lib.Signed.{leZ}
 use lib.ListN.{length, take, drop, getD, drop-of-length-le, length-drop}
 use lib.Seq.{drop-cons, drop-drop}
 use lib.Dec.{ltb→lt}
-use Rattle.integers.specs.Lin.{lin, lia-eq}
+use Rattle.integers.specs.LittleEndian.{signed-ind}
 use Rattle.model.specs.Lists.{all}
 use Rattle.model.specs.Sets.{isZero, absent, equality}
 use Rattle.codec.specs.Bytes.{Answer, refused, gives, valueOf, signed, signedList, coefficient, within, constantFits, Command, opens, division, constraint, kindOf, Counts, firstFailing, testsOf, refusal, counted, widthOf, readDivision, readConstraint, readCommand, headRefusal, after, parse, setOf, axesFit, decode, number}
-
--- ---- readers
-two : (s : List ℕ) (p : ℕ) → p + 2 ≤ length s → drop p s ≡ getD s p 0 ∷ getD s (p + 1) 0 ∷ drop (p + 2) s
-two s p h =
-    let a : p < length s = omega arith in let b : suc p < length s = omega arith in
-    let i : suc p ≡ p + 1 = omega arith in let j : suc (suc p) ≡ p + 2 = omega arith in
-    drop-cons s p 0 a ∙ ap (λ (l : List ℕ). getD s p 0 ∷ l) (drop-cons s (suc p) 0 b ∙ ap₂ (λ (i j : ℕ). getD s i 0 ∷ drop j s) i j)
-
-pub value-2 : (s : List ℕ) (p : ℕ) → p + 2 ≤ length s → valueOf (take 2 (drop p s)) ≡ getD s p 0 + getD s (p + 1) 0 * 256
-value-2 s p h = ap (λ (l : List ℕ). valueOf (take 2 l)) (two s p h) ∙ sum (getD s p 0) (getD s (p + 1) 0)
-  where
-    sum : (a b : ℕ) → a + 256 * (b + 256 * 0) ≡ a + b * 256
-    sum a b = omega arith
-
-pub value-4 : (s : List ℕ) (p : ℕ) → p + 4 ≤ length s → valueOf (take 4 (drop p s)) ≡ valueOf (take 2 (drop p s)) + valueOf (take 2 (drop (p + 2) s)) * 65536
-value-4 s p h =
-    ap (λ (l : List ℕ). valueOf (take 4 l)) (two s p (omega arith) ∙ ap (λ (l : List ℕ). getD s p 0 ∷ getD s (p + 1) 0 ∷ l) (two s (p + 2) (omega arith)))
-    ∙ sum (getD s p 0) (getD s (p + 1) 0) (getD s (p + 2) 0) (getD s (p + 2 + 1) 0)
-    ∙ ap₂ (λ (a b : ℕ). a + b * 65536) (sym (value-2 s p (omega arith))) (sym (value-2 s (p + 2) (omega arith)))
-  where
-    sum : (a b c d : ℕ) → a + 256 * (b + 256 * (c + 256 * (d + 256 * 0))) ≡ a + b * 256 + (c + d * 256) * 65536
-    sum a b c d = omega arith
 
 -- ---- lists of coefficients
 pub all-more : (f : ℤ → Bool) (left p : ℕ) (s : List ℕ) → (left ≡ 0 → ⊥) → all f (signedList left (drop p s)) ≡ (f (signed 2 (valueOf (take 2 (drop p s)))) && all f (signedList (left - 1) (drop (p + 2) s)))
 all-more f zero p s h = absurd (h refl)
 all-more f (suc m) p s h = let e : m ≡ suc m - 1 = omega arith in ap₂ (λ (j : ℕ) (l : List ℕ). f (signed 2 (valueOf (take 2 (drop p s)))) && all f (signedList j l)) e (drop-drop 2 p s)
-
-pub all-stop : (f : ℤ → Bool) (v left p : ℕ) (s : List ℕ) → (left ≡ 0 → ⊥) → v ≡ valueOf (take 2 (drop p s)) → f (signed 2 v) ≡ false → all f (signedList left (drop p s)) ≡ false
-all-stop f v left p s h e q = all-more f left p s h ∙ ap (λ (b : Bool). b && all f (signedList (left - 1) (drop (p + 2) s))) (ap (λ (w : ℕ). f (signed 2 w)) (sym e) ∙ q)
-
-pub all-go : (f : ℤ → Bool) (v left p : ℕ) (s : List ℕ) → (left ≡ 0 → ⊥) → v ≡ valueOf (take 2 (drop p s)) → f (signed 2 v) ≡ true → all f (signedList (left - 1) (drop (p + 2) s)) ≡ all f (signedList left (drop p s))
-all-go f v left p s h e q = sym (all-more f left p s h ∙ ap (λ (b : Bool). b && all f (signedList (left - 1) (drop (p + 2) s))) (ap (λ (w : ℕ). f (signed 2 w)) (sym e) ∙ q))
-
-pub all-end : (f : ℤ → Bool) (left p : ℕ) (s : List ℕ) → left ≡ 0 → all f (signedList left (drop p s)) ≡ true
-all-end f left p s e = rw e
 
 absent-at : (n m p : ℕ) (s : List ℕ) → drop n (signedList (n + m) (drop p s)) ≡ signedList m (drop (p + 2 * n) s)
 absent-at zero m p s = let a : 0 + m ≡ m = omega arith in let b : p ≡ p + 2 * 0 = omega arith in ap₂ (λ (i j : ℕ). signedList i (drop j s)) a b
@@ -68,26 +37,6 @@ by : (P : Bool → Type 0) (b : Bool) → (b ≡ true → P true) → (b ≡ fal
 by P true f g = f refl
 by P false f g = g refl
 
-pub signed-ind : (k : ℕ) (P : ℤ → Type 0) (v : ℕ) → (2 * v < 256 ^ k → P (pos v)) → (256 ^ k ≤ 2 * v → P (negsuc (256 ^ k - suc v))) → P (signed k v)
-signed-ind k P v f g = by (λ (b : Bool). P (cond b (pos v) (negsuc (256 ^ k - suc v)))) (ltb (2 * v) (256 ^ k)) (λ e. f (ltb-true _ _ e)) (λ e. g (ltb-false _ _ e))
-
--- ---- signed numbers
-pub signed-low : (k v : ℕ) → 2 * v < 256 ^ k → signed k v ≡ pos v
-signed-low k v h = signed-ind k (λ (z : ℤ). z ≡ pos v) v (λ l. refl) (λ l. absurd (clash (256 ^ k) h l))
-  where
-    clash : (W : ℕ) → 2 * v < W → W ≤ 2 * v → ⊥
-    clash W h l = omega arith
-
-pub signed-high : (k v W : ℕ) → 256 ^ k ≡ W → W ≤ 2 * v → v < W → signed k v ≡ pos v -ℤ pos W
-signed-high k v W e h u = signed-ind k (λ (z : ℤ). z ≡ pos v -ℤ pos W) v (λ l. absurd (clash (256 ^ k) e l)) (λ l. ap (λ (x : ℕ). negsuc (x - suc v)) e ∙ same)
-  where
-    clash : (x : ℕ) → x ≡ W → 2 * v < x → ⊥
-    clash x e l = omega arith
-
-    same : negsuc (W - suc v) ≡ pos v -ℤ pos W
-    same = let m = W - suc v in lia-eq (pos v ∷ pos W ∷ pos m ∷ []) [] (search lin depth 30) (omega arith)
-
--- eight coefficients, each read at its place
 pub eight : (t : List ℕ) (p : ℕ) → (f : ℕ → ℤ) → ((q : ℕ) → f q ≡ signed 2 (valueOf (take 2 (drop q t))))
     → f p ∷ f (p + 2) ∷ f (p + 4) ∷ f (p + 6) ∷ f (p + 8) ∷ f (p + 10) ∷ f (p + 12) ∷ f (p + 14) ∷ [] ≡ signedList 8 (drop p t)
 eight t p f h =

@@ -6,6 +6,7 @@ use native.Mathlib.Omega.{arith}
 use lib.Dec.{T}
 use lib.ListN.{length, take, drop, length-append, length-drop}
 use lib.Seq.{take-at}
+use Rattle.integers.specs.LittleEndian.{bytes-drop}
 use Rattle.model.specs.Lists.{concatMap}
 use Rattle.model.specs.Sets.{Division, Constraint, BasicSet, Set}
 use Rattle.model.specs.Values.{basicSetOf}
@@ -53,7 +54,7 @@ module _ (n : ℕ) (s : List ℕ) (at : ℕ) (p : Bytes s) (b : Boundary n s at)
       let c = commands-back n (b .k) cs (checked-unrefused n s at (b .k) (b .here)) in
       let e : commands (setFrom s at) ≡ cs =
       ap₂ (λ (x : List Division) (y : List Constraint). map division x ++ (map constraint y ++ commands (setFrom s at))) (sym (b .no-divisions)) (sym (b .no-constraints)) ∙ c in
-      ap (concatMap encodeCommand) e ∙ bytes-back n (b .k) l cs (accepted-parsed n (b .k) l (b .here .accepted)) (Rattle.codec.proofs.Decoded.drop-bytes at s p)
+      ap (concatMap encodeCommand) e ∙ bytes-back n (b .k) l cs (accepted-parsed n (b .k) l (b .here .accepted)) (bytes-drop at s p)
 
   module _ (h : at < length s) where
     here-valid : Valid n (basicAt s (at + 1))

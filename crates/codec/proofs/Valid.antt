@@ -8,13 +8,14 @@ use native.Mathlib.Omega.{arith}
 use lib.Dec.{T, leb, ltb, eqb, leb→le, le→leb, lt→ltb, ltb→lt, eqb→eq, nltb→le}
 use lib.IntN.{ℤ, pos, negsuc}
 use lib.ListN.{length, take, drop, getD}
+use Rattle.integers.specs.LittleEndian.{bytes-drop, signed-mag}
 use Rattle.model.specs.Lists.{all}
 use Rattle.model.specs.Sets.{Division, equality, inequality, Constraint, BasicSet, Set, absent}
 use Rattle.codec.specs.Bytes.{gives, valueOf, signed, signedList, Command, opens, division, constraint, commands, encode, readDivision, readConstraint, readCommand, widthOf, Counts, within, coefficient, constantFits, testsOf, firstFailing, refusal, counted, Built, build, axesFit, decode, number}
 use Rattle.codec.specs.Places.{commandsOf, built, setFrom, Boundary}
 use Rattle.model.proofs.Count.{and-left, and-right, and-make, from-T, to-T}
 use Rattle.codec.proofs.Encoded.{Fits, DivisionFits, ConstraintFits, Accepted, decode-encode}
-use Rattle.codec.proofs.Decoded.{Parsed, done, next, Bytes, drop-bytes, decoded, all-passed}
+use Rattle.codec.proofs.Decoded.{Parsed, done, next, Bytes, decoded, all-passed}
 use Rattle.codec.proofs.Walking.{accepted-parsed}
 
 -- ---- every element
@@ -164,13 +165,6 @@ module _ (n : ℕ) where
 
 -- ---- what was read has its places, and constants of 32 bits
 
-signed-fits : (m : ℕ) → m < 4294967296 → Fits 2147483648 (signed 4 m)
-signed-fits m h = at (ltb (2 * m) 4294967296) refl
-  where
-    at : (b : Bool) → ltb (2 * m) 4294967296 ≡ b → Fits 2147483648 (cond b (pos m) (negsuc (4294967296 - suc m)))
-    at true e = let l = ltb→lt (2 * m) 4294967296 (to-T (ltb (2 * m) 4294967296) e) in omega arith
-    at false e = let l = nltb→le (2 * m) 4294967296 (subst (λ (b : Bool). T (not b)) (sym e) tt) in omega arith
-
 value-4 : (s : List ℕ) → Bytes s → valueOf (take 4 s) < 4294967296
 value-4 [] p = omega arith
 value-4 (a ∷ []) p = let x = p .0 in omega arith
@@ -193,7 +187,7 @@ read-shape b s p = at (eqb b 0x11) (eqb b 0x12)
     at : (x y : Bool) → Read (cond x opens (cond y (division (readDivision s)) (constraint (readConstraint (cond (eqb b 0x13) equality inequality) s))))
     at true y = tt
     at false true = length-signed 8 (drop 6 s)
-    at false false = (length-signed 8 (drop 4 s), length-signed 8 (drop 20 s), signed-fits (valueOf (take 4 s)) (value-4 s p))
+    at false false = (length-signed 8 (drop 4 s), length-signed 8 (drop 20 s), signed-mag 4 2147483648 (valueOf (take 4 s)) refl (value-4 s p))
 
 -- read, and not refused where it stands
 abbrev Sound : ℕ → Counts → List Command → Type 0
@@ -202,7 +196,7 @@ Sound n k (c ∷ cs) = Read c × (refusal n k c ≡ 0) × Sound n (counted k c) 
 
 sound : (n : ℕ) (k : Counts) (s : List ℕ) (cs : List Command) → Parsed n k s cs → Bytes s → Sound n k cs
 sound n k [] [] done p = tt
-sound n k (_ ∷ _) (_ ∷ cs) (next b s w l z q) p = (read-shape b s (p .1), z, sound n (counted k (readCommand b s)) (drop (widthOf b - 1) s) cs q (drop-bytes (widthOf b - 1) s (p .1)))
+sound n k (_ ∷ _) (_ ∷ cs) (next b s w l z q) p = (read-shape b s (p .1), z, sound n (counted k (readCommand b s)) (drop (widthOf b - 1) s) cs q (bytes-drop (widthOf b - 1) s (p .1)))
 
 record Made (n : ℕ) (k : Counts) (b : Built) : Type 0 where
   divisions : All (ValidDivision n) (b .divisions)
@@ -317,7 +311,7 @@ pub boundary-valid : (n : ℕ) (s : List ℕ) (at : ℕ) → Bytes s → Boundar
 unfolding built
 boundary-valid n s at p b =
     let l : List ℕ = drop at s in
-    made n (b .k) (commandsOf (length l) l) (sound n (b .k) l (commandsOf (length l) l) (accepted-parsed n (b .k) l (b .here .accepted)) (drop-bytes at s p)) .rest
+    made n (b .k) (commandsOf (length l) l) (sound n (b .k) l (commandsOf (length l) l) (accepted-parsed n (b .k) l (b .here .accepted)) (bytes-drop at s p)) .rest
 
 -- the elements of a slice of bytes are bytes
 pub bytes-of : (s : List ℕ) → ((i : ℕ) → getD s i 0 < 256) → Bytes s

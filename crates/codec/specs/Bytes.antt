@@ -6,6 +6,7 @@ use lib.IntN.{ℤ, pos, negsuc}
 use lib.Dec.{leb, ltb, eqb}
 use lib.Signed.{leZ}
 use lib.ListN.{length, take, drop}
+pub use Rattle.integers.specs.LittleEndian.{bytesOf, valueOf, unsigned, signed, signedBytes}
 use Rattle.model.specs.Lists.{all, concatMap}
 use Rattle.model.specs.Sets.{Division, Kind, equality, inequality, Constraint, BasicSet, Set, absent}
 
@@ -13,27 +14,6 @@ use Rattle.model.specs.Sets.{Division, Kind, equality, inequality, Constraint, 
 pub data Answer {ℓ} (A : Type ℓ) : Type ℓ where
   refused : ℕ → Answer A
   gives : A → Answer A
-
--- ---- numbers, little-endian
-
-abbrev pub bytesOf : ℕ → ℕ → List ℕ
-bytesOf zero n = []
-bytesOf (suc k) n = n % 256 ∷ bytesOf k (n / 256)
-
-abbrev pub valueOf : List ℕ → ℕ
-valueOf [] = 0
-valueOf (b ∷ bs) = b + 256 * valueOf bs
-
--- two's complement at k bytes
-abbrev pub unsigned : ℕ → ℤ → ℕ
-unsigned k (pos n) = n
-unsigned k (negsuc n) = 256 ^ k - suc n
-
-abbrev pub signed : ℕ → ℕ → ℤ
-signed k n = cond (ltb (2 * n) (256 ^ k)) (pos n) (negsuc (256 ^ k - suc n))
-
-abbrev pub signedBytes : ℕ → ℤ → List ℕ
-signedBytes k z = bytesOf k (unsigned k z)
 
 -- ---- commands
 

@@ -1,18 +1,18 @@
 // The refusal of the bytes of a set (document 01, "Refused"), in one pass and without a copy.
 ghost use mathlib.Core.Path.{_≡_};
 ghost use mathlib.Core.List.{List};
-ghost use Prim.Native.Nat.{ℕ, _+_, _*_, _≤_, _<_};
+ghost use Prim.Native.Nat.{ℕ, _+_, _-_, _*_, _≤_, _<_};
 ghost use lib.ListN.{length, take, drop, getD};
 ghost use lib.IntN.{pos, negsuc};
 ghost use Rattle.model.specs.Lists.{all};
 ghost use Rattle.model.specs.Sets.{isZero};
 ghost use Rattle.codec.specs.Bytes as B;
 ghost use Rattle.codec.specs.Bytes.{signed, signedList, coefficient, within, constantFits, readDivision, readConstraint, readCommand, constraint, division, opens, refusal, headRefusal, decode, number, kindOf};
-ghost use Rattle.codec.specs.Checking.{countsOf};
+ghost use Rattle.codec.specs.Checking.{countsOf, bitsAllowed};
 use crate::readers::tail;
-use crate::readers::u16_at;
-use crate::readers::u32_at;
 use crate::readers::width;
+use integers::u16_at;
+use integers::u32_at;
 
 // How far a set has come: its basic sets, and of the last one the divisions and constraints.
 pub struct Counts {
@@ -21,40 +21,63 @@ pub struct Counts {
     pub constraints: usize,
 }
 
-// Whether `count` numbers of 16 bits from p on are all in the range of a coefficient.
-fn plain(t: &[u8], p: usize, count: usize) -> bool
-    requires { ⌜ p + 2 * count ≤ length (now t) ⌝ }
-    ensures { λ r. ⌜ r ≡ all coefficient (signedList count (drop p (now (t .entry)))) ⌝ }
+// Whether the eight numbers of 16 bits from p on are all in the range of a coefficient. All are looked at, so that the compiler compares
+// them at once.
+fn plain(t: &[u8], p: usize) -> bool
+    requires { ⌜ p + 16 ≤ length (now t) ⌝ }
+    ensures { λ r. ⌜ r ≡ all coefficient (signedList 8 (drop p (now (t .entry)))) ⌝ }
 {
-    let mut q = p;
-    let mut left = count;
-    while left != 0 {
-        let v = u16_at(t, q);
+    let mut ok = true;
+    let mut i = 0;
+    while i < 8 {
+        let v = u16_at(t, p + 2 * i);
         if v == 32768 {
-            return false;
+            ok = false;
         }
-        q += 2;
-        left -= 1;
+        i += 1;
     }
-    true
+    ok
 }
 
-// Whether they are all 0.
-fn zeros(t: &[u8], p: usize, count: usize) -> bool
-    requires { ⌜ p + 2 * count ≤ length (now t) ⌝ }
-    ensures { λ r. ⌜ r ≡ all isZero (signedList count (drop p (now (t .entry)))) ⌝ }
+fn allowed() -> [u16; 16]
+    ensures { λ r. ⌜ r ≡ bitsAllowed ⌝ }
 {
-    let mut q = p;
-    let mut left = count;
-    while left != 0 {
-        let v = u16_at(t, q);
-        if v != 0 {
-            return false;
+    [
+        65535,
+        65535,
+        65535,
+        65535,
+        65535,
+        65535,
+        65535,
+        65535,
+        0,
+        0,
+        0,
+        0,
+        0,
+        0,
+        0,
+        0,
+    ]
+}
+
+// Whether those of the eight numbers from p on that are absent, all but the first n, are 0. `bits` is what `allowed` gives.
+fn zeros(t: &[u8], p: usize, n: usize, bits: &[u16]) -> bool
+    requires { ⌜ (p + 16 ≤ length (now t)) × (n ≤ 8) × (now bits ≡ bitsAllowed) ⌝ }
+    ensures { λ r. ⌜ r ≡ all isZero (signedList (8 - n) (drop (p + 2 * n) (now (t .entry)))) ⌝ }
+{
+    let mut ok = true;
+    let mut i = 0;
+    while i < 8 {
+        let v = u16_at(t, p + 2 * i);
+        let most = bits[8 - n + i] as u64;
+        if most < v {
+            ok = false;
         }
-        q += 2;
-        left -= 1;
+        i += 1;
     }
-    true
+    ok
 }
 
 fn constant_in(v: u64) -> bool
@@ -88,8 +111,8 @@ fn opens_refusal(n: usize, k: Counts) -> u32
 }
 
 // The refusal of a division whose bytes after the first are t.
-fn division_refusal(n: usize, k: Counts, t: &[u8]) -> u32
-    requires { ⌜ (22 ≤ length (now t)) × (n ≤ 8) ⌝ }
+fn division_refusal(n: usize, k: Counts, t: &[u8], bits: &[u16]) -> u32
+    requires { ⌜ (22 ≤ length (now t)) × (n ≤ 8) × (now bits ≡ bitsAllowed) ⌝ }
     ensures { λ r. ⌜ r ≡ refusal n (countsOf k) (division (readDivision (now (t .entry)))) ⌝ }
 {
     if k.basics == 0 {
@@ -111,18 +134,18 @@ fn division_refusal(n: usize, k: Counts, t: &[u8]) -> u32
     if !constant_in(u32_at(t, 2)) {
         return 7;
     }
-    if !plain(t, 6, 8) {
+    if !plain(t, 6) {
         return 7;
     }
-    if !zeros(t, 6 + 2 * n, 8 - n) {
+    if !zeros(t, 6, n, bits) {
         return 8;
     }
     0
 }
 
 // The refusal of a constraint whose command is b and whose bytes after it are t.
-fn constraint_refusal(n: usize, k: Counts, b: u8, t: &[u8]) -> u32
-    requires { ⌜ (36 ≤ length (now t)) × (n ≤ 8) × (k .divisions ≤ 8) ⌝ }
+fn constraint_refusal(n: usize, k: Counts, b: u8, t: &[u8], bits: &[u16]) -> u32
+    requires { ⌜ (36 ≤ length (now t)) × (n ≤ 8) × (k .divisions ≤ 8) × (now bits ≡ bitsAllowed) ⌝ }
     ensures { λ r. ⌜ r ≡ refusal n (countsOf k) (constraint (readConstraint (kindOf b) (now (t .entry)))) ⌝ }
 {
     let d = k.divisions;
@@ -135,24 +158,24 @@ fn constraint_refusal(n: usize, k: Counts, b: u8, t: &[u8]) -> u32
     if !constraint_constant_in(b, u32_at(t, 0)) {
         return 7;
     }
-    if !plain(t, 4, 8) {
+    if !plain(t, 4) {
         return 7;
     }
-    if !plain(t, 20, 8) {
+    if !plain(t, 20) {
         return 7;
     }
-    if !zeros(t, 4 + 2 * n, 8 - n) {
+    if !zeros(t, 4, n, bits) {
         return 8;
     }
-    if !zeros(t, 20 + 2 * d, 8 - d) {
+    if !zeros(t, 20, d, bits) {
         return 8;
     }
     0
 }
 
 // The refusal of the command at `at`, 0 for none.
-fn head_refusal(n: usize, k: Counts, s: &[u8], at: usize) -> u32
-    requires { ⌜ (at < length (now s)) × (n ≤ 8) × (k .divisions ≤ 8) ⌝ }
+fn head_refusal(n: usize, k: Counts, s: &[u8], at: usize, bits: &[u16]) -> u32
+    requires { ⌜ (at < length (now s)) × (n ≤ 8) × (k .divisions ≤ 8) × (now bits ≡ bitsAllowed) ⌝ }
     ensures { λ r. ⌜ r ≡ headRefusal n (countsOf k) (getD (now (s .entry)) at 0) (drop (at + 1) (now (s .entry))) ⌝ }
 {
     let b = s[at];
@@ -168,9 +191,9 @@ fn head_refusal(n: usize, k: Counts, s: &[u8], at: usize) -> u32
         return opens_refusal(n, k);
     }
     if b == 18 {
-        return division_refusal(n, k, t);
+        return division_refusal(n, k, t, bits);
     }
-    constraint_refusal(n, k, b, t)
+    constraint_refusal(n, k, b, t, bits)
 }
 
 // The counts after the command b.
@@ -199,6 +222,29 @@ fn counted(k: Counts, b: u8) -> Counts
     }
 }
 
+// The refusal of the bytes of a set over n axes, command by command.
+fn scan(n: usize, s: &[u8], bits: &[u16]) -> u32
+    requires { ⌜ (0 < n) × (n ≤ 8) × (now bits ≡ bitsAllowed) ⌝ }
+    ensures { λ r. ⌜ r ≡ number (decode n (now (s .entry))) ⌝ }
+{
+    let mut at = 0;
+    let mut k = Counts {
+        basics: 0,
+        divisions: 0,
+        constraints: 0,
+    };
+    while at < s.len() {
+        let r = head_refusal(n, k, s, at, bits);
+        if r != 0 {
+            return r;
+        }
+        let b = s[at];
+        k = counted(k, b);
+        at += width(b);
+    }
+    0
+}
+
 // 0, or the number that refuses the bytes of a set.
 pub fn check(n: usize, s: &[u8]) -> u32
     ensures { λ r. ⌜ r ≡ number (decode n (now (s .entry))) ⌝ }
@@ -209,20 +255,6 @@ pub fn check(n: usize, s: &[u8]) -> u32
     if 8 < n {
         return 1;
     }
-    let mut at = 0;
-    let mut k = Counts {
-        basics: 0,
-        divisions: 0,
-        constraints: 0,
-    };
-    while at < s.len() {
-        let r = head_refusal(n, k, s, at);
-        if r != 0 {
-            return r;
-        }
-        let b = s[at];
-        k = counted(k, b);
-        at += width(b);
-    }
-    0
+    let bits = allowed();
+    scan(n, s, &bits)
 }

@@ -5,65 +5,30 @@ ghost use Prim.Native.Nat.{ℕ, _+_, _≤_, _<_};
 ghost use lib.Dec.{eqb};
 ghost use lib.ListN.{length, take, drop};
 ghost use Rattle.model.specs.Values.{divisionOf, constraintOf};
-ghost use Rattle.codec.specs.Bytes.{valueOf, signed, signedList, readDivision, readConstraint, kindOf};
+ghost use Rattle.codec.specs.Bytes.{signedList, readDivision, readConstraint, kindOf};
 ghost use Rattle.codec.specs.Places.{Opened, Decoded};
 use crate::readers::code;
 use crate::readers::tail;
-use crate::readers::u16_at;
-use crate::readers::u32_at;
+use integers::i16_at;
+use integers::i32_at;
+use integers::u16_at;
 use model::BasicSet;
 use model::Constraint;
 use model::Division;
-
-fn short(v: u64) -> i16
-    requires { ⌜ v < 65536 ⌝ }
-    ensures { λ r. ⌜ r ≡ signed 2 v ⌝ }
-{
-    if v < 32768 {
-        return v as i16;
-    }
-    let w = v as i64 - 65536;
-    w as i16
-}
-
-fn word(v: u64) -> i32
-    requires { ⌜ v < 4294967296 ⌝ }
-    ensures { λ r. ⌜ r ≡ signed 4 v ⌝ }
-{
-    if v < 2147483648 {
-        return v as i32;
-    }
-    let w = v as i64 - 4294967296;
-    w as i32
-}
-
-pub fn short_at(t: &[u8], p: usize) -> i16
-    requires { ⌜ p + 2 ≤ length (now t) ⌝ }
-    ensures { λ r. ⌜ r ≡ signed 2 (valueOf (take 2 (drop p (now (t .entry))))) ⌝ }
-{
-    short(u16_at(t, p))
-}
-
-pub fn word_at(t: &[u8], p: usize) -> i32
-    requires { ⌜ p + 4 ≤ length (now t) ⌝ }
-    ensures { λ r. ⌜ r ≡ signed 4 (valueOf (take 4 (drop p (now (t .entry))))) ⌝ }
-{
-    word(u32_at(t, p))
-}
 
 fn coefficients(t: &[u8], p: usize) -> [i16; 8]
     requires { ⌜ p + 16 ≤ length (now t) ⌝ }
     ensures { λ r. ⌜ r ≡ signedList 8 (drop p (now (t .entry))) ⌝ }
 {
     [
-        short_at(t, p),
-        short_at(t, p + 2),
-        short_at(t, p + 4),
-        short_at(t, p + 6),
-        short_at(t, p + 8),
-        short_at(t, p + 10),
-        short_at(t, p + 12),
-        short_at(t, p + 14),
+        i16_at(t, p),
+        i16_at(t, p + 2),
+        i16_at(t, p + 4),
+        i16_at(t, p + 6),
+        i16_at(t, p + 8),
+        i16_at(t, p + 10),
+        i16_at(t, p + 12),
+        i16_at(t, p + 14),
     ]
 }
 
@@ -73,7 +38,7 @@ fn read_division(t: &[u8]) -> Division
     ensures { λ r. ⌜ divisionOf r ≡ readDivision (now (t .entry)) ⌝ }
 {
     let d = u16_at(t, 0) as u32;
-    let c = word_at(t, 2);
+    let c = i32_at(t, 2);
     let a = coefficients(t, 6);
     Division {
         divisor: d,
@@ -87,7 +52,7 @@ fn read_constraint(b: u8, t: &[u8]) -> Constraint
     requires { ⌜ 36 ≤ length (now t) ⌝ }
     ensures { λ r. ⌜ constraintOf r ≡ readConstraint (kindOf b) (now (t .entry)) ⌝ }
 {
-    let c = word_at(t, 0);
+    let c = i32_at(t, 0);
     let a = coefficients(t, 4);
     let e = coefficients(t, 20);
     Constraint {

@@ -4,3 +4,4 @@ pub mod Answering
 pub mod Onward
 pub mod Along
 pub mod Meeting
+pub mod Meanings

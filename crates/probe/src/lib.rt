@@ -197,3 +197,36 @@ pub extern "C" fn probe_coordinate(
     }
     0
 }
+
+// The result's length; of refusal k the number 2^64 − 1 − k, which no length is.
+fn outcome(o: operations::Outcome) -> usize {
+    match o {
+        operations::Outcome::Length(l) => l,
+        operations::Outcome::Refused(k) => 18446744073709551615 - k as usize,
+    }
+}
+
+#[no_mangle]
+pub extern "C" fn probe_union(n: usize, first: &[u8], second: &[u8], out: &mut [u8]) -> usize {
+    outcome(operations::union(n, first, second, out))
+}
+
+#[no_mangle]
+pub extern "C" fn probe_intersection(
+    n: usize,
+    first: &[u8],
+    second: &[u8],
+    out: &mut [u8],
+) -> usize {
+    outcome(operations::intersection(n, first, second, out))
+}
+
+#[no_mangle]
+pub extern "C" fn probe_difference(n: usize, first: &[u8], second: &[u8], out: &mut [u8]) -> usize {
+    outcome(operations::difference(n, first, second, out))
+}
+
+#[no_mangle]
+pub extern "C" fn probe_complement(n: usize, set: &[u8], out: &mut [u8]) -> usize {
+    outcome(operations::complement(n, set, out))
+}

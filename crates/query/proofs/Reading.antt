@@ -20,7 +20,7 @@ use Rattle.integers.specs.Mach.{toZ-ofZ, toZ-nat}
 use Rattle.integers.specs.Lin.{lin, lia-eq}
 use Rattle.model.specs.Sets.{dot, floorDiv}
 use Rattle.codec.specs.Bytes.{valueOf, signed, signedList}
-use Rattle.codec.proofs.Parsing.{signed-ind}
+use Rattle.integers.specs.LittleEndian.{signed-ind}
 use native.Mathlib.Nat.{mul-le-mul, le-refl, div-le-self, le-trans}
 use lib.Dec.{T, ltb, leb, eqb, ltb→lt, eqb→eq}
 use lib.ListN.{length-take, List·getD-eq-default}

@@ -86,7 +86,7 @@ fn end_at(t: &[u8], u: &[i64], v: &[i64]) -> i64
 {
     let c = s32_at(t, 2);
     let e = extreme(t, 6, u, v, c);
-    let d = codec::u16_at(t, 0);
+    let d = integers::u16_at(t, 0);
     integers::floor_div(e, d as i64)
 }
 

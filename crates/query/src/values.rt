@@ -48,7 +48,7 @@ pub fn quotient_at(t: &[u8], x: &[i64]) -> i64
     ensures size { λ r. ⌜ Within 549755813888 r ⌝ }
 {
     let c = s32_at(t, 2) + dot_at(t, 6, x);
-    let d = codec::u16_at(t, 0);
+    let d = integers::u16_at(t, 0);
     integers::floor_div(c, d as i64)
 }
 

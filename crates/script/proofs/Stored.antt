@@ -6,10 +6,11 @@ use Prim.Native.Nat.{ℕ, zero, suc}
 use lib.Dec.{T, leb, ltb, eqb, eqb→eq, eqb·suc-zero}
 use lib.IntN.{pos}
 use lib.ListN.{length, take, drop, getD, set, replicate}
+use Rattle.integers.specs.LittleEndian.{bytes-drop}
 use Rattle.model.specs.Lists.{all}
 use Rattle.model.specs.Sets.{Set}
 use Rattle.codec.specs.Bytes.{Answer, refused, gives, valueOf, firstFailing, axesFit, decode}
-use Rattle.codec.proofs.Decoded.{Bytes, drop-bytes, no-way}
+use Rattle.codec.proofs.Decoded.{Bytes, no-way}
 use Rattle.model.proofs.Count.{from-T, to-T, no-suc}
 use Rattle.algebra.specs.Operations.{unionBytes, intersectionBytes, differenceBytes, complementBytes}
 use Rattle.algebra.proofs.Again.{union-within, intersection-within, difference-within, complement-within}
@@ -86,7 +87,7 @@ module _ (st : State) (fit : T (axesFit (st .axes))) (good : (m : ℕ) → Decod
       let second : List ℕ = setAt st (getD s 2 0) in
       let p1 : Bytes first = good (getD s 1 0) .bytes in
       let p2 : Bytes second = good (getD s 2 0) .bytes in
-      pick (eqb b 0x40) (stored-sound m (loadBytes n (drop 3 s)) (λ l e. load-decodes (drop 3 s) l (drop-bytes 3 s p) e))
+      pick (eqb b 0x40) (stored-sound m (loadBytes n (drop 3 s)) (λ l e. load-decodes (drop 3 s) l (bytes-drop 3 s p) e))
       (pick (eqb b 0x41) (stored-sound m (unionBytes n room first second) (λ l e. let w = union-within n room first second l p1 p2 e in record { bytes = w .1 .bytes; s = w .0; decoded = w .1 .decoded }))
       (pick (eqb b 0x42) (stored-sound m (intersectionBytes n room first second) (λ l e. let w = intersection-within n room first second l p1 p2 e in record { bytes = w .1 .bytes; s = w .0; decoded = w .1 .decoded }))
       (pick (eqb b 0x43) (stored-sound m (differenceBytes n room first second) (λ l e. let w = difference-within n room first second l p1 p2 e in record { bytes = w .1 .bytes; s = w .0; decoded = w .1 .decoded }))

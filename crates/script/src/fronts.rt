@@ -69,7 +69,7 @@ fn load_length(b: u8, s: &[u8]) -> usize
     ensures small { λ r. ⌜ r < 65536 ⌝ }
 {
     if b == 0x40 {
-        return codec::u16_at(s, 2) as usize;
+        return integers::u16_at(s, 2) as usize;
     }
     0
 }

@@ -39,8 +39,8 @@ pub fn division_line(out: &mut [u8], n: usize, t: &[u8]) -> usize
     ensures { λ r. ⌜ Writes 512 (T.divisionLine n (readDivision (now (t .entry)))) (now (out .entry)) 0 r (now (out .exit)) ⌝ }
 {
     let at = word(out, 0, b"div");
-    let at = natural(out, at, codec::u16_at(t, 0));
-    let at = number(out, at, codec::u32_at(t, 2), 4294967296);
+    let at = natural(out, at, integers::u16_at(t, 0));
+    let at = number(out, at, integers::u32_at(t, 2), 4294967296);
     let at = coefficients(out, at, t, 6, n);
     word(out, at, b"\n")
 }
@@ -61,7 +61,7 @@ pub fn constraint_line(out: &mut [u8], n: usize, k: usize, b: u8, t: &[u8]) -> u
     ensures { λ r. ⌜ Writes 512 (T.constraintLine n k (readConstraint (kindOf b) (now (t .entry)))) (now (out .entry)) 0 r (now (out .exit)) ⌝ }
 {
     let at = kind_word(out, b);
-    let at = number(out, at, codec::u32_at(t, 0), 4294967296);
+    let at = number(out, at, integers::u32_at(t, 0), 4294967296);
     let at = coefficients(out, at, t, 4, n);
     let at = coefficients(out, at, t, 20, k);
     word(out, at, b"\n")

@@ -64,7 +64,7 @@ pub fn coefficients(out: &mut [u8], at: usize, t: &[u8], p: usize, count: usize)
     let mut k = at;
     let mut i = 0;
     while i < count {
-        k = number(out, k, codec::u16_at(t, p + 2 * i), 65536);
+        k = number(out, k, integers::u16_at(t, p + 2 * i), 65536);
         i += 1;
     }
     k

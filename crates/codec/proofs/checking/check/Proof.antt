@@ -1,79 +1,28 @@
-use Rattle.codec.proofs.Parsing.{accepted, left-same}
-use Rattle.codec.proofs.Parsing.{axes-zero, axes-over, axes-in}
+use mathlib.Core.Path.{sym}
+use Rattle.codec.proofs.Parsing.{axes-zero, axes-over, decode-bad}
 use borrow.Author.Needs.{needs}
-use borrow.Author.Tests.{ne-eqb, eq-eqb, lt-ltb, le-ltb, le-leb, lt-leb}
-use native.Mathlib.Omega.{arith}
-use mathlib.Core.Path.{_≡_, refl, sym, ap, ap₂, _∙_}
-use mathlib.Core.Bool.{Bool, true, false, _&&_}
-use mathlib.Core.List.{List}
-use Prim.Native.Nat.{ℕ, _+_, _-_, _*_, _≤_, _<_}
-use lib.ListN.{length, take, drop, getD}
-use Rattle.model.specs.Lists.{all}
-use Rattle.model.specs.Sets.{isZero}
-use Rattle.codec.specs.Bytes as B
-use Rattle.codec.specs.Checking.{countsOf}
-use Rattle.codec.specs.Bytes.{kindOf}
-use Rattle.codec.proofs.Parsing.{Left, left-start, left-end, left-stop, left-next, decode-bad, decode-good}
 use Rattle.codec.proofs.checking.check.Statement.{statement}
 use Rattle.codec.proofs.checking.check.Tie as tie
 
-abbrev Inv-loop : tie.InvT-loop
-Inv-loop n s at₀ k₀ at k = Left n s at (countsOf k)
-
-abbrev μ-loop : tie.MeasureT-loop
-μ-loop n s at₀ k₀ at k = length s - at
-
-returns : tie.Need-returns Inv-loop μ-loop
+returns : tie.Need-returns
 returns c = let st = c .before .before in sym (decode-bad _ (st .args .s .now) (axes-zero _ (c .if1 .taken)))
 
-returns-2 : tie.Need-returns-2 Inv-loop μ-loop
+returns-2 : tie.Need-returns-2
 returns-2 c = let st = c .before .before .before in sym (decode-bad _ (st .args .s .now) (axes-over _ (c .if2 .taken)))
 
-loop-holds : tie.Need-loop-holds Inv-loop μ-loop
-loop-holds c = let st = c .before .before .before in left-start (st .args .n) (st .args .s .now)
+allowed-requires : tie.Need-allowed-requires
+allowed-requires c κs = search needs
 
-head-refusal-requires : tie.Need-head-refusal-requires Inv-loop μ-loop
-head-refusal-requires c κs = let v = c .before .loop .inv in (c .loop-test .taken, c .before .before .if2 .left, v .few)
+slice-aggregate-scan : tie.Need-slice-aggregate-scan
+slice-aggregate-scan c = search needs
 
-returns-3 : tie.Need-returns-3 Inv-loop μ-loop
-returns-3 c = let m = c .before .before .before in let st = m .before .before .before .before in let s = st .args .s .now in let n = st .args .n in let at = m .loop .at in let k = countsOf (m .loop .k) in let v = m .loop .inv in sym (decode-good n s (axes-in n (m .before .before .if1 .left) (m .before .if2 .left)) ∙ left-stop n s at k _ v (c .before .before .loop-test .taken) (sym (c .before .head-refusal .ensures)) (c .if3 .taken))
+scan-requires : tie.Need-scan-requires
+scan-requires c κs = search needs
 
-shared-slice-read-b : tie.Need-shared-slice-read-b Inv-loop μ-loop
-shared-slice-read-b c = search needs
-
-counted-requires : tie.Need-counted-requires Inv-loop μ-loop
-counted-requires c κs = let m = c .before .before .before .before in let v = m .loop .inv in omega arith
-
-width-requires : tie.Need-width-requires Inv-loop μ-loop
-width-requires c κs = search needs
-
-add-at : tie.Need-add-at Inv-loop μ-loop
-add-at c = let i3 = c .before .before .before in let r = i3 .before in let lp = r .before in let m = lp .before in let st = m .before .before .before .before in let s = st .args .s .now in let n = st .args .n in let at = m .loop .at in let k = countsOf (m .loop .k) in let b = getD s at 0 in let t = drop (at + 1) s in let e : B.headRefusal n k b t ≡ 0 = sym (r .head-refusal .ensures) ∙ i3 .if3 .left in let h = lp .loop-test .taken in let w = left-next n s at k (m .loop .inv) h e .inside in omega arith
-
-loop-less : tie.Need-loop-less Inv-loop μ-loop
-loop-less c = let i3 = c .before .before .before in let r = i3 .before in let lp = r .before in let m = lp .before in let st = m .before .before .before .before in let s = st .args .s .now in let n = st .args .n in let at = m .loop .at in let k = countsOf (m .loop .k) in let b = getD s at 0 in let t = drop (at + 1) s in let e : B.headRefusal n k b t ≡ 0 = sym (r .head-refusal .ensures) ∙ i3 .if3 .left in let h = lp .loop-test .taken in let w = accepted n k b t e .wide in omega arith
-
-loop-again : tie.Need-loop-again Inv-loop μ-loop
-loop-again c = let i3 = c .before .before .before in let r = i3 .before in let lp = r .before in let m = lp .before in let st = m .before .before .before .before in let s = st .args .s .now in let n = st .args .n in let at = m .loop .at in let k = countsOf (m .loop .k) in let b = getD s at 0 in let t = drop (at + 1) s in let e : B.headRefusal n k b t ≡ 0 = sym (r .head-refusal .ensures) ∙ i3 .if3 .left in let h = lp .loop-test .taken in left-same n s at _ _ _ _ (c .width .ensures) (c .before .counted .ensures t) (left-next n s at k (m .loop .inv) h e)
-
-returns-4 : tie.Need-returns-4 Inv-loop μ-loop
-returns-4 c = let m = c .before in let st = m .before .before .before .before in let s = st .args .s .now in let n = st .args .n in let at = m .loop .at in let k = countsOf (m .loop .k) in let v = m .loop .inv in sym (decode-good n s (axes-in n (m .before .before .if1 .left) (m .before .if2 .left)) ∙ left-end n s at k v (c .loop-test .left))
+returns-3 : tie.Need-returns-3
+returns-3 c = search needs
 
 pub check-spec : {M : Type 1} → statement M
 check-spec =
     tie.close
-    (tie.spec
-    Inv-loop
-    μ-loop
-    returns
-    returns-2
-    loop-holds
-    head-refusal-requires
-    returns-3
-    shared-slice-read-b
-    counted-requires
-    width-requires
-    add-at
-    loop-less
-    loop-again
-    returns-4)
+    (tie.spec returns returns-2 allowed-requires slice-aggregate-scan scan-requires returns-3)

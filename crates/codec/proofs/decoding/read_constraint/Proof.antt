@@ -24,8 +24,8 @@ kind-is b = by (eqb b 19)
     by true = refl
     by false = refl
 
-word-at-requires : tie.Need-word-at-requires
-word-at-requires c κs = search needs
+i32-at-requires : tie.Need-i32-at-requires
+i32-at-requires c κs = search needs
 
 coefficients-requires : tie.Need-coefficients-requires
 coefficients-requires c κs = search needs
@@ -34,8 +34,8 @@ coefficients-requires-2 : tie.Need-coefficients-requires-2
 coefficients-requires-2 c κs = search needs
 
 returns : tie.Need-returns
-returns c = let a = c .before in let s = a .before in let e = result-is w32 (s .word-at .result) (s .word-at .ok) ∙ s .word-at .ensures in λ i. record { kind = kind-is (s .before .before .args .b) i; constant = e i; axes = (a .coefficients .ensures) i; divisions = (c .coefficients2 .ensures) i }
+returns c = let a = c .before in let s = a .before in let e = result-is w32 (s .i32-at .result) (s .i32-at .ok) ∙ s .i32-at .ensures in λ i. record { kind = kind-is (s .before .before .args .b) i; constant = e i; axes = (a .coefficients .ensures) i; divisions = (c .coefficients2 .ensures) i }
 
 pub read-constraint-spec : {M : Type 1} → statement M
 read-constraint-spec =
-    tie.close (tie.spec word-at-requires coefficients-requires coefficients-requires-2 returns)
+    tie.close (tie.spec i32-at-requires coefficients-requires coefficients-requires-2 returns)

@@ -33,7 +33,7 @@ add-n c =
 returns : tie.Need-returns
 returns c =
     let st = c .before .before .before .before .before .before in
-    union-over (st .args .a .now) (st .args .b .now) (st .pre) (c .before .before .count .result) (c .before .count2 .result) (c .before .before .count .ensures) (c .before .count2 .ensures) (st .args .out .now) (st .args .out .now) 0 _ (c .if1 .taken)
+    union-over (st .args .a .now) (st .args .b .now) (st .pre) (c .before .before .count .result) (c .before .count2 .result) (c .before .before .count .ensures) (c .before .count2 .ensures) (st .args .out .now) (st .args .out .now) 0 _ (omega (arith, c .if1 .taken))
 
 -- src/calls.rt:27:9
 copy-bytes-requires : tie.Need-copy-bytes-requires

@@ -13,7 +13,7 @@ use Rattle.script.proofs.text.coefficients.Statement.{statement}
 use Rattle.script.proofs.text.coefficients.Tie as tie
 use Rattle.script.proofs.text.coefficients.Reads as reads
 use Rattle.script.proofs.text.coefficients.Lts as lts
-use Rattle.codec.proofs.u16_at.Reads as u16-at-reads
+use Rattle.integers.proofs.u16_at.Reads as u16-at-reads
 use Rattle.script.proofs.text.number.Reads as number-reads
 
 abbrev Inv-loop : tie.InvT-loop
