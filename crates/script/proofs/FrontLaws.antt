@@ -1,5 +1,5 @@
 -- The command at the front, by the tests that the code makes.
-use mathlib.Core.Path.{_≡_, refl, ap, ap₂, sym, _∙_}
+use mathlib.Core.Path.{_≡_, refl, ap, ap₂, _∙_}
 use mathlib.Core.Bool.{Bool, true, false, not, _&&_, cond}
 use mathlib.Core.List.{List, [], _∷_}
 use Prim.Native.Nat.{ℕ, zero, suc, _+_, _≤_, _<_}
@@ -8,10 +8,9 @@ use borrow.Author.Tests.{lt-ltb, le-ltb, le-leb, lt-leb}
 use lib.Dec.{ltb, leb, eqb}
 use lib.ListN.{length, getD}
 use Rattle.codec.specs.Bytes.{firstFailing}
-use Rattle.script.specs.Script.{fixedWidth, loadLength, commandWidth, inPlace, ending}
-use Rattle.script.specs.Turns.{cutOff, frontOf}
-use Rattle.script.specs.declared.fronts.Front.{Front}
-use Rattle.script.specs.declared.fronts.Front.the-variants.{Whole, More, Stop}
+use Rattle.session.specs.Script.{fixedWidth, loadLength, commandWidth, inPlace, ending}
+use Rattle.session.specs.Turns.{cutOff, frontOf}
+use Rattle.session.specs.declared.Front.the-variants.{Whole, More, Stop}
 
 pub front-none : (axes : ℕ) (e : Bool) (s : List ℕ) → length s ≡ 0 → frontOf axes e s ≡ cutOff e
 unfolding frontOf ending
@@ -52,7 +51,3 @@ width-of (b ∷ s) w l n x y = ap₂ (λ (i j : ℕ). i + j) x y
 -- a load has its first four bytes where its fixed part is there
 pub load-there : (b w n : ℕ) → w ≡ fixedWidth b → w ≤ n → b ≡ 0x40 → 4 ≤ n
 load-there b w n x h e = let f : fixedWidth b ≡ 4 = ap fixedWidth e in omega arith
-
-pub width-least : (s : List ℕ) (w : ℕ) → ¬ (length s ≡ 0) → w ≡ fixedWidth (getD s 0 0) → w ≤ commandWidth s
-width-least [] w n x = absurd (n refl)
-width-least (b ∷ s) w n x = let f : w ≤ fixedWidth b + cond (eqb b 0x40) (loadLength (b ∷ s)) 0 = omega arith in f

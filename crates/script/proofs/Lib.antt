@@ -1,9 +1,2 @@
-pub mod Writing
-pub mod LineTexts
-pub mod Steps
 pub mod FrontLaws
-pub mod CommandLaws
 pub mod TurnLaws
-pub mod Listings
-pub mod Sessions
-pub mod Stored

@@ -2,48 +2,30 @@
 use mathlib.Core.Path.{_≡_, refl, ap, ap₂, sym, subst, _∙_}
 use mathlib.Core.Bool.{Bool, true, false, not, _&&_, _||_, cond}
 use mathlib.Core.List.{List, [], _∷_, _++_}
-use Prim.Native.Nat.{ℕ, zero, suc, _+_, _-_, _*_, _≤_, _<_}
+use Prim.Native.Nat.{ℕ, zero, suc, _+_, _-_, _≤_, _<_}
 use native.Mathlib.Numerals.{add-one}
 use native.Mathlib.Omega.{arith}
-use borrow.Author.Tests.{ltb-true, lt-ltb, le-ltb, le-leb, lt-leb, eqb-true, eqb-false, leb-true, eq-eqb, ne-eqb}
+use borrow.Author.Tests.{ltb-true, le-leb, eqb-true, leb-true}
 use lib.Dec.{ltb, leb, eqb}
-use lib.IntN.{pos}
-use lib.ListN.{length, getD, take, drop, length-drop, drop-of-length-le, take-append-drop}
+use lib.ListN.{length, getD, take, drop, take-append-drop}
 use lib.Seq.{drop-cons, length-take-le}
 use Rattle.model.specs.Lists.{all}
-use Rattle.codec.specs.Bytes.{widthOf, readDivision, readConstraint, kindOf, valueOf, firstFailing}
-use Rattle.script.specs.Text as T
-use Rattle.script.specs.Script.{Done, room, fixedWidth, loadLength, commandWidth, inPlace, ending, refusedLine, execute}
-use Rattle.script.specs.Written.{Wrote, Writes}
-use Rattle.script.specs.Turns.{Memory, memory, stateOf, Effect, effectOf, shown, listingOf, memoryOf, goesOn, Turned, quiet, stateAt, lineOf, past, there, lineTurn, commandTurn, frontTurn, frontOf, cutOff, turnIn, turnOf, cursorIn, cursorFits, usable, CommandIs, Holds, Says, TurnIs, Single, Fitted, CursorIn, Usable, silentTurn, afterTurn}
-use Rattle.script.specs.declared.commands.CommandDone.{CommandDone}
-use Rattle.script.specs.declared.fronts.Front.{Front}
-use Rattle.script.specs.declared.fronts.Front.the-variants.{Whole, More, Stop}
-use Rattle.script.specs.declared.turns.Cursor.{Cursor}
-use Rattle.script.specs.declared.turns.Listing.{Listing}
-use Rattle.script.specs.declared.turns.Listing.the-variants.{Nothing, From}
-use Rattle.script.specs.declared.turns.State.{State}
+use Rattle.codec.specs.Bytes.{widthOf, firstFailing}
+use Rattle.session.specs.Script.{room, fixedWidth, loadLength, commandWidth, inPlace, ending, refusedLine, execute}
+use Rattle.listing.specs.Written.{Wrote, Writes}
+use Rattle.session.specs.Turns.{Memory, memory, stateOf, effectOf, shown, memoryOf, goesOn, Turned, quiet, stateAt, lineOf, past, there, lineTurn, commandTurn, frontTurn, frontOf, cursorIn, cursorFits, usable}
+use Rattle.commands.specs.Contracts.{CommandIs, Holds, Single, Usable}
+use Rattle.script.specs.Contracts.{Says, TurnIs, CursorIn, silentTurn, afterTurn}
+use Rattle.commands.specs.declared.commands.CommandDone.{CommandDone}
+use Rattle.session.specs.declared.Front.the-variants.{Whole, More, Stop}
+use Rattle.session.specs.declared.Cursor.{Cursor}
+use Rattle.session.specs.declared.Listing.the-variants.{Nothing, From}
+use Rattle.session.specs.declared.State.{State}
 use Rattle.script.specs.declared.turns.Turn.{Turn}
-use Rattle.script.specs.declared.turns.Next.{Next}
-use Rattle.script.specs.declared.turns.Next.the-variants.{Goes, Reads, Ends, Misused}
-use Rattle.script.proofs.Writing.{writes-same, wrote-none}
-use Rattle.script.proofs.LineTexts.{one-number}
-
-no : {X : Type 0} → false ≡ true → X
-no e = let z : _≡_ {A = ℕ} 0 1 = ap (λ (b : Bool). cond b 1 0) e in absurd (omega arith)
-
--- ---- the lines of a listing
-
-module _ (n : ℕ) (c : Cursor) (b : ℕ) (t : List ℕ) where
-  pub line-basic : b ≡ 0x11 → T.codes "basic" ++ (T.number (pos (c .basics + 1)) ++ (10 ∷ [])) ≡ lineOf n c b t
-  line-basic e = one-number (T.codes "basic") (c .basics + 1) ∙ sym (ap (λ (x : ℕ). lineOf n c x t) e)
-
-  pub line-division : b ≡ 0x12 → T.divisionLine n (readDivision t) ≡ lineOf n c b t
-  line-division e = sym (ap (λ (x : ℕ). lineOf n c x t) e)
-
-  pub line-constraint : ¬ (b ≡ 0x11) → ¬ (b ≡ 0x12) → T.constraintLine n (c .divisions) (readConstraint (kindOf b) t) ≡ lineOf n c b t
-  line-constraint p q =
-      sym (ap₂ (λ (x y : Bool). cond x (T.line "basic" (pos (c .basics + 1) ∷ [])) (cond y (T.divisionLine n (readDivision t)) (T.constraintLine n (c .divisions) (readConstraint (kindOf b) t)))) (ne-eqb b 0x11 p) (ne-eqb b 0x12 q))
+use Rattle.session.specs.declared.Next.{Next}
+use Rattle.session.specs.declared.Next.the-variants.{Goes, Ends}
+use Rattle.session.proofs.Turning.{and-left, and-right, all-fit}
+use Rattle.listing.proofs.Writing.{wrote-none}
 
 pub past-is : (c : Cursor) (b p k d : ℕ) → p ≡ c .place + widthOf b → k ≡ cond (eqb b 0x11) (c .basics + 1) (c .basics) → d ≡ cond (eqb b 0x11) 0 (cond (eqb b 0x12) (c .divisions + 1) (c .divisions))
     → record { set = c .set; place = p; basics = k; divisions = d } ≡ past c b
@@ -70,48 +52,6 @@ says-quiet st y x {r} out e =
 
 pub says-same : {e e′ : Turned} {r : Turn} {out out′ : List ℕ} → e ≡ e′ → Says e r out out′ → Says e′ r out out′
 says-same {r = r} {out} {out′} q s = subst (λ (x : Turned). Says x r out out′) q s
-
-module _ (n : ℕ) (y : Memory) (c : Cursor) (s : List ℕ) (p : ℕ) where
-  pub over-end : length s ≤ p → lineTurn n y c (drop p s) ≡ quiet (stateAt n Nothing) y Goes
-  over-end h = ap (lineTurn n y c) (drop-of-length-le s h)
-
-  module _ (h : p < length s) (w : ℕ) (e : w ≡ widthOf (getD s p 0)) where
-    split : drop p s ≡ getD s p 0 ∷ drop (p + 1) s
-    split = rw (add-one, drop-cons s p 0 h)
-
-    left : suc (length (drop (p + 1) s)) ≡ length s - p
-    left = omega (arith, length-drop (p + 1) s)
-
-    abbrev shows : Bool → Turned
-    shows x = cond x (record { text = lineOf n c (getD s p 0) (drop (p + 1) s); used = 0; state = stateAt n (From (past c (getD s p 0))); next = Goes; memory = y }) (quiet (stateAt n Nothing) y Goes)
-
-    by-tests : (x z : Bool) → ltb 0 (widthOf (getD s p 0)) ≡ x → leb (widthOf (getD s p 0)) (suc (length (drop (p + 1) s))) ≡ z → lineTurn n y c (drop p s) ≡ shows (x && z)
-    by-tests x z q r = ap (lineTurn n y c) split ∙ ap₂ (λ (x z : Bool). shows (x && z)) q r
-
-    pub over-unknown : w ≡ 0 → lineTurn n y c (drop p s) ≡ quiet (stateAt n Nothing) y Goes
-    over-unknown z = by-tests false (leb (widthOf (getD s p 0)) (suc (length (drop (p + 1) s)))) (le-ltb 0 (widthOf (getD s p 0)) (omega arith)) refl
-
-    pub over-cut : ¬ (w ≡ 0) → length s - p < w → lineTurn n y c (drop p s) ≡ quiet (stateAt n Nothing) y Goes
-    over-cut z k = let l = left in by-tests true false (lt-ltb 0 (widthOf (getD s p 0)) (omega arith)) (lt-leb (widthOf (getD s p 0)) (suc (length (drop (p + 1) s))) (omega arith))
-
-    pub line-there : ¬ (w ≡ 0) → w ≤ length s - p
-        → lineTurn n y c (drop p s) ≡ record { text = lineOf n c (getD s p 0) (drop (p + 1) s); used = 0; state = stateAt n (From (past c (getD s p 0))); next = Goes; memory = y }
-    line-there z k = let l = left in by-tests true true (lt-ltb 0 (widthOf (getD s p 0)) (omega arith)) (le-leb (widthOf (getD s p 0)) (suc (length (drop (p + 1) s))) (omega arith))
-
--- ---- what is lent
-
-and-left : (x y : Bool) → (x && y) ≡ true → x ≡ true
-and-left true y e = refl
-and-left false y e = no e
-
-and-right : (x y : Bool) → (x && y) ≡ true → y ≡ true
-and-right true y e = e
-and-right false y e = no e
-
-pub all-fit : (l : List ℕ) → all (λ (x : ℕ). leb x room) l ≡ true → (m : ℕ) → getD l m 0 ≤ room
-all-fit [] e m = omega arith
-all-fit (x ∷ l) e zero = leb-true x room (and-left (leb x room) (all (λ (x : ℕ). leb x room) l) e)
-all-fit (x ∷ l) e (suc m) = all-fit l (and-right (leb x room) (all (λ (x : ℕ). leb x room) l) e) m
 
 pub all-from : (i : ℕ) (l : List ℕ) → i < length l → all (λ (x : ℕ). leb x room) (drop i l) ≡ (leb (getD l i 0) room && all (λ (x : ℕ). leb x room) (drop (i + 1) l))
 all-from i l h = ap (all (λ (x : ℕ). leb x room)) (drop-cons l i 0 h) ∙ ap (λ (j : ℕ). leb (getD l i 0) room && all (λ (x : ℕ). leb x room) (drop j l)) (sym (add-one i))
@@ -157,17 +97,6 @@ lent st y out e =
           };
       cursor = and-right p6 p7 e5;
     }
-
--- ---- a turn
-
-module _ (st : State) (y : Memory) (w : ℕ) (ended : Bool) (s : List ℕ) where
-  pub turn-misused : usable st y w ≡ false → turnOf st y w ended s ≡ quiet st y Misused
-  unfolding turnOf
-  turn-misused e = ap (λ (x : Bool). cond x (turnIn st y ended s (st .listing)) (quiet st y Misused)) e
-
-  pub turn-in : usable st y w ≡ true → (l : Listing) → st .listing ≡ l → turnOf st y w ended s ≡ turnIn st y ended s l
-  unfolding turnOf
-  turn-in e l q = ap (λ (x : Bool). cond x (turnIn st y ended s (st .listing)) (quiet st y Misused)) e ∙ ap (turnIn st y ended s) q
 
 pub unchanged : (y : Memory) → Holds y (y .tables) (y .lengths) (y .result)
 unchanged y = record { tables-are = refl; lengths-are = refl; result-is = refl }
@@ -265,16 +194,3 @@ stop-turn st y s k w = record { says = record { text = w .wrote; used = refl; st
 
 pub quiet-turn : (st : State) (y : Memory) (x : Next) {r : Turn} (out : List ℕ) → r ≡ silentTurn st x → TurnIs (quiet st y x) r out out (y .tables) (y .lengths) (y .result)
 quiet-turn st y x out e = record { says = says-quiet st y x out e; holds = unchanged y }
-
-pub lent-fitted : (st : State) (y : Memory) (w : ℕ) → usable st y w ≡ true → Fitted (y .tables) (y .lengths)
-unfolding usable
-lent-fitted st y w e =
-    let p1 : Bool = eqb (length (y .tables)) 32000 in let p2 : Bool = eqb (length (y .lengths)) 4 in let p3 : Bool = all (λ (l : ℕ). leb l room) (y .lengths) in
-    let p4 : Bool = eqb (length (y .result)) room && (leb 512 w && (leb (st .axes) 8 && cursorFits (y .lengths) (st .listing))) in
-    let e1 = and-right p1 (p2 && (p3 && p4)) e in
-    let e2 = and-right p2 (p3 && p4) e1 in
-    record {
-      tables-long = eqb-true (length (y .tables)) 32000 (and-left p1 (p2 && (p3 && p4)) e);
-      lengths-long = eqb-true (length (y .lengths)) 4 (and-left p2 (p3 && p4) e1);
-      fit = all-fit (y .lengths) (and-left p3 p4 e2);
-    }

@@ -1,18 +1,12 @@
 // The command at the front of what has been read (document 01, "The script program"): 2, 15 and 3, in that order, end the script.
 ghost use mathlib.Core.Path.{_≡_};
-ghost use mathlib.Core.Bool.{Bool, cond, not};
-ghost use Prim.Native.Nat.{ℕ, _+_, _≤_, _<_};
+ghost use mathlib.Core.Bool.{cond};
+ghost use Prim.Native.Nat.{_+_, _≤_, _<_};
 ghost use lib.Dec.{eqb};
 ghost use lib.ListN.{length};
-ghost use Rattle.script.specs.Script.{fixedWidth, loadLength, inPlace};
-ghost use Rattle.script.specs.Turns.{cutOff, frontOf};
-
-pub enum Front {
-    // all of a command, this many bytes
-    Whole(usize),
-    More,
-    Stop(u32),
-}
+ghost use Rattle.session.specs.Script.{fixedWidth, loadLength, inPlace};
+ghost use Rattle.session.specs.Turns.{cutOff, frontOf};
+use session::Front;
 
 // The bytes of a command by its first, a load's without those of its set; 0: unknown.
 fn fixed_width(b: u8) -> usize

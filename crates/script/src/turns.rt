@@ -1,53 +1,23 @@
 // The script program, turn by turn, in lent memory.
 ghost use mathlib.Core.Path.{_≡_};
-ghost use mathlib.Core.Bool.{Bool, true, false};
-ghost use Prim.Native.Nat.{ℕ, suc, _+_, _≤_, _<_};
+ghost use mathlib.Core.Bool.{true, false};
+ghost use Prim.Native.Nat.{ℕ, _+_, _≤_, _<_};
 ghost use lib.Dec.{leb};
-ghost use lib.ListN.{length, getD, drop};
+ghost use lib.ListN.{length, drop};
 ghost use Rattle.model.specs.Lists.{all};
-ghost use Rattle.codec.specs.Bytes.{widthOf};
-ghost use Rattle.script.specs.Script.{room};
-ghost use Rattle.script.specs.Written.{Writes};
-ghost use Rattle.script.specs.Turns as D;
-ghost use Rattle.script.specs.Turns.{Memory, Fitted, Usable, tableAt, lineOf, quiet, frontTurn, frontOf, turnOf, Says, TurnIs, Holds, Shows};
+ghost use Rattle.session.specs.Script.{room};
+ghost use Rattle.listing.specs.Written.{Writes};
+ghost use Rattle.session.specs.Turns as D;
+ghost use Rattle.session.specs.Turns.{Fitted, tableAt, lineOf, frontTurn, frontOf, turnOf};
+ghost use Rattle.commands.specs.Contracts.{Usable};
+ghost use Rattle.script.specs.Contracts.{silentTurn, afterTurn, CursorIn, Says, TurnIs, Shows};
 ghost use mathlib.Core.List.{[]};
-ghost use Rattle.script.specs.declared.turns.Listing.the-variants.{Nothing};
-ghost use Rattle.script.specs.declared.turns.Next.the-variants.{Goes};
-use crate::commands::CommandDone;
-use crate::lines::constraint_line;
-use crate::lines::counted_line;
-use crate::lines::division_line;
-use crate::memory::table;
-
-// Where a listing stands: the place of the next command in the set's bytes, the basic sets opened before it, and the
-// divisions of the last one.
-pub struct Cursor {
-    pub set: usize,
-    pub place: usize,
-    pub basics: usize,
-    pub divisions: usize,
-}
-
-pub enum Listing {
-    Nothing,
-    From(Cursor),
-}
-
-// n, 0 before `10` gives it, and the listing that is under way.
-pub struct State {
-    pub axes: usize,
-    pub listing: Listing,
-}
-
-pub enum Next {
-    // another turn
-    Goes,
-    // more input, or that there is none, before the next turn
-    Reads,
-    Ends,
-    // memory or a state that no turn leaves
-    Misused,
-}
+ghost use Rattle.session.specs.declared.Listing.the-variants.{Nothing};
+ghost use Rattle.session.specs.declared.Next.the-variants.{Goes};
+use commands::{CommandDone, command, refused_line, table};
+use crate::fronts::next;
+use listing::{constraint_line, counted_line, division_line};
+use session::{Cursor, Front, Listing, Next, State};
 
 // What a turn did: the length of its text, the bytes of input that it used, the state after it, and what comes next.
 pub struct Turn {
@@ -58,7 +28,7 @@ pub struct Turn {
 }
 
 fn silent(state: State, next: Next) -> Turn
-    ensures { λ r. ⌜ r ≡ D.silentTurn state next ⌝ }
+    ensures { λ r. ⌜ r ≡ silentTurn state next ⌝ }
 {
     Turn {
         text: 0,
@@ -118,7 +88,7 @@ fn past(c: Cursor, b: u8) -> Cursor
 }
 
 fn over(axes: usize) -> Turn
-    ensures { λ r. ⌜ r ≡ D.silentTurn (D.stateAt axes Nothing) Goes ⌝ }
+    ensures { λ r. ⌜ r ≡ silentTurn (D.stateAt axes Nothing) Goes ⌝ }
 {
     let state = State {
         axes,
@@ -129,7 +99,7 @@ fn over(axes: usize) -> Turn
 
 // One line of a listing.
 fn listing_turn(axes: usize, c: Cursor, tables: &[u8], lengths: &[usize], out: &mut [u8]) -> Turn
-    requires { ⌜ Fitted (now tables) (now lengths) × D.CursorIn c (now lengths) × (axes ≤ 8) × (512 ≤ length (now out)) ⌝ }
+    requires { ⌜ Fitted (now tables) (now lengths) × CursorIn c (now lengths) × (axes ≤ 8) × (512 ≤ length (now out)) ⌝ }
     ensures { λ r. ⌜ Says (D.lineTurn axes (D.memory [] [] []) c (drop (c .place) (tableAt (now (tables .entry)) (now (lengths .entry)) (c .set)))) r (now (out .entry)) (now (out .exit)) ⌝ }
 {
     let set = c.set;
@@ -160,13 +130,16 @@ fn listing_turn(axes: usize, c: Cursor, tables: &[u8], lengths: &[usize], out: &
 }
 
 fn after(d: CommandDone, used: usize) -> Turn
-    ensures { λ r. ⌜ r ≡ D.afterTurn d used ⌝ }
+    ensures { λ r. ⌜ r ≡ afterTurn d used ⌝ }
 {
     let text = d.text;
     let goes = d.goes;
     let axes = d.axes;
     let listing = d.listing;
-    let state = State { axes, listing };
+    let state = State {
+        axes,
+        listing,
+    };
     if goes {
         return Turn {
             text,
@@ -180,6 +153,31 @@ fn after(d: CommandDone, used: usize) -> Turn
         used,
         state,
         next: Next::Ends,
+    }
+}
+
+// The command at the front of the input.
+fn front_turn(state: State, input: &[u8], ended: bool, tables: &mut [u8], lengths: &mut [usize], result: &mut [u8], out: &mut [u8]) -> Turn
+    requires { ⌜ Usable (state .axes) (now tables) (now lengths) (now result) (now out) ⌝ }
+    ensures { λ r. ⌜ TurnIs (frontTurn state (D.memory (now (tables .entry)) (now (lengths .entry)) (now (result .entry))) (now (input .entry)) (frontOf (state .axes) ended (now (input .entry)))) r (now (out .entry)) (now (out .exit)) (now (tables .exit)) (now (lengths .exit)) (now (result .exit)) ⌝ }
+{
+    let axes = state.axes;
+    let f = next(axes, input, ended);
+    match f {
+        Front::More => silent(state, Next::Reads),
+        Front::Stop(k) => {
+            let text = refused_line(out, k);
+            Turn {
+                text,
+                used: 0,
+                state,
+                next: Next::Ends,
+            }
+        }
+        Front::Whole(w) => {
+            let d = command(axes, &input[..w], tables, lengths, result, out);
+            after(d, w)
+        }
     }
 }
 
@@ -241,5 +239,20 @@ fn usable(state: State, tables: &[u8], lengths: &[usize], result: &[u8], width: 
     match listing {
         Listing::Nothing => true,
         Listing::From(c) => cursor_fits(c, lengths),
+    }
+}
+
+// One turn on the input that has been read and not used; `ended`: there is no more. At most one line of text goes to `out`.
+pub fn step(state: State, input: &[u8], ended: bool, tables: &mut [u8], lengths: &mut [usize], result: &mut [u8], out: &mut [u8]) -> Turn
+    ensures { λ r. ⌜ TurnIs (turnOf state (D.memory (now (tables .entry)) (now (lengths .entry)) (now (result .entry))) (length (now (out .entry))) ended (now (input .entry))) r (now (out .entry)) (now (out .exit)) (now (tables .exit)) (now (lengths .exit)) (now (result .exit)) ⌝ }
+{
+    if !usable(state, tables, lengths, result, out.len()) {
+        return silent(state, Next::Misused);
+    }
+    let axes = state.axes;
+    let listing = state.listing;
+    match listing {
+        Listing::From(c) => listing_turn(axes, c, tables, lengths, out),
+        Listing::Nothing => front_turn(state, input, ended, tables, lengths, result, out),
     }
 }

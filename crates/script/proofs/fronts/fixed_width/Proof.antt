@@ -1,6 +1,5 @@
 use native.Mathlib.Omega.{arith}
 use borrow.Author.Tests.{ne-eqb}
-use borrow.Author.Needs.{needs}
 use Rattle.script.proofs.fronts.fixed_width.Statement.{statement}
 use Rattle.script.proofs.fronts.fixed_width.Tie as tie
 

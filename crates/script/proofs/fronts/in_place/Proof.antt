@@ -1,6 +1,4 @@
-use mathlib.Core.Path.{refl}
 use borrow.Author.Tests.{eq-eqb, ne-eqb}
-use borrow.Author.Needs.{needs}
 use Rattle.script.proofs.fronts.in_place.Statement.{statement}
 use Rattle.script.proofs.fronts.in_place.Tie as tie
 

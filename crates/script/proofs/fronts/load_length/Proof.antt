@@ -1,9 +1,8 @@
-use mathlib.Core.Path.{_≡_, refl, sym, ap, _∙_}
+use mathlib.Core.Path.{sym, ap, _∙_}
 use mathlib.Core.Bool.{Bool, cond}
 use native.Mathlib.Omega.{arith}
 use borrow.Author.Tests.{eq-eqb, ne-eqb}
-use Rattle.script.specs.Script.{loadLength}
-use borrow.Author.Needs.{needs}
+use Rattle.session.specs.Script.{loadLength}
 use Rattle.script.proofs.fronts.load_length.Statement.{statement}
 use Rattle.script.proofs.fronts.load_length.Tie as tie
 

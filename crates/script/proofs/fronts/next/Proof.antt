@@ -1,8 +1,9 @@
-use Rattle.script.specs.declared.fronts.Front.the-variants.{Whole}
-use mathlib.Core.Path.{_≡_, refl, sym, ap, _∙_}
+use Rattle.session.specs.declared.Front.the-variants.{Whole}
+use mathlib.Core.Path.{sym, ap, _∙_}
 use native.Mathlib.Omega.{arith}
 use borrow.Author.Tests.{not-true, not-false}
-use Rattle.script.proofs.FrontLaws.{front-none, front-unknown, front-place, front-cut, front-whole, width-of, load-there, width-least}
+use Rattle.session.proofs.Commands.{width-least}
+use Rattle.script.proofs.FrontLaws.{front-none, front-unknown, front-place, front-cut, front-whole, width-of, load-there}
 use borrow.Author.Needs.{needs}
 use Rattle.script.proofs.fronts.next.Statement.{statement}
 use Rattle.script.proofs.fronts.next.Tie as tie

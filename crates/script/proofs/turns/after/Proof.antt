@@ -1,12 +1,7 @@
-use mathlib.Core.Path.{_≡_, refl, ap, ap₂, sym, subst, _∙_}
-use mathlib.Core.Bool.{Bool, true, false, cond, _&&_}
-use mathlib.Core.List.{List, [], _∷_, _++_}
-use Prim.Native.Nat.{ℕ, suc, _+_, _-_, _*_, _≤_, _<_}
-use native.Mathlib.Omega.{arith}
-use lib.ListN.{length, take, drop, getD}
-use Rattle.script.specs.Turns.{goesOn, stateAt}
-use Rattle.script.specs.declared.turns.Turn.{Turn}
-use borrow.Author.Needs.{needs}
+use mathlib.Core.Path.{ap, sym}
+use mathlib.Core.Bool.{Bool}
+use Prim.Native.Nat.{_-_}
+use Rattle.session.specs.Turns.{goesOn, stateAt}
 use Rattle.script.proofs.turns.after.Statement.{statement}
 use Rattle.script.proofs.turns.after.Tie as tie
 

@@ -1,8 +1,8 @@
 use mathlib.Core.Path.{ap, ap₂, _∙_}
-use mathlib.Core.Bool.{Bool, true, _&&_}
+use mathlib.Core.Bool.{Bool, _&&_}
 use lib.Dec.{leb}
-use Rattle.script.specs.Script.{room}
-use mathlib.Core.Path.{_≡_, refl, sym}
+use Rattle.session.specs.Script.{room}
+use mathlib.Core.Path.{sym}
 use borrow.Author.Tests.{lt-leb, le-leb}
 use borrow.Author.Needs.{needs}
 use Rattle.script.proofs.turns.cursor_fits.Statement.{statement}

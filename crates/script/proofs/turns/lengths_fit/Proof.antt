@@ -1,20 +1,17 @@
-use mathlib.Core.Path.{_≡_, refl, ap, ap₂, sym, subst, _∙_}
-use mathlib.Core.Bool.{Bool, true, false, cond, _&&_}
-use mathlib.Core.List.{List, [], _∷_, _++_}
-use Prim.Native.Nat.{ℕ, suc, _+_, _-_, _*_, _≤_, _<_}
+use mathlib.Core.Path.{_≡_, refl, ap, sym, _∙_}
+use mathlib.Core.Bool.{Bool, _&&_}
+use Prim.Native.Nat.{ℕ, _+_, _-_, _≤_}
 use native.Mathlib.Omega.{arith}
-use lib.ListN.{length, take, drop, getD}
+use lib.ListN.{length, drop}
 use Rattle.script.proofs.TurnLaws.{all-from}
 use Rattle.model.specs.Lists.{all}
 use lib.Dec.{leb}
 use borrow.Author.Tests.{lt-leb, le-leb}
 use lib.ListN.{drop-of-length-le}
-use Rattle.script.specs.Script.{room}
+use Rattle.session.specs.Script.{room}
 use borrow.Author.Needs.{needs}
 use Rattle.script.proofs.turns.lengths_fit.Statement.{statement}
 use Rattle.script.proofs.turns.lengths_fit.Tie as tie
-use Rattle.script.proofs.turns.lengths_fit.Reads as reads
-use Rattle.script.proofs.turns.lengths_fit.Lts as lts
 
 abbrev Inv-loop : tie.InvT-loop
 Inv-loop lengths i₀ i = (i ≤ length lengths) × (all (λ (l : ℕ). leb l room) (drop i lengths) ≡ all (λ (l : ℕ). leb l room) lengths)

@@ -1,11 +1,7 @@
-use mathlib.Core.Path.{_≡_, refl, ap, ap₂, sym, subst, _∙_}
-use mathlib.Core.Bool.{Bool, true, false, cond, _&&_}
-use mathlib.Core.List.{List, [], _∷_, _++_}
-use Prim.Native.Nat.{ℕ, suc, _+_, _-_, _*_, _≤_, _<_}
+use Prim.Native.Nat.{_-_}
 use native.Mathlib.Omega.{arith}
-use lib.ListN.{length, take, drop, getD}
-use Rattle.script.proofs.TurnLaws.{line-basic, line-division, line-constraint}
-use Rattle.script.proofs.Writing.{writes-same}
+use Rattle.session.proofs.Turning.{line-basic, line-division, line-constraint}
+use Rattle.listing.proofs.Writing.{writes-same}
 use Rattle.codec.proofs.Parsing.{width-division, width-constraint}
 use borrow.Author.Needs.{needs}
 use Rattle.script.proofs.turns.line.Statement.{statement}

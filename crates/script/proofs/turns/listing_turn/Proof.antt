@@ -1,17 +1,17 @@
-use Rattle.script.specs.Written.{Wrote}
-use Rattle.script.specs.Turns.{lineOf}
-use Rattle.script.specs.declared.turns.Cursor.{Cursor}
-use mathlib.Core.Path.{_≡_, refl, ap, ap₂, sym, subst, _∙_}
-use mathlib.Core.Bool.{Bool, true, false, cond, _&&_}
-use mathlib.Core.List.{List, [], _∷_, _++_}
-use Prim.Native.Nat.{ℕ, suc, _+_, _-_, _*_, _≤_, _<_}
+use Rattle.listing.specs.Written.{Wrote}
+use Rattle.session.specs.Turns.{lineOf}
+use Rattle.session.specs.declared.Cursor.{Cursor}
+use mathlib.Core.Path.{refl, ap, sym, subst, _∙_}
+use mathlib.Core.List.{List, []}
+use Prim.Native.Nat.{ℕ, _+_, _-_}
 use native.Mathlib.Omega.{arith}
-use lib.ListN.{length, take, drop, getD}
-use Rattle.script.proofs.TurnLaws.{says-quiet, says-same, over-end, over-unknown, over-cut, line-there}
+use lib.ListN.{length, drop, getD}
+use Rattle.script.proofs.TurnLaws.{says-quiet, says-same}
+use Rattle.session.proofs.Turning.{over-end, over-unknown, over-cut, line-there}
 use lib.ListN.{length-drop}
-use Rattle.script.specs.Turns.{memory, lineTurn, stateAt}
-use Rattle.script.specs.declared.turns.Listing.the-variants.{Nothing, From}
-use Rattle.script.specs.declared.turns.Next.the-variants.{Goes}
+use Rattle.session.specs.Turns.{memory, lineTurn, stateAt}
+use Rattle.session.specs.declared.Listing.the-variants.{Nothing, From}
+use Rattle.session.specs.declared.Next.the-variants.{Goes}
 use borrow.Author.Needs.{needs}
 use Rattle.script.proofs.turns.listing_turn.Statement.{statement}
 use Rattle.script.proofs.turns.listing_turn.Tie as tie

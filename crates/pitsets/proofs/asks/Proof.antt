@@ -1,0 +1,37 @@
+use mathlib.Core.Path.{_≡_}
+use mathlib.Core.Bool.{true, false}
+use Prim.Native.Nat.{ℕ}
+use native.Mathlib.Omega.{arith}
+use borrow.Author.Needs.{needs}
+use Rattle.pitsets.proofs.asks.Statement.{statement}
+use Rattle.pitsets.proofs.asks.Tie as tie
+
+no : {X : Type 0} → false ≡ true → X
+no e = let z : _≡_ {A = ℕ} 0 1 = cc in absurd (omega arith)
+
+enum-told : tie.Need-enum-told
+enum-told c = search needs
+
+enum-told-2 : tie.Need-enum-told-2
+enum-told-2 c = search needs
+
+enum-told-3 : tie.Need-enum-told-3
+enum-told-3 c = search needs
+
+enum-told-4 : tie.Need-enum-told-4
+enum-told-4 c = search needs
+
+returns : tie.Need-returns
+returns c = no
+
+returns-2 : tie.Need-returns-2
+returns-2 c = search needs
+
+returns-3 : tie.Need-returns-3
+returns-3 c = no
+
+returns-4 : tie.Need-returns-4
+returns-4 c = no
+
+pub asks-spec : {M : Type 1} → statement M
+asks-spec = tie.close (tie.spec enum-told enum-told-2 enum-told-3 enum-told-4 returns returns-2 returns-3 returns-4)
