@@ -34,8 +34,8 @@ pub fn count(s: &[u8]) -> usize
     k
 }
 
-// The place of basic set number i, the first being 0; the end of the bytes where there are fewer.
-fn start_of(s: &[u8], i: usize) -> usize
+// The place of basic set number i of checked bytes, the first being 0; the end of the bytes where there are fewer.
+pub fn start_of(s: &[u8], i: usize) -> usize
     requires { ⌜ Accepted (now s) ⌝ }
     ensures { λ r. ⌜ Started (now (s .entry)) i r ⌝ }
 {

@@ -1,4 +1,7 @@
 // The public calls below the board's C interface, for tests and benchmarks written in C: each does what the call that it names does.
+ghost use Prim.Native.Nat.{_≤_};
+ghost use lib.ListN.{length};
+ghost use Rattle.simplex.specs.Table.{Valid};
 
 #[no_mangle]
 pub extern "C" fn probe_check(n: usize, set: &[u8]) -> u32 {
@@ -86,6 +89,46 @@ pub extern "C" fn probe_pivots(n: usize, set: &[u8], k: usize) -> usize {
         simplex::Tested::NoSuchSet => 0,
         simplex::Tested::Answers(e) => e.pivots,
     }
+}
+
+// simplex::test_basic, so many times: the pivots of all.
+fn tests(
+    b: model::BasicSet,
+    times: usize,
+    rows: &mut [[i64; 18]],
+    place: &mut [usize],
+    kinds: &mut [u8],
+) -> usize
+    requires { ⌜ Valid b ⌝ }
+    requires { ⌜ 64 ≤ length (now rows) ⌝ }
+    requires { ⌜ 80 ≤ length (now place) ⌝ }
+    requires { ⌜ 80 ≤ length (now kinds) ⌝ }
+{
+    let mut pivots: usize = 0;
+    let mut i: usize = 0;
+    while i < times {
+        let e = simplex::test_basic(b, rows, place, kinds);
+        pivots = std::num::wrapping_add_usize(pivots, e.pivots);
+        i += 1;
+    }
+    pivots
+}
+
+// The same of the first basic set of a set's bytes; 0 where there is none or the bytes are refused.
+#[no_mangle]
+pub extern "C" fn probe_tests(n: usize, set: &[u8], times: usize) -> usize {
+    if codec::check(n, set) != 0 {
+        return 0;
+    }
+    let at = codec::start_of(set, 0);
+    if set.len() <= at {
+        return 0;
+    }
+    let b = codec::decode_basic(set, at + 1);
+    let mut rows = [[0i64; 18]; 64];
+    let mut place = [0usize; 80];
+    let mut kinds = [0u8; 80];
+    tests(b, times, &mut rows, &mut place, &mut kinds)
 }
 
 // query::first_point: 0 at a point, 1 none, 2 spent, 100 and the number of a refusal.

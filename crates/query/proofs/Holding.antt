@@ -19,8 +19,8 @@ use Rattle.codec.proofs.Boundaries.{boundary-start, boundary-end, boundary-next
 use Rattle.query.specs.declared.membership.Span.{Span}
 use Rattle.query.specs.Holder.{firstHolding}
 use Rattle.query.specs.Holding.{AllWithin, Tail, Divided, Judged, Spanned}
-use Rattle.query.proofs.Reading.{set-within}
-use Rattle.query.proofs.Standing.{DivisionAt, division-at, ConstraintAt, constraint-at, no-division, no-constraint}
+use Rattle.bounds.proofs.Reading.{set-within}
+use Rattle.bounds.proofs.Standing.{DivisionAt, division-at, ConstraintAt, constraint-at, no-division, no-constraint}
 
 -- ---- the values of the divisions
 pub record Dividing (s : List ℕ) (start : ℕ) (x : List ℤ) (at d : ℕ) (q : List ℤ) : Type 0 where

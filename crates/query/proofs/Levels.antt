@@ -24,7 +24,7 @@ use Rattle.query.specs.Holding.{AllWithin}
 use Rattle.query.specs.Sides.{side, limited, sidesOf, Standing, padded, trailOf}
 use Rattle.query.specs.declared.search.Trail.{Trail}
 use Rattle.query.proofs.Points.{le-yes}
-use Rattle.query.proofs.Reading.{set-within}
+use Rattle.bounds.proofs.Reading.{set-within}
 
 pub lt-of : (a b : ℕ) → a ≤ b → (a ≡ b → ⊥) → a < b
 lt-of a b h f = go (ltb a b) refl

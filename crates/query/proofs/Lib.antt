@@ -3,14 +3,13 @@ pub mod Searched
 pub mod Held
 pub mod Tallied
 pub mod Reading
-pub mod Standing
 pub mod Holding
 pub mod Points
 pub mod Answers
 pub mod Means
 pub mod Handed
 pub mod Seats
-pub mod Extremes
-pub mod Bounds
+pub mod Parts
+pub mod Lives
 pub mod Levels
 pub mod Searching

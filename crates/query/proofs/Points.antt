@@ -1,24 +1,23 @@
 -- Points as the code has them: their range, coordinate by coordinate.
 use mathlib.Core.Path.{_≡_, refl, sym, ap, ap₂, _∙_, subst}
-use mathlib.Core.Bool.{Bool, true, false, not, _&&_, _||_}
+use mathlib.Core.Bool.{Bool, true, false, _&&_, _||_}
 use mathlib.Core.List.{List, [], _∷_}
 use Prim.Native.Nat.{ℕ, zero, suc, _+_, _-_, _≤_, _<_}
 use native.Mathlib.Numerals.{add-one}
 use native.Mathlib.Omega.{arith}
-use lib.Dec.{T, ltb, leb, eqb}
-use lib.IntN.{ℤ, pos, negsuc}
+use lib.Dec.{T, ltb}
+use lib.IntN.{ℤ, pos}
 use lib.Signed.{_<ℤ_, _≤ℤ_, leZ}
-use lib.ListN.{length, take, drop, getD, length-take, List·getD-eq-default, drop-of-length-le}
-use lib.Seq.{drop-cons, getD-take}
-use borrow.Author.Tests.{ltb-true, ltb-false, lt-ltb, le-ltb}
-use Rattle.integers.specs.Z.{Within}
-use Rattle.integers.specs.Lin.{le, lt, lin, lia-no, lia-abs}
+use lib.ListN.{length, drop, getD, drop-of-length-le}
+use lib.Seq.{drop-cons}
+use borrow.Author.Tests.{lt-ltb, le-ltb}
+use Rattle.integers.specs.Lin.{le, lt, lin, lia-no}
 use Rattle.integers.specs.Mach.{leZ-true}
 use Rattle.model.specs.Lists.{all}
 use Rattle.model.specs.Sets.{isZero, absent}
 use Rattle.query.specs.Search.{coordinate, pointFits}
 use Rattle.query.specs.Holding.{AllWithin, coordinateFits}
-use Rattle.query.proofs.Reading.{all-nil, all-cons}
+use Rattle.bounds.proofs.Reading.{within-all}
 
 -- a test that is known to hold, and one that is known to fail
 pub le-yes : (a b : ℤ) → a ≤ℤ b → leZ a b ≡ true
@@ -85,18 +84,8 @@ module _ (n : ℕ) (x : List ℤ) (i : ℕ) (g : fitsFrom n i (drop i x) ≡ poi
   fits-end h = ap (fitsFrom n i) (sym (drop-of-length-le x h)) ∙ g
 
 -- ---- what it says of the numbers
-coordinate-within : (z : ℤ) → T (coordinate z) → Within 1048576 z
-coordinate-within z t =
-    let l : negsuc 1048575 ≤ℤ z = record { le = Rattle.model.proofs.Count.and-left (leZ (negsuc 1048575) z) (leZ z (pos 1048576)) t } in
-    let h : z ≤ℤ pos 1048576 = record { le = Rattle.model.proofs.Count.and-right (leZ (negsuc 1048575) z) (leZ z (pos 1048576)) t } in
-    lia-abs (z ∷ []) (le l ∷ le h ∷ []) (search lin depth 30) (omega arith)
-
-all-within : (x : List ℤ) → T (all coordinate x) → AllWithin 1048576 x
-all-within [] t = all-nil
-all-within (z ∷ x) t = all-cons (coordinate-within z (Rattle.model.proofs.Count.and-left (coordinate z) (all coordinate x) t)) (all-within x (Rattle.model.proofs.Count.and-right (coordinate z) (all coordinate x) t))
-
 pub point-within : (n : ℕ) (x : List ℤ) → pointFits n x ≡ true → AllWithin 1048576 x
-point-within n x e = all-within x (Rattle.model.proofs.Count.and-left (all coordinate x) (absent n x) (subst T (sym e) tt))
+point-within n x e = within-all 1048575 x (Rattle.model.proofs.Count.and-left (all coordinate x) (absent n x) (subst T (sym e) tt))
 
 -- eight numbers, one by one
 pub eight-is : (x : List ℤ) → length x ≡ 8

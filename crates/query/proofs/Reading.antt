@@ -1,46 +1,29 @@
--- Reading signed numbers, sums of products and their sizes.
+-- Sums of products read from bytes, and their sizes.
 use mathlib.Core.Path.{_≡_, refl, sym, ap, ap₂, _∙_, subst}
-use mathlib.Core.Bool.{Bool, true, false, not, _&&_, cond}
+use mathlib.Core.Bool.{Bool, true, false, not}
 use mathlib.Core.List.{List, [], _∷_}
-use Prim.Native.Nat.{ℕ, zero, suc, _+_, _-_, _*_, _/_, _^_, _≤_, _<_}
+use Prim.Native.Nat.{ℕ, suc, _+_, _-_, _*_, _≤_, _<_}
+use native.Mathlib.Nat.{mul-le-mul, le-refl}
 use native.Mathlib.Numerals.{add-one}
 use native.Mathlib.Omega.{arith}
-use lib.IntN.{ℤ, pos, negsuc, natAbs, _+ℤ_, _-ℤ_, _*ℤ_, +ℤ-idl, +ℤ-idr, +ℤ-assoc}
-use lib.Signed.{_<ℤ_, leZ, nonNeg, shrZ}
-use lib.ListN.{length, take, drop, getD, set, drop-of-length-le}
-use lib.Seq.{drop-cons, drop-drop, getD-set-same, getD-set-other}
+use lib.Dec.{T, eqb}
+use lib.IntN.{ℤ, pos, negsuc, _+ℤ_, _*ℤ_, +ℤ-idl, +ℤ-idr, +ℤ-assoc}
+use lib.ListN.{length, take, drop, getD, drop-of-length-le}
+use lib.Pow.{pow-pos}
+use lib.Seq.{drop-cons, drop-drop}
 use mir.Syntax.{Width, w64}
 use mir.Val.{SFits, hbits, toZ, ofZ}
 use mir.ValLaws.{toZ-pos}
-use lib.Pow.{pow-pos}
+use borrow.Author.Tests.{eqb-true, ne-eqb}
 use Rattle.integers.specs.Z.{Within}
 use Rattle.integers.specs.Size.{within-mono, within-add, within-mul, within-fits}
-use Rattle.integers.specs.Bound.{bounds, fits-by, within-by}
-use Rattle.integers.specs.Mach.{toZ-ofZ, toZ-nat}
+use Rattle.integers.specs.Bound.{bounds, fits-by}
+use Rattle.integers.specs.Mach.{toZ-ofZ}
 use Rattle.integers.specs.Lin.{lin, lia-eq}
-use Rattle.model.specs.Sets.{dot, floorDiv}
+use Rattle.model.specs.Sets.{dot, isZero}
 use Rattle.codec.specs.Bytes.{valueOf, signed, signedList}
-use Rattle.integers.specs.LittleEndian.{signed-ind}
-use native.Mathlib.Nat.{mul-le-mul, le-refl, div-le-self, le-trans}
-use lib.Dec.{T, ltb, leb, eqb, ltb→lt, eqb→eq}
-use lib.ListN.{length-take, List·getD-eq-default}
-use lib.Seq.{take-suc-set, getD-take, length-take-le}
-use borrow.Author.Tests.{ltb-true, ltb-false, eqb-true, eqb-false, le-leb, ne-eqb, eq-eqb, lt-ltb}
-use mathlib.Core.List.{_++_}
-use Rattle.integers.specs.Mach.{ofZ-same, lt-nat}
-use Rattle.model.specs.Sets.{isZero, meets, holds, value, quotient, equality, inequality}
-use Rattle.codec.specs.Bytes.{kindOf, readDivision, readConstraint}
+use Rattle.bounds.proofs.Reading.{by}
 use Rattle.query.specs.Holding.{AllWithin}
-
--- ---- signed
-pub signed-within : (k H v : ℕ) → 256 ^ k ≡ 2 * H → v < 256 ^ k → Within H (signed k v)
-signed-within k H v e h = signed-ind k (Within H) v (λ l. record { size = low (256 ^ k) e l }) (λ l. record { size = high (256 ^ k) e l h })
-  where
-    low : (W : ℕ) → W ≡ 2 * H → 2 * v < W → v ≤ H
-    low W e l = omega arith
-
-    high : (W : ℕ) → W ≡ 2 * H → W ≤ 2 * v → v < W → suc (W - suc v) ≤ H
-    high W e l h = omega arith
 
 -- ---- the sum of products, from a place on
 dot-nil : (l : List ℤ) → dot l [] ≡ pos 0
@@ -98,14 +81,7 @@ fit-mul h k = fits-by (search bounds depth 20) (omega arith)
 pub fit-add : {n : ℕ} {d p q : ℤ} → Within (n * (32768 * 549755813888)) d → n ≤ 8 → Within 32768 p → Within 549755813888 q → SFits w64 (d +ℤ p *ℤ q)
 fit-add hd hn h k = fits-by (search bounds depth 20) (omega arith)
 
-pub all-mono : {m n : ℕ} {x : List ℤ} → m ≤ n → AllWithin m x → AllWithin n x
-all-mono h a = record { at = λ i. within-mono h (a .at i) }
-
 -- ---- a quotient
-pub floor-within : (m : ℕ) (z : ℤ) (d : ℕ) → Within m z → Within m (floorDiv z d)
-floor-within m (pos a) d h = let u = h .size in let v = div-le-self a d in record { size = le-trans v u }
-floor-within m (negsuc a) d h = let u = h .size in let v = div-le-self a d in record { size = omega arith }
-
 pub sum-within : {c a : ℤ} → Within 2147483648 c → Within (8 * (32768 * 1048576)) a → Within 549755813888 (c +ℤ a)
 sum-within h k = within-mono (omega arith) (within-add h k)
 
@@ -123,10 +99,6 @@ zero-is : (z : ℤ) → isZero z ≡ true → z ≡ pos 0
 zero-is (pos n) e = ap pos (eqb-true n 0 e)
 zero-is (negsuc n) e = let z : _≡_ {A = Bool} false true = e in absurd (subst (λ (b : Bool). T (not b)) e tt)
 
-by : (P : Bool → Type 0) (b : Bool) → (b ≡ true → P true) → (b ≡ false → P false) → P b
-by P true f g = f refl
-by P false f g = g refl
-
 pub zero-bits : (w : Width) (z : ℤ) → SFits w z → eqb (ofZ w z) 0 ≡ isZero z
 zero-bits w z f = by (λ (b : Bool). eqb (ofZ w z) 0 ≡ b) (isZero z) (λ e. ap (λ (y : ℤ). eqb (ofZ w y) 0) (zero-is z e))
     (λ e. ne-eqb (ofZ w z) 0 (λ q. clash (sym (toZ-ofZ f) ∙ ap (toZ w) q ∙ toZ-pos w 0 (pow-pos (hbits w))) e))
@@ -134,50 +106,5 @@ zero-bits w z f = by (λ (b : Bool). eqb (ofZ w z) 0 ≡ b) (isZero z) (λ e. ap
     clash : z ≡ pos 0 → isZero z ≡ false → ⊥
     clash p e = subst T (sym (ap isZero p) ∙ e) tt
 
-pub nonneg-bits : (z : ℤ) → leZ (pos 0) z ≡ nonNeg z
-nonneg-bits (pos n) = le-leb 0 n (omega arith)
-nonneg-bits (negsuc n) = refl
-
 pub value-one : (c a : ℤ) → c *ℤ pos 1 +ℤ a ≡ c +ℤ a
 value-one c a = lia-eq (c ∷ a ∷ []) [] (search lin depth 30) (omega arith)
-
-pub kind-equality : (b : ℕ) → b ≡ 19 → kindOf b ≡ equality
-kind-equality b e = rw e
-
-pub kind-inequality : (b : ℕ) → (b ≡ 19 → ⊥) → kindOf b ≡ inequality
-kind-inequality b e = let d : eqb b 19 ≡ false = ne-eqb b 19 e in rw d
-
--- ---- tables
-pub all-nil : {m : ℕ} → AllWithin m []
-all-nil {m} = record { at = λ i. none m i }
-  where
-    none : (m i : ℕ) → Within m (getD [] i (pos 0))
-    none m zero = record { size = omega arith }
-    none m (suc i) = record { size = omega arith }
-
-pub all-cons : {m : ℕ} {z : ℤ} {x : List ℤ} → Within m z → AllWithin m x → AllWithin m (z ∷ x)
-all-cons {m} {z} {x} h a = record { at = λ i. at i }
-  where
-    at : (i : ℕ) → Within m (getD (z ∷ x) i (pos 0))
-    at zero = h
-    at (suc i) = a .at i
-
-pub zeros-all : {m : ℕ} → AllWithin m (pos 0 ∷ pos 0 ∷ pos 0 ∷ pos 0 ∷ pos 0 ∷ pos 0 ∷ pos 0 ∷ pos 0 ∷ [])
-zeros-all {m} = let z : Within m (pos 0) = record { size = omega arith } in all-cons z (all-cons z (all-cons z (all-cons z (all-cons z (all-cons z (all-cons z (all-cons z all-nil)))))))
-
-pub set-within : (m : ℕ) (q : List ℤ) (i : ℕ) (v : ℤ) → AllWithin m q → Within m v → i < length q → AllWithin m (set q i v)
-set-within m q i v a h l = record {
-  at = λ j. by (λ (b : Bool). Within m (getD (set q i v) j (pos 0))) (eqb j i)
-      (λ e. subst (λ (x : ℕ). Within m (getD (set q i v) x (pos 0))) (sym (eqb-true j i e)) (subst (Within m) (sym (getD-set-same q i v (pos 0) l)) h))
-      (λ e. subst (Within m) (sym (getD-set-other q i j v (pos 0) (eqb-false j i e))) (a .at j));
-}
-
-pub take-within : (m : ℕ) (q : List ℤ) (n : ℕ) → AllWithin m q → AllWithin m (take n q)
-take-within m q n a = record {
-  at = λ j. by (λ (b : Bool). Within m (getD (take n q) j (pos 0))) (ltb j n)
-      (λ e. subst (Within m) (sym (getD-take n q j (pos 0) (ltb-true j n e))) (a .at j))
-      (λ e. let l = ltb-false j n e in let k : length (take n q) ≤ j = omega (arith, length-take n q) in subst (Within m) (sym (List·getD-eq-default (take n q) (pos 0) k)) (record { size = omega arith }));
-}
-
-pub no-width : (w : ℕ) → w ≡ 0 → 0 < w → ⊥
-no-width w e h = omega arith

@@ -35,13 +35,13 @@ In [] (s ∷ ss) = ⊥
 In (z ∷ zs) [] = ⊥
 In (z ∷ zs) (s ∷ ss) = Inside z s × In zs ss
 
-self : (z : ℤ) → Inside z (only z)
+pub self : (z : ℤ) → Inside z (only z)
 self z = record { lo = lib.Signed.≤ℤ-refl z; hi = lib.Signed.≤ℤ-refl z }
 
-plus-in : (y z : ℤ) (s t : Interval) → Inside y s → Inside z t → Inside (y +ℤ z) (plus s t)
+pub plus-in : (y z : ℤ) (s t : Interval) → Inside y s → Inside z t → Inside (y +ℤ z) (plus s t)
 plus-in y z s t h k = record { lo = Rattle.integers.specs.Order.add-le (h .lo) (k .lo); hi = Rattle.integers.specs.Order.add-le (h .hi) (k .hi) }
 
-times-in : (a z : ℤ) (s : Interval) → Inside z s → Inside (a *ℤ z) (times a s)
+pub times-in : (a z : ℤ) (s : Interval) → Inside z s → Inside (a *ℤ z) (times a s)
 times-in a z s h = by (nonNeg a) refl
   where
     by : (b : Bool) → nonNeg a ≡ b → Inside (a *ℤ z) (record { low = a *ℤ cond b (s .low) (s .high); high = a *ℤ cond b (s .high) (s .low) })
@@ -70,7 +70,7 @@ dot-in (c ∷ cs) [] (s ∷ ss) h = absurd h
 dot-in (c ∷ cs) (z ∷ zs) [] h = absurd h
 dot-in (c ∷ cs) (z ∷ zs) (s ∷ ss) h = plus-in (c *ℤ z) (dot cs zs) (times c s) (dotSides cs ss) (times-in c z s (h .0)) (dot-in cs zs ss (h .1))
 
-floor-mono : (m n : ℤ) (d : ℕ) → 0 < d → m ≤ℤ n → floorDiv m d ≤ℤ floorDiv n d
+pub floor-mono : (m n : ℤ) (d : ℕ) → 0 < d → m ≤ℤ n → floorDiv m d ≤ℤ floorDiv n d
 floor-mono m n d h k =
     let p : pos 0 <ℤ pos d = record { lt = lt→ltb 0 d h } in
     let f = floorZ-is m {d = pos d} p in

@@ -1,10 +1,10 @@
 -- The holder of a point, as the code answers it: the very part of the table it came from.
-use mathlib.Core.Bool.{Bool, true, false, cond}
+use mathlib.Core.Bool.{cond}
 use mathlib.Core.List.{List}
 use Prim.Native.Nat.{ℕ, _+_}
 use denote.Ref.{RefT}
-use Rattle.codec.specs.Parts.{Part, partOf, held}
-use Rattle.query.specs.Holder.{Table, first, second, Holder}
+use Rattle.codec.specs.Parts.{partOf, held}
+use Rattle.query.specs.Holder.{first, second, Holder}
 use Rattle.query.specs.declared.holders.Seat.{Seat}
 
 abbrev pub holderIs : Seat → Holder

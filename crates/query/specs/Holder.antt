@@ -1,10 +1,10 @@
 -- Of two sets, the first basic set that holds a point (document 01, "Asking").
-use mathlib.Core.Bool.{Bool, true, false, cond}
+use mathlib.Core.Bool.{cond}
 use mathlib.Core.List.{List, [], _∷_}
 use Prim.Native.Nat.{ℕ, zero, suc}
 use lib.IntN.{ℤ}
 use lib.ListN.{take}
-use Rattle.model.specs.Sets.{BasicSet, Set, inBasic}
+use Rattle.model.specs.Sets.{Set, inBasic}
 use Rattle.codec.specs.Bytes.{Answer, refused, gives, decode}
 use Rattle.codec.specs.Parts.{Part, partOf}
 use Rattle.query.specs.Search.{pointFits}

@@ -1,24 +1,20 @@
 -- What the code knows on its way through the checked bytes of a set, and what its answers mean.
 use mathlib.Core.Path.{_≡_}
 use mathlib.Core.Bool.{Bool, true, false, _&&_, _||_}
-use mathlib.Core.List.{List, [], _∷_}
+use mathlib.Core.List.{List}
 use Prim.Native.Nat.{ℕ, _+_, _*_, _≤_}
 use lib.Dec.{ltb}
-use lib.IntN.{ℤ, pos}
-use lib.ListN.{length, take, drop, getD}
-use Rattle.integers.specs.Z.{Within}
+use lib.IntN.{ℤ}
+use lib.ListN.{length, take, drop}
 use Rattle.model.specs.Lists.{all}
 use Rattle.model.specs.Sets.{Constraint, BasicSet, isZero, quotients}
 use Rattle.query.specs.Search.{coordinate}
-use Rattle.codec.specs.Bytes.{Answer, refused, gives, Counts}
-use Rattle.codec.specs.Places.{built, basicAt, endOf, Checked, Accepted}
+use Rattle.codec.specs.Bytes.{Answer, refused, gives}
+use Rattle.codec.specs.Places.{built, basicAt, endOf}
+pub use Rattle.bounds.specs.Ends.{AllWithin, Tail}
 use Rattle.query.specs.declared.membership.Span.{Span}
 use Rattle.query.specs.declared.membership.Membership.{Membership}
 use Rattle.query.specs.declared.membership.Membership.the-variants.{In, Out, Refused}
-
--- every element is at most n in size
-pub record AllWithin (n : ℕ) (xs : List ℤ) : Type 0 where
-  pub at : (i : ℕ) → Within n (getD xs i (pos 0))
 
 -- a point as the code has it: whole numbers for the axes, none beyond the range of a coordinate
 pub record Point (x : List ℤ) : Type 0 where
@@ -29,13 +25,6 @@ pub record Point (x : List ℤ) : Type 0 where
 pub record Values (q : List ℤ) : Type 0 where
   pub few : length q ≤ 8
   pub values : AllWithin 549755813888 q
-
--- at a place of checked bytes where the divisions of a basic set are past
-pub record Tail (s : List ℕ) (at : ℕ) : Type 0 where
-  pub n : ℕ
-  pub k : Counts
-  pub here : Checked n s at k
-  pub none : built (drop at s) .divisions ≡ []
 
 -- q begins with the values of the r divisions from a place on
 pub record Divided (s : List ℕ) (start : ℕ) (x q : List ℤ) (r : ℕ) : Type 0 where

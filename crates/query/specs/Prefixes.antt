@@ -7,7 +7,7 @@ use mathlib.Core.Option.{Option, none, some}
 use Prim.Native.Nat.{ℕ, zero, suc}
 use lib.IntN.{ℤ, pos, _+ℤ_}
 use Rattle.model.specs.Sets.{Set}
-use Rattle.query.specs.Search.{Interval, passes, width, Walk, walk}
+use Rattle.query.specs.Search.{Interval, passes, width, walk}
 
 -- p with each of k values upward from x; below one that passes its own, and nothing more once a point is found
 abbrev pub testsFrom : (ℤ → Bool) → (ℤ → Option (List ℤ)) → (ℤ → List (List ℤ)) → List ℤ → ℕ → ℤ → List (List ℤ)

@@ -1,54 +1,16 @@
 -- Member and the first-point search (document 01, "Asking").
-use mathlib.Core.Bool.{Bool, true, false, not, _&&_, _||_, cond}
+use mathlib.Core.Bool.{Bool, true, false, _&&_, cond}
 use mathlib.Core.List.{List, [], _∷_, _++_, map}
 use mathlib.Core.Option.{Option, none, some}
 use Prim.Native.Nat.{ℕ, zero, suc, _+_}
-use lib.IntN.{ℤ, pos, negsuc, natAbs, _+ℤ_, _-ℤ_, _*ℤ_}
+use lib.IntN.{ℤ, pos, negsuc, natAbs, _+ℤ_, _-ℤ_}
 use lib.Dec.{leb, ltb}
-use lib.Signed.{nonNeg, leZ}
-use lib.ListN.{take, drop}
+use lib.Signed.{leZ}
+use lib.ListN.{take}
 use Rattle.model.specs.Lists.{all, any}
-use Rattle.model.specs.Sets.{Division, Kind, equality, inequality, Constraint, BasicSet, Set, absent, floorDiv, inSet}
+use Rattle.model.specs.Sets.{Set, absent, inSet}
 use Rattle.codec.specs.Bytes.{Answer, refused, gives, decode, within}
-
--- a side of a box: from low to high
-pub record Interval : Type 0 where
-  pub low : ℤ
-  pub high : ℤ
-
--- ---- the least and the greatest value of an expression over intervals, each axis and division by itself
-
-abbrev pub only : ℤ → Interval
-only z = record { low = z; high = z }
-
-abbrev pub plus : Interval → Interval → Interval
-plus s t = record { low = s .low +ℤ t .low; high = s .high +ℤ t .high }
-
-abbrev pub times : ℤ → Interval → Interval
-times a s = record { low = a *ℤ cond (nonNeg a) (s .low) (s .high); high = a *ℤ cond (nonNeg a) (s .high) (s .low) }
-
-abbrev pub dotSides : List ℤ → List Interval → Interval
-dotSides [] ss = only (pos 0)
-dotSides (a ∷ us) [] = only (pos 0)
-dotSides (a ∷ us) (s ∷ ss) = plus (times a s) (dotSides us ss)
-
--- "each division the floors of its numerator's least and greatest value"
-abbrev pub quotientSide : List Interval → Division → Interval
-quotientSide ss e =
-    let n : Interval = plus (only (e .constant)) (dotSides (e .axes) ss) in
-    record { low = floorDiv (n .low) (e .divisor); high = floorDiv (n .high) (e .divisor) }
-
-abbrev pub valueSide : List Interval → List Interval → Constraint → Interval
-valueSide xs qs r = plus (only (r .constant)) (plus (dotSides (r .axes) xs) (dotSides (r .divisions) qs))
-
--- a value between the two can be = 0, or ≥ 0
-abbrev pub canMeet : Kind → Interval → Bool
-canMeet equality s = leZ (s .low) (pos 0) && nonNeg (s .high)
-canMeet inequality s = nonNeg (s .high)
-
--- every constraint (rule) of a basic set can still hold, each judged by itself
-abbrev pub canHold : List Interval → BasicSet → Bool
-canHold xs b = all (λ (r : Constraint). canMeet (r .kind) (valueSide xs (map (quotientSide xs) (b .divisions)) r)) (b .constraints)
+pub use Rattle.bounds.specs.Intervals.{Interval, only, plus, times, dotSides, quotientSide, valueSide, canMeet, canHold, boxOf}
 
 -- "A prefix passes if in some basic set every rule can still hold": the prefix p is fixed, the sides ss are open
 abbrev pub passes : Set → List ℤ → List Interval → Bool
@@ -121,11 +83,6 @@ memberBytes n a x = onSet (decode n a)
     onSet : Answer Set → Answer Bool
     onSet (refused m) = refused m
     onSet (gives s) = cond (pointFits n x) (gives (inSet (take n x) s)) (refused 12)
-
-abbrev pub boxOf : List ℤ → List ℤ → List Interval
-boxOf [] hs = []
-boxOf (l ∷ ls) [] = []
-boxOf (l ∷ ls) (h ∷ hs) = record { low = l; high = h } ∷ boxOf ls hs
 
 -- 12 of a box: the lows, the highs, "low over high"
 abbrev pub boxFits : ℕ → List ℤ → List ℤ → Bool

@@ -26,15 +26,6 @@ pub enum Membership {
     Refused(u32),
 }
 
-pub fn is_constraint(b: u8) -> bool
-    ensures { λ r. ⌜ r ≡ (eqb b 19 || eqb b 20) ⌝ }
-{
-    if b == 19 {
-        return true;
-    }
-    b == 20
-}
-
 // The values of the divisions of the basic set whose commands start at `start`, and how many they are.
 fn divided(s: &[u8], start: usize, x: &[i64], q: &mut [i64]) -> usize
     requires { ⌜ Opened (now s) start × Point (now x) × (length (now q) ≡ 8) × AllWithin 549755813888 (now q) ⌝ }
@@ -70,7 +61,7 @@ fn judged(s: &[u8], start: usize, x: &[i64], q: &[i64]) -> Span
 {
     let mut at = start;
     let mut holds = true;
-    while is_constraint(codec::code(s, at)) {
+    while bounds::is_constraint(codec::code(s, at)) {
         let b = codec::code(s, at);
         let t = codec::tail(s, at + 1);
         holds = still(holds, b, t, x, q);
@@ -82,18 +73,12 @@ fn judged(s: &[u8], start: usize, x: &[i64], q: &[i64]) -> Span
     }
 }
 
-pub fn no_values() -> [i64; 8]
-    ensures { λ r. ⌜ (length r ≡ 8) × AllWithin 549755813888 r ⌝ }
-{
-    [0i64; 8]
-}
-
 // The basic set whose commands start at `start`.
 fn spanned(s: &[u8], start: usize, x: &[i64]) -> Span
     requires { ⌜ Opened (now s) start × Point (now x) ⌝ }
     ensures { λ r. ⌜ Spanned (now (s .entry)) start (M.inBasic (now (x .entry))) r ⌝ }
 {
-    let mut q = no_values();
+    let mut q = bounds::no_values();
     let d = divided(s, start, x, &mut q);
     judged(s, start + 23 * d, x, &q[..d])
 }

@@ -1,27 +1,22 @@
 // The first point of a set in a box: prefixes in dictionary order, each axis upward, below those only that can still hold.
 ghost use mathlib.Core.Path.{_≡_};
-ghost use mathlib.Core.Bool.{cond, _&&_};
+ghost use mathlib.Core.Bool.{false};
 ghost use mathlib.Core.List.{[]};
-ghost use Prim.Native.Nat.{ℕ, _+_, _*_, _≤_, _<_};
-ghost use lib.IntN.{ℤ, pos, natAbs, _+ℤ_, _-ℤ_, _*ℤ_};
-ghost use lib.Signed.{nonNeg, _≤ℤ_};
+ghost use Prim.Native.Nat.{ℕ, _+_, _≤_, _<_};
+ghost use lib.IntN.{ℤ, pos, natAbs, _+ℤ_, _-ℤ_};
+ghost use lib.Signed.{_≤ℤ_};
 ghost use lib.ListN.{length, take, drop, getD, set};
-ghost use Rattle.integers.specs.Z.{Within};
 ghost use Rattle.model.specs.Lists.{all, any};
-ghost use Rattle.model.specs.Sets.{floorDiv};
 ghost use Rattle.codec.specs.Bytes as B;
-ghost use Rattle.codec.specs.Bytes.{signedList, readDivision, readConstraint, kindOf};
-ghost use Rattle.codec.specs.Places.{Opened, Accepted, setFrom};
+ghost use Rattle.codec.specs.Places.{basicAt, Accepted, setFrom};
+ghost use Rattle.bounds.specs.Ends.{Ends};
+ghost use Rattle.bounds.specs.Rows.{startOf, Row, Told};
 ghost use Rattle.query.specs.Search.{boxOf, canHold, walk, boxFits, searchBytes, Tallied};
-ghost use Rattle.query.specs.Holding.{AllWithin, Tail, Judged, Spanned};
-ghost use Rattle.query.specs.Sides.{best, Ends, Bounded, canStand, sidesOf, Standing, limited, trailOf, padded, ordered, Boxed, answerOf};
-use crate::membership::Span;
-use crate::membership::is_constraint;
-use crate::membership::no_values;
+ghost use Rattle.query.specs.Holding.{AllWithin};
+ghost use Rattle.query.specs.Sides.{sidesOf, Standing, limited, trailOf, padded, ordered, Boxed, answerOf};
+ghost use Rattle.query.specs.Live.{Rows, Live, Tested, Laid};
 use crate::membership::point_fits;
 use crate::membership::widened;
-use crate::values::s16_at;
-use crate::values::s32_at;
 
 pub enum Outcome {
     At,
@@ -50,163 +45,101 @@ pub struct Sides {
     pub high: [i64; 8],
 }
 
-// A coefficient times the end that makes it greatest, for a side from v to u.
-fn term(a: i64, u: i64, v: i64) -> i64
-    requires { ⌜ Within 32768 a × Within 2199023255552 u × Within 2199023255552 v ⌝ }
-    ensures { λ r. ⌜ r ≡ a *ℤ cond (nonNeg a) u v ⌝ }
-{
-    if 0 <= a {
-        return a * u;
-    }
-    a * v
-}
-
-// A number, and the greatest sum of the coefficients from p on times the sides from v to u.
-fn extreme(t: &[u8], p: usize, u: &[i64], v: &[i64], from: i64) -> i64
-    requires { ⌜ (p + 16 ≤ length (now t)) × Ends (now u) (now v) 2199023255552 × Within 2199023255552 from ⌝ }
-    ensures is { λ r. ⌜ r ≡ from +ℤ best (signedList 8 (drop p (now (t .entry)))) (now (u .entry)) (now (v .entry)) ⌝ }
-    ensures size { λ r. ⌜ ((F B : ℕ) → Within F from → AllWithin B (now (u .entry)) → AllWithin B (now (v .entry)) → Within (F + 8 * (32768 * B)) r) ⌝ }
-{
-    let mut s = from;
-    let mut i = 0;
-    let mut q = p;
-    while i < u.len() {
-        s += term(s16_at(t, q), u[i], v[i]);
-        q += 2;
-        i += 1;
-    }
-    s
-}
-
-// The floor of the greatest value of the numerator of the division whose bytes after the first are t; with u and v exchanged of the least.
-fn end_at(t: &[u8], u: &[i64], v: &[i64]) -> i64
-    requires { ⌜ (22 ≤ length (now t)) × (0 < readDivision (now t) .divisor) × Ends (now u) (now v) 1048576 ⌝ }
-    ensures is { λ r. ⌜ r ≡ floorDiv (readDivision (now (t .entry)) .constant +ℤ best (readDivision (now (t .entry)) .axes) (now (u .entry)) (now (v .entry))) (readDivision (now (t .entry)) .divisor) ⌝ }
-    ensures size { λ r. ⌜ Within 549755813888 r ⌝ }
-{
-    let c = s32_at(t, 2);
-    let e = extreme(t, 6, u, v, c);
-    let d = integers::u16_at(t, 0);
-    integers::floor_div(e, d as i64)
-}
-
-// The ends of the values of the divisions of the basic set whose commands start at `start`, and how many they are.
-fn bounded(
+// Whether the basic set of row r can hold over the sides; `before`: whether it can over sides around them.
+fn still_open(
     s: &[u8],
-    start: usize,
-    low: &[i64],
-    high: &[i64],
-    ql: &mut [i64],
-    qh: &mut [i64],
-) -> usize
-    requires { ⌜ Opened (now s) start × Ends (now low) (now high) 1048576 × (length (now ql) ≡ 8) × AllWithin 549755813888 (now ql) × (length (now qh) ≡ 8) × AllWithin 549755813888 (now qh) ⌝ }
-    ensures { λ d. ⌜ Bounded (now (s .entry)) start (boxOf (now (low .entry)) (now (high .entry))) (now (ql .exit)) (now (qh .exit)) d ⌝ }
-{
-    let mut at = start;
-    let mut d = 0;
-    while codec::code(s, at) == 18 {
-        let t = codec::tail(s, at + 1);
-        let l = end_at(t, low, high);
-        let h = end_at(t, high, low);
-        ql[d] = l;
-        qh[d] = h;
-        d += 1;
-        at += 23;
-    }
-    d
-}
-
-// Whether the constraint whose command is b and whose bytes after it are t can hold.
-fn can_meet(b: u8, t: &[u8], low: &[i64], high: &[i64], ql: &[i64], qh: &[i64]) -> bool
-    requires { ⌜ (36 ≤ length (now t)) × Ends (now low) (now high) 1048576 × Ends (now ql) (now qh) 549755813888 ⌝ }
-    ensures { λ r. ⌜ r ≡ canStand (boxOf (now (low .entry)) (now (high .entry))) (boxOf (now (ql .entry)) (now (qh .entry))) (readConstraint (kindOf b) (now (t .entry))) ⌝ }
-{
-    let c = s32_at(t, 0);
-    let g = extreme(t, 4, high, low, c);
-    let h = extreme(t, 20, qh, ql, g);
-    if h < 0 {
-        return false;
-    }
-    if b == 19 {
-        let f = extreme(t, 4, low, high, c);
-        let l = extreme(t, 20, ql, qh, f);
-        return l <= 0;
-    }
-    true
-}
-
-// One constraint more, unless one cannot hold.
-fn can_still(
     before: bool,
-    b: u8,
-    t: &[u8],
+    k: usize,
     low: &[i64],
     high: &[i64],
-    ql: &[i64],
-    qh: &[i64],
+    r: &mut [i64; 129],
 ) -> bool
-    requires { ⌜ (36 ≤ length (now t)) × Ends (now low) (now high) 1048576 × Ends (now ql) (now qh) 549755813888 ⌝ }
-    ensures { λ r. ⌜ r ≡ (before && canStand (boxOf (now (low .entry)) (now (high .entry))) (boxOf (now (ql .entry)) (now (qh .entry))) (readConstraint (kindOf b) (now (t .entry)))) ⌝ }
+    requires { ⌜ Row (now s) (length (now low)) (now r) × Ends (now low) (now high) 1048576 × (k < length (now low)) × (before ≡ false → canHold (boxOf (now low) (now high)) (basicAt (now s) (startOf (now r))) ≡ false) ⌝ }
+    ensures { λ x. ⌜ Told (now (s .entry)) (now (low .entry)) (now (high .entry)) (now (r .entry)) (now (r .exit)) x ⌝ }
 {
     if before {
-        return can_meet(b, t, low, high, ql, qh);
+        return bounds::can_hold(s, k, low, high, r);
     }
     false
 }
 
-// Whether each constraint from `start` on can hold, and the place after them.
-fn open(s: &[u8], start: usize, low: &[i64], high: &[i64], ql: &[i64], qh: &[i64]) -> Span
-    requires { ⌜ Tail (now s) start × Ends (now low) (now high) 1048576 × Ends (now ql) (now qh) 549755813888 ⌝ }
-    ensures { λ r. ⌜ Judged (now (s .entry)) start (canStand (boxOf (now (low .entry)) (now (high .entry))) (boxOf (now (ql .entry)) (now (qh .entry)))) r ⌝ }
+// Whether some basic set can hold over the sides; `live` has those that can over sides around them.
+fn passes(
+    s: &[u8],
+    k: usize,
+    low: &[i64],
+    high: &[i64],
+    live: [bool; 32],
+    rows: &mut [[i64; 129]],
+) -> bool
+    requires { ⌜ Rows (now s) (length (now low)) (now rows) × Ends (now low) (now high) 1048576 × (k < length (now low)) × Live (now s) (boxOf (now low) (now high)) live ⌝ }
+    ensures is { λ r. ⌜ r ≡ any (canHold (boxOf (now (low .entry)) (now (high .entry)))) (setFrom (now (s .entry)) 0) ⌝ }
+    ensures rows { λ _. ⌜ Rows (now (s .entry)) (length (now (low .entry))) (now (rows .exit)) ⌝ }
 {
-    let mut at = start;
-    let mut so = true;
-    while is_constraint(codec::code(s, at)) {
-        let b = codec::code(s, at);
-        let t = codec::tail(s, at + 1);
-        so = can_still(so, b, t, low, high, ql, qh);
-        at += 37;
-    }
-    Span {
-        holds: so,
-        next: at,
-    }
-}
-
-// The basic set whose commands start at `start`.
-fn can_hold(s: &[u8], start: usize, low: &[i64], high: &[i64]) -> Span
-    requires { ⌜ Opened (now s) start × Ends (now low) (now high) 1048576 ⌝ }
-    ensures { λ r. ⌜ Spanned (now (s .entry)) start (canHold (boxOf (now (low .entry)) (now (high .entry)))) r ⌝ }
-{
-    let mut ql = no_values();
-    let mut qh = no_values();
-    let d = bounded(s, start, low, high, &mut ql, &mut qh);
-    open(s, start + 23 * d, low, high, &ql[..d], &qh[..d])
-}
-
-// Whether some basic set can hold over the sides.
-fn passes(s: &[u8], low: &[i64], high: &[i64]) -> bool
-    requires { ⌜ Accepted (now s) × Ends (now low) (now high) 1048576 ⌝ }
-    ensures { λ r. ⌜ r ≡ any (canHold (boxOf (now (low .entry)) (now (high .entry)))) (setFrom (now (s .entry)) 0) ⌝ }
-{
-    let mut at = 0;
-    while at < s.len() {
-        let e = can_hold(s, at + 1, low, high);
-        if e.holds {
+    let mut b = 0;
+    while b < rows.len() {
+        let o = live[b];
+        if still_open(s, o, k, low, high, &mut rows[b]) {
             return true;
         }
-        at = e.next;
+        b += 1;
     }
     false
 }
 
-fn passes_at(s: &[u8], n: usize, low: [i64; 8], high: [i64; 8]) -> bool
-    requires { ⌜ Accepted (now s) × (n ≤ 8) × (length low ≡ 8) × (length high ≡ 8) × AllWithin 1048576 low × AllWithin 1048576 high ⌝ }
-    ensures { λ r. ⌜ r ≡ any (canHold (sidesOf n low high)) (setFrom (now (s .entry)) 0) ⌝ }
+// Which of the live basic sets can.
+fn narrowed(
+    s: &[u8],
+    k: usize,
+    low: &[i64],
+    high: &[i64],
+    live: [bool; 32],
+    rows: &mut [[i64; 129]],
+) -> [bool; 32]
+    requires { ⌜ Rows (now s) (length (now low)) (now rows) × Ends (now low) (now high) 1048576 × (k < length (now low)) × Live (now s) (boxOf (now low) (now high)) live ⌝ }
+    ensures is { λ r. ⌜ Live (now (s .entry)) (boxOf (now (low .entry)) (now (high .entry))) r ⌝ }
+    ensures rows { λ _. ⌜ Rows (now (s .entry)) (length (now (low .entry))) (now (rows .exit)) ⌝ }
+{
+    let mut kept = live;
+    let mut b = 0;
+    while b < rows.len() {
+        let o = live[b];
+        let c = still_open(s, o, k, low, high, &mut rows[b]);
+        kept[b] = c;
+        b += 1;
+    }
+    kept
+}
+
+// Whether a basic set can hold over a box, and which can.
+pub struct Opening {
+    pub any: bool,
+    pub live: [bool; 32],
+}
+
+// `live` has those that can over a box around it.
+fn opened(
+    s: &[u8],
+    n: usize,
+    k: usize,
+    low: [i64; 8],
+    high: [i64; 8],
+    live: [bool; 32],
+    rows: &mut [[i64; 129]],
+) -> Opening
+    requires { ⌜ Rows (now s) n (now rows) × (n ≤ 8) × (k < n) × (length low ≡ 8) × (length high ≡ 8) × AllWithin 1048576 low × AllWithin 1048576 high × Live (now s) (sidesOf n low high) live ⌝ }
+    ensures { λ r. ⌜ Tested (now (s .entry)) n (sidesOf n low high) (now (rows .exit)) r ⌝ }
 {
     let l = low;
     let h = high;
-    passes(s, &l[..n], &h[..n])
+    if passes(s, k, &l[..n], &h[..n], live, rows) {
+        let w = narrowed(s, k, &l[..n], &h[..n], live, rows);
+        return Opening { any: true, live: w };
+    }
+    Opening {
+        any: false,
+        live: live,
+    }
 }
 
 // How far the side of axis k goes.
@@ -241,17 +174,21 @@ fn zeros() -> [i64; 8]
 }
 
 // The walk below a prefix of k numbers: on its axes low and high are the same.
+// `live` has the basic sets that can hold over the box, `rows` a row of ends for each basic set, over whatever box it was last asked.
 fn level(
     s: &[u8],
     n: usize,
     k: usize,
     low: [i64; 8],
     high: [i64; 8],
+    live: [bool; 32],
     tested: u32,
     limit: u32,
+    rows: &mut [[i64; 129]],
 ) -> Trail
-    requires { ⌜ Standing (now s) n k low high × (tested ≤ limit) ⌝ }
-    ensures { λ r. ⌜ r ≡ trailOf (limited limit tested (walk (setFrom (now (s .entry)) 0) (take k low) (drop k (sidesOf n low high)))) ⌝ }
+    requires { ⌜ Standing (now s) n k low high × (tested ≤ limit) × Live (now s) (sidesOf n low high) live × Rows (now s) n (now rows) ⌝ }
+    ensures rows { λ _. ⌜ Rows (now (s .entry)) n (now (rows .exit)) ⌝ }
+    ensures is { λ r. ⌜ r ≡ trailOf (limited limit tested (walk (setFrom (now (s .entry)) 0) (take k low) (drop k (sidesOf n low high)))) ⌝ }
 {
     let span = span_of(low, high, k);
     let z = zeros();
@@ -269,7 +206,8 @@ fn level(
         let f = fixed(low, high, k, i);
         let l = f.low;
         let h = f.high;
-        if passes_at(s, n, l, h) {
+        let o = opened(s, n, k, l, h, live, rows);
+        if o.any {
             if k + 1 == n {
                 return Trail {
                     way: 1,
@@ -277,7 +215,8 @@ fn level(
                     tested: t,
                 };
             }
-            let r = level(s, n, k + 1, l, h, t, limit);
+            let w = o.live;
+            let r = level(s, n, k + 1, l, h, w, t, limit, rows);
             if r.way != 0 {
                 return r;
             }
@@ -320,6 +259,21 @@ fn box_fits(n: usize, low: [i32; 8], high: [i32; 8]) -> bool
     sides_fit(low, high)
 }
 
+// The rows of the basic sets, and how many they are.
+fn laid(s: &[u8], rows: &mut [[i64; 129]]) -> usize
+    requires { ⌜ Accepted (now s) × (length (now rows) ≡ 32) ⌝ }
+    ensures { λ count. ⌜ Laid (now (s .entry)) (now (rows .exit)) count ⌝ }
+{
+    let mut at = 0;
+    let mut b = 0;
+    while at < s.len() {
+        rows[b] = bounds::fresh(at + 1);
+        at = codec::end_of(s, at + 1);
+        b += 1;
+    }
+    b
+}
+
 // The walk of checked bytes over a box that fits.
 fn walked(n: usize, s: &[u8], low: [i32; 8], high: [i32; 8], limit: u32) -> Trail
     requires { ⌜ Boxed n (now s) low high ⌝ }
@@ -327,7 +281,9 @@ fn walked(n: usize, s: &[u8], low: [i32; 8], high: [i32; 8], limit: u32) -> Trai
 {
     let l = widened(low);
     let h = widened(high);
-    level(s, n, 0, l, h, 0, limit)
+    let mut rows = [[0i64; 129]; 32];
+    let count = laid(s, &mut rows);
+    level(s, n, 0, l, h, [true; 32], 0, limit, &mut rows[..count])
 }
 
 fn refused(m: u32) -> FirstPoint

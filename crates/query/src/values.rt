@@ -8,22 +8,6 @@ ghost use Rattle.model.specs.Sets.{dot, quotient, value, holds, Kind};
 ghost use Rattle.codec.specs.Bytes.{valueOf, signed, signedList, readDivision, readConstraint, kindOf};
 ghost use Rattle.query.specs.Holding.{AllWithin};
 
-pub fn s16_at(t: &[u8], p: usize) -> i64
-    requires { ⌜ p + 2 ≤ length (now t) ⌝ }
-    ensures is { λ r. ⌜ r ≡ signed 2 (valueOf (take 2 (drop p (now (t .entry))))) ⌝ }
-    ensures size { λ r. ⌜ Within 32768 r ⌝ }
-{
-    integers::i16_at(t, p) as i64
-}
-
-pub fn s32_at(t: &[u8], p: usize) -> i64
-    requires { ⌜ p + 4 ≤ length (now t) ⌝ }
-    ensures is { λ r. ⌜ r ≡ signed 4 (valueOf (take 4 (drop p (now (t .entry))))) ⌝ }
-    ensures size { λ r. ⌜ Within 2147483648 r ⌝ }
-{
-    integers::i32_at(t, p) as i64
-}
-
 // The sum of the products of the coefficients from p on and the numbers x.
 fn dot_at(t: &[u8], p: usize, x: &[i64]) -> i64
     requires { ⌜ (p + 16 ≤ length (now t)) × (length (now x) ≤ 8) × AllWithin 549755813888 (now x) ⌝ }
@@ -34,7 +18,7 @@ fn dot_at(t: &[u8], p: usize, x: &[i64]) -> i64
     let mut i = 0;
     let mut q = p;
     while i < x.len() {
-        s += s16_at(t, q) * x[i];
+        s += bounds::s16_at(t, q) * x[i];
         q += 2;
         i += 1;
     }
@@ -47,7 +31,7 @@ pub fn quotient_at(t: &[u8], x: &[i64]) -> i64
     ensures is { λ r. ⌜ r ≡ quotient (now (x .entry)) (readDivision (now (t .entry))) ⌝ }
     ensures size { λ r. ⌜ Within 549755813888 r ⌝ }
 {
-    let c = s32_at(t, 2) + dot_at(t, 6, x);
+    let c = bounds::s32_at(t, 2) + dot_at(t, 6, x);
     let d = integers::u16_at(t, 0);
     integers::floor_div(c, d as i64)
 }
@@ -58,7 +42,7 @@ pub fn value_at(t: &[u8], x: &[i64], q: &[i64]) -> i64
     ensures { λ r. ⌜ ((k : Kind) → r ≡ value (pos 1) (now (x .entry)) (now (q .entry)) (readConstraint k (now (t .entry)))) ⌝ }
 {
     let a = dot_at(t, 4, x) + dot_at(t, 20, q);
-    s32_at(t, 0) + a
+    bounds::s32_at(t, 0) + a
 }
 
 // Whether the constraint whose command is b and whose bytes after it are t holds there.

@@ -1,10 +1,10 @@
 -- The test of one basic set of a set's bytes. Assumes nothing.
-use mathlib.Core.Path.{_≡_, refl, sym, ap, ap₂, _∙_, subst}
-use mathlib.Core.List.{List, [], _∷_}
-use mathlib.Core.Option.{Option, none, some}
+use mathlib.Core.Path.{_≡_, refl, sym, ap, ap₂, _∙_}
+use mathlib.Core.List.{List}
+use mathlib.Core.Option.{some}
 use Prim.Native.Nat.{ℕ, zero, suc, _+_, _-_, _≤_, _<_}
 use native.Mathlib.Omega.{arith}
-use lib.ListN.{length, drop}
+use lib.ListN.{length}
 use Rattle.model.specs.Sets as S
 use Rattle.model.specs.Sets.{Set}
 use Rattle.model.specs.Values.{basicSetOf}
@@ -16,7 +16,7 @@ use Rattle.codec.proofs.Boundaries.{decode-is, boundary-end, boundary-opened, t
 use Rattle.simplex.specs.Tableau as T
 use Rattle.simplex.specs.declared.Ended.{Ended}
 use Rattle.simplex.specs.declared.Tested.the-variants.{Refused, NoSuchSet, Answers}
-use Rattle.simplex.specs.Answers.{verdictOf, Tests, foremost, numbered, tested, testIn, testBytes, testedOf}
+use Rattle.simplex.specs.Answers.{Tests, foremost, numbered, tested, testIn, testBytes, testedOf}
 use Rattle.simplex.specs.Table.{Valid}
 
 pub asked-refused : (n : ℕ) (s : List ℕ) (k r : ℕ) → r ≡ number (decode n s) → (r ≡ 0 → ⊥) → testedOf (Refused r) ≡ testBytes n s k

@@ -11,25 +11,26 @@ use borrow.Author.Tests.{lt-ltb, le-ltb, eqb-true, eqb-false}
 use lib.Dec.{T, ltb, leb, eqb, ltb→lt, lt→ltb}
 use lib.ListN.{length, getD, set, length-set, length-map}
 use lib.Seq.{getD-set-same, getD-set-other}
-use lib.IntN.{ℤ, pos, negsuc, negℤ, natAbs, _*ℤ_, *ℤ-zero, *ℤ-comm}
+use lib.IntN.{ℤ, pos, negsuc, natAbs, _*ℤ_, *ℤ-zero, *ℤ-comm}
 use lib.Signed.{nonNeg, ltZ, _<ℤ_}
-use Rattle.integers.specs.Order.{mul-neg-pos, mul-pos-pos}
+use Rattle.integers.specs.Order.{mul-neg-pos}
 use Rattle.integers.specs.Part.{lt-or-le}
 use Rattle.model.specs.Sets.{Kind, equality, inequality, isZero}
 use Rattle.model.specs.Lists.{all}
 use Rattle.model.proofs.Count.{from-T, to-T}
 use Rattle.simplex.specs.Tableau as T
-use Rattle.simplex.specs.Tableau.{Row, Tableau, bound, constantOf, violates, helps, lowest, violatedRows, helpfulCols, exchange, look, row, column, run, pivots, noneViolated, noneHelps, pivot, solved, replaced, noRow, when}
+use Rattle.simplex.specs.Tableau.{Row, Tableau, bound, constantOf, violates, helps, lowest, violatedRows, helpfulCols, exchange, look, row, column, run, pivots, noneViolated, noneHelps, pivot, solved, replaced, noRow}
 use Rattle.simplex.specs.declared.Verdict.{Verdict}
 use Rattle.simplex.specs.declared.Verdict.the-variants.{Point, Dropped, Long, Wide}
 use Rattle.simplex.specs.declared.Move.the-variants.{Stop, Pivot}
 use Rattle.simplex.specs.Answers.{verdictOf}
-use Rattle.simplex.specs.Table.{columnOf, standing, numberAt, layout, kindNumber, den, solveRow, rebuildRow, minusRow, exchangeRows, exchangeBy, narrowRow, narrowRows, first, violatedBy, violatedAt, violated, helpsBy, helpsAt, helping, moveOf, pivotRows, pivotPlace, Ending, runTable}
+use Rattle.tableau.specs.Rows.{den, solveRow, rebuildRow, exchangeRows, exchangeBy, narrowRows, first, violatedBy, violatedAt, violated, helpsBy, helpsAt, helping}
+use Rattle.simplex.specs.Table.{columnOf, standing, numberAt, layout, kindNumber, moveOf, pivotRows, pivotPlace, Ending, runTable}
 use Rattle.simplex.proofs.Exchange as X
 use Rattle.simplex.proofs.Exchange.{Shape, Shaped, shape-at, exchange-shaped}
 use Rattle.simplex.proofs.Points.{replaced-at, calm-at}
-use Rattle.simplex.proofs.Verdicts.{rowVar, colVar, Violated, Lowest, lowest-some, lowest-none, lowest-least, found-row, listed-row, found-col, listed-col, helps-nonzero, zero-calm, tail-entry}
-use Rattle.simplex.proofs.Shown.{column-in, standing-column, lay-at, lay-entry, solve-shows, rebuild-shows, narrow-shows}
+use Rattle.simplex.proofs.Verdicts.{rowVar, colVar, Violated, lowest-some, lowest-none, lowest-least, found-row, listed-row, found-col, listed-col, helps-nonzero, zero-calm, tail-entry}
+use Rattle.simplex.proofs.Shown.{standing-column, lay-at, lay-entry, solve-shows, rebuild-shows, narrow-shows}
 use Rattle.simplex.proofs.Moves.{choose-point, choose-dropped, choose-long, choose-last, run-stop, run-more, pivot-length}
 
 -- ---- what a table shows
@@ -88,7 +89,7 @@ module _ (k : ℕ) (i j : ℕ) (t : Tableau) (p : X.Pivot i j t) (rows : List (L
   abbrev q : List ℤ
   q = layout k (solved r j c)
 
-  rebuilt-are : (rs : List Row) → Shaped (8 + k) rs → map (rebuildRow (columnOf k j) (den q) (set (minusRow q) 0 (pos 0))) (map (layout k) rs) ≡ map (layout k) (map (replaced r j) rs)
+  rebuilt-are : (rs : List Row) → Shaped (8 + k) rs → map (rebuildRow (columnOf k j) (den q) (set q 0 (pos 0))) (map (layout k) rs) ≡ map (layout k) (map (replaced r j) rs)
   rebuilt-are [] sh = refl
   rebuilt-are (u ∷ rs) sh = ap₂ _∷_ (rebuild-shows k (s .few) r j c jin r-shape (p .entry) u (sh .0)) (rebuilt-are rs (sh .1))
 

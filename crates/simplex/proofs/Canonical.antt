@@ -1,21 +1,19 @@
 -- Reduction is canonical: two rows in lowest terms, with positive denominators, that are multiples of one row are equal. Assumes nothing.
 use mathlib.Core.Path.{_≡_, refl, sym, ap, ap₂, _∙_, subst}
-use mathlib.Core.Bool.{Bool, true, false, cond}
 use mathlib.Core.List.{List, [], _∷_, map}
 use mathlib.Core.Logic.{_⊎_, inl, inr, ⊎-elim}
-use Prim.Native.Nat.{ℕ, zero, suc, _+_, _*_, _/_, _≤_, _<_, _∣_, zero-le, suc-le-suc}
-use native.Mathlib.Nat.{dvd-refl, dvd-zero, dvd-trans, dvd-antisymm, dvd-mul-right, dvd-of-mul-dvd-mul-left, mul-dvd-mul-left, mul-div-cancel', pos-of-dvd-of-pos, eq-one-of-dvd-one, le-of-suc-le-suc, not-suc-le-zero, mul-one}
+use Prim.Native.Nat.{ℕ, zero, suc, _+_, _*_, _/_, _<_, _∣_, zero-le, suc-le-suc}
+use native.Mathlib.Nat.{dvd-refl, dvd-zero, dvd-trans, dvd-antisymm, dvd-mul-right, dvd-of-mul-dvd-mul-left, mul-dvd-mul-left, mul-div-cancel', eq-one-of-dvd-one, mul-one}
 use native.Mathlib.Omega.{arith}
-use lib.ListN.{length, getD, set, length-map}
-use lib.IntN.{ℤ, pos, negsuc, negℤ, natAbs, _+ℤ_, _-ℤ_, _*ℤ_, *ℤ-zero}
-use lib.Signed.{_≤ℤ_, _<ℤ_, <ℤ-irrefl}
-use Rattle.integers.specs.Ring.{ring, quote}
-use Rattle.integers.specs.Lin.{le, lt, eq, lin, lia-le, lia-lt, lia-eq, lia-no}
-use Rattle.integers.specs.Order.{mul-pos-pos, mul-zero, trichotomy, sub-pos}
-use Rattle.integers.specs.Size.{natAbs-mul, natAbs-neg, natAbs-zero}
-use Rattle.integers.specs.Gcd.{gcd, gcd-is, gcd-unique, gcdAll, Divides, divides-trans, gcdAll-divides, gcdAll-most}
-use Rattle.simplex.specs.Tableau.{Row, commonDivisor, reduced}
-use Rattle.simplex.specs.Table.{divisorFrom}
+use lib.ListN.{length, getD}
+use lib.IntN.{ℤ, pos, negsuc, negℤ, natAbs, _+ℤ_, _-ℤ_, _*ℤ_}
+use lib.Signed.{_<ℤ_}
+use Rattle.integers.specs.Lin.{lt, eq, lin, lia-eq, lia-no}
+use Rattle.integers.specs.Order.{mul-zero}
+use Rattle.integers.specs.Size.{natAbs-mul, natAbs-zero}
+use Rattle.integers.specs.Gcd.{gcd, gcd-is, gcd-unique, gcdAll, Divides, gcdAll-divides, gcdAll-most}
+use Rattle.simplex.specs.Tableau.{Row, commonDivisor}
+use Rattle.tableau.specs.Rows.{divisorFrom}
 use Rattle.simplex.proofs.Reduce.{euclid-is}
 
 -- c times each number

@@ -2,7 +2,6 @@
 -- 2147483648 it is wide), and a basic set that one pivot settles: the test pivots, and answers wide or long only where the steps say so.
 use mathlib.Core.Path.{_≡_, refl}
 use mathlib.Core.List.{List, [], _∷_}
-use Prim.Native.Nat.{ℕ}
 use lib.IntN.{ℤ, pos, negsuc}
 use Rattle.model.specs.Sets.{inequality, Constraint, BasicSet}
 use Rattle.simplex.specs.Tableau.{point, dropped, wide, bound, testAt, test, run, look, exchange}

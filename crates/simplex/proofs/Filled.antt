@@ -1,10 +1,10 @@
 -- The first table of a basic set shows its first tableau, and what shows a tableau can be run. Assumes nothing.
 use mathlib.Core.Path.{_≡_, refl, sym, ap, ap₂, _∙_, subst}
-use mathlib.Core.Bool.{Bool, true, false, cond}
+use mathlib.Core.Bool.{false, cond}
 use mathlib.Core.List.{List, [], _∷_, _++_, map}
 use mathlib.Core.Option.{Option, none, some}
-use mathlib.Core.Logic.{_⊎_, inl, inr, ⊎-elim}
-use Prim.Native.Nat.{ℕ, zero, suc, _+_, _-_, _*_, _≤_, _<_, zero-le, suc-le-suc}
+use mathlib.Core.Logic.{_⊎_, ⊎-elim}
+use Prim.Native.Nat.{ℕ, zero, suc, _+_, _-_, _*_, _≤_, _<_}
 use native.Mathlib.Nat.{le-of-suc-le-suc, not-suc-le-zero, zero-add}
 use native.Mathlib.Omega.{arith}
 use borrow.Author.Tests.{lt-ltb, le-ltb}
@@ -20,10 +20,11 @@ use Rattle.model.specs.Values.{divisionOf, constraintOf, basicSetOf}
 use Rattle.model.specs.declared.Constraint.{Constraint}
 use Rattle.model.specs.declared.BasicSet.{BasicSet}
 use Rattle.simplex.specs.Tableau as T
-use Rattle.simplex.specs.Tableau.{Tableau, firstRows, from, start, begin, sorts, noRow, pivots, run, testAt, pivotsAt, bound}
+use Rattle.simplex.specs.Tableau.{Tableau, firstRows, start, begin, sorts, noRow, testAt, pivotsAt}
 use Rattle.simplex.specs.declared.Ended.{Ended}
 use Rattle.simplex.specs.Answers.{verdictOf, Tests}
-use Rattle.simplex.specs.Table.{columnOf, standing, numberAt, layout, startRow, placeAt, kindNumber, den, Line, Fine, Valid, Bounded, Ruled, Ran}
+use Rattle.tableau.specs.Rows.{den, Line}
+use Rattle.simplex.specs.Table.{columnOf, standing, numberAt, layout, startRow, placeAt, kindNumber, Fine, Valid, Bounded, Ruled, Ran}
 use Rattle.simplex.specs.Table as Table
 use Rattle.simplex.proofs.Exchange.{Shape, Shaped, shape-at}
 use Rattle.simplex.proofs.Start.{length-from, start-shaped}
@@ -31,7 +32,7 @@ use Rattle.simplex.proofs.Points.{from-at, rows-from}
 use Rattle.simplex.proofs.Verdicts.{rowVar, colVar}
 use Rattle.simplex.proofs.Shown.{lay-at, lay-length, column-in, column-low, column-mid, standing-high}
 use Rattle.simplex.proofs.Fills.{past-end, map-append, map-get}
-use Rattle.simplex.proofs.Bridge.{Named, in-row, in-col, Shows, map-at, Agree, run-shows}
+use Rattle.simplex.proofs.Bridge.{Named, in-row, in-col, Shows, map-at, run-shows}
 
 -- ---- a table that shows a tableau is fine
 
@@ -228,9 +229,51 @@ module _ (k : ℕ) (ds : List S.Division) (cs : List S.Constraint) (len : length
 
 -- ---- what the code has filled
 
-module _ (b : BasicSet) (valid : Valid b) (rows rows₁ rows₂ : List (List ℤ)) (place place′ kinds kinds₁ kinds₂ : List ℕ)
-    (named : Table.Named (b .divs) (8 + b .divs + (2 * b .divs + b .cons)) place place′ kinds kinds₁) (bounded : Bounded b (b .divs) rows rows₁) (ruled : Ruled b (b .cons) rows₁ rows₂ kinds₁ kinds₂)
-    (hr : 64 ≤ length rows) (hp : 80 ≤ length place) (hk : 80 ≤ length kinds) where
+-- the first table, with the rows of n constraints; it was rows₁ and kinds₁ before the first of them
+pub record Filling (b : BasicSet) (n : ℕ) (rows′ : List (List ℤ)) (place′ kinds′ : List ℕ) : Type 0 where
+  pub valid : Valid b
+  pub rows : List (List ℤ)
+  pub rows₁ : List (List ℤ)
+  pub place : List ℕ
+  pub kinds : List ℕ
+  pub kinds₁ : List ℕ
+  pub named : Table.Named (b .divs) (8 + b .divs + (2 * b .divs + b .cons)) place place′ kinds kinds₁
+  pub bounded : Bounded (b .divisions) (b .divs) (b .divs) rows rows₁
+  pub ruled : Ruled b n rows₁ rows′ kinds₁ kinds′
+  pub rows-room : 64 ≤ length rows
+  pub place-room : 80 ≤ length place
+  pub kinds-room : 80 ≤ length kinds
+
+-- there is room for one more
+pub filling-room : (b : BasicSet) (n : ℕ) (rows′ : List (List ℤ)) (place′ kinds′ : List ℕ) → Filling b n rows′ place′ kinds′ → n < b .cons
+    → (2 * b .divs + n < length rows′) × (8 + 3 * b .divs + n < length kinds′) × (n < length (b .constraints))
+filling-room b n rows′ place′ kinds′ f h =
+    let v = f .valid in
+    let d = v .divs in
+    let e = v .cons in
+    let c = v .constraints in
+    let r = f .rows-room in
+    let k = f .kinds-room in
+    let l : length rows′ ≡ length (f .rows) = f .ruled .long ∙ f .bounded .long in
+    let m : length kinds′ ≡ length (f .kinds) = f .ruled .names ∙ f .named .names in
+    (omega arith, omega arith, omega arith)
+
+pub filling-done : (b : BasicSet) (n : ℕ) (rows′ : List (List ℤ)) (place′ kinds′ : List ℕ) → Filling b n rows′ place′ kinds′ → n ≡ b .cons → Filling b (b .cons) rows′ place′ kinds′
+filling-done b n rows′ place′ kinds′ f e = subst (λ i. Filling b i rows′ place′ kinds′) e f
+
+module _ (b : BasicSet) (rows₂ : List (List ℤ)) (place′ kinds₂ : List ℕ) (f : Filling b (b .cons) rows₂ place′ kinds₂) where
+  valid : Valid b
+  valid = f .valid
+
+  named : Table.Named (b .divs) (8 + b .divs + (2 * b .divs + b .cons)) (f .place) place′ (f .kinds) (f .kinds₁)
+  named = f .named
+
+  bounded : Bounded (b .divisions) (b .divs) (b .divs) (f .rows) (f .rows₁)
+  bounded = f .bounded
+
+  ruled : Ruled b (b .cons) (f .rows₁) rows₂ (f .kinds₁) kinds₂
+  ruled = f .ruled
+
   abbrev k : ℕ
   k = b .divs
 
@@ -266,13 +309,13 @@ module _ (b : BasicSet) (valid : Valid b) (rows rows₁ rows₂ : List (List ℤ
       ∙ ap₂ _+_ (bounds-long 0 (B .divisions) ∙ ap (λ i. 2 * i) ds-long) (length-map (take (b .cons) (b .constraints)) constraintOf ∙ length-take-le (b .cons) (b .constraints) (omega arith))
 
   pub rows-taken : length (take m rows₂) ≡ m
-  rows-taken = let w = most in length-take-le m rows₂ (subst (λ i. m ≤ i) (sym (ruled .long ∙ bounded .long)) (omega arith))
+  rows-taken = let w = most in let h = f .rows-room in length-take-le m rows₂ (subst (λ i. m ≤ i) (sym (ruled .long ∙ bounded .long)) (omega arith))
 
   pub place-long : length (take n place′) ≡ n
-  place-long = let w = wide in length-take-le n place′ (subst (λ i. n ≤ i) (sym (named .long)) (omega arith))
+  place-long = let w = wide in let h = f .place-room in length-take-le n place′ (subst (λ i. n ≤ i) (sym (named .long)) (omega arith))
 
   pub kinds-long : length (take n kinds₂) ≡ n
-  kinds-long = let w = wide in length-take-le n kinds₂ (subst (λ i. n ≤ i) (sym (ruled .names ∙ named .names)) (omega arith))
+  kinds-long = let w = wide in let h = f .kinds-room in length-take-le n kinds₂ (subst (λ i. n ≤ i) (sym (ruled .names ∙ named .names)) (omega arith))
 
   shows : Shows k (take m rows₂) (take n place′) (begin B)
   shows =

@@ -2,20 +2,19 @@
 use mathlib.Core.Path.{_≡_, refl, sym, ap, ap₂, _∙_, subst}
 use mathlib.Core.Bool.{Bool, true, false, cond}
 use mathlib.Core.List.{List, [], _∷_, _++_, map, append-assoc}
-use mathlib.Core.Option.{Option, none, some}
-use mathlib.Core.Logic.{_⊎_, inl, inr, ⊎-elim}
-use Prim.Native.Nat.{ℕ, zero, suc, _+_, _-_, _*_, _≤_, _<_, zero-le, suc-le-suc}
+use mathlib.Core.Option.{none, some}
+use mathlib.Core.Logic.{_⊎_, ⊎-elim}
+use Prim.Native.Nat.{ℕ, zero, suc, _+_, _-_, _*_, _≤_, _<_}
 use native.Mathlib.Nat.{le-of-suc-le-suc, not-suc-le-zero, add-zero, zero-add, suc-add, add-suc}
 use native.Mathlib.Numerals.{add-one, add-two}
 use native.Mathlib.Omega.{arith}
-use borrow.Author.Tests.{lt-ltb, le-ltb, eqb-true, eqb-false}
+use borrow.Author.Tests.{eqb-true, eqb-false}
 use lib.Dec.{ltb, eqb}
-use lib.ListN.{length, getD, set, take, replicate, length-set, length-map, length-append, List·getD-append}
+use lib.ListN.{length, getD, set, take, length-set, length-map, length-append, List·getD-append}
 use lib.Seq.{getD-set-same, getD-set-other, getD-append-add, take-suc, take-suc-set, length-take-le}
-use lib.IntN.{ℤ, pos, negsuc, negℤ, natAbs, _+ℤ_, _-ℤ_, _*ℤ_}
+use lib.IntN.{ℤ, pos, negsuc, negℤ, _-ℤ_, _*ℤ_}
 use mir.Syntax.{w16, w32, w64}
-use mir.Val.{SFits, Fits, toZ, ofZ}
-use mir.Facts.{toZ-ofZ}
+use mir.Val.{SFits, toZ}
 use Rattle.integers.specs.Z.{Within}
 use Rattle.integers.specs.Ring.{ring, quote}
 use Rattle.integers.specs.Size.{within-fits, within-mul, within-sub, within-self, fits-within}
@@ -29,8 +28,8 @@ use Rattle.model.specs.declared.Constraint.{Constraint}
 use Rattle.model.specs.declared.BasicSet.{BasicSet}
 use Rattle.simplex.specs.Tableau as T
 use Rattle.simplex.specs.Tableau.{pad}
-use Rattle.simplex.specs.Table.{layout, standing, numberAt, startRow, placeAt, kindNumber, Copied, Started, Named, Bounded, Ruled}
-use Rattle.simplex.proofs.Lines.{zeros, zeros-at, map-zero, within-minus}
+use Rattle.simplex.specs.Table.{numberAt, startRow, placeAt, kindNumber, Copied, Started, Named, Bounded, Ruled}
+use Rattle.tableau.proofs.Lines.{zeros, zeros-at, map-zero, within-minus}
 use Rattle.simplex.proofs.Shown.{standing-low, standing-mid, standing-high, lay-is}
 
 -- ---- numbers of 16 and 32 bits as numbers of 64
@@ -272,16 +271,16 @@ module _ (k i : ℕ) (ds : List Division) (d : Division) (rows : List (List ℤ)
       ∙ ap (map (startRow k)) (sym (bounds-snoc 0 L q))
       ∙ ap (λ u. map (startRow k) (bounds 0 u)) (sym (map-append divisionOf (take i ds) (getD ds i d ∷ [])) ∙ ap (map divisionOf) (sym (take-suc ds i d h) ∙ ap (λ n. take n ds) (sym (add-one i))))
 
-pub bounded-none : (b : BasicSet) (rows : List (List ℤ)) → Bounded b 0 rows rows
-bounded-none b rows = record { long = refl; firsts = refl }
+pub bounded-none : (ds : List Division) (k : ℕ) (rows : List (List ℤ)) → Bounded ds k 0 rows rows
+bounded-none ds k rows = record { long = refl; firsts = refl }
 
-pub bounded-more : (b : BasicSet) (n : ℕ) (d : Division) (rows rows′ : List (List ℤ)) (x y : List ℤ) → n < length (b .divisions) → 2 * n + 2 ≤ length rows → x ≡ startRow (b .divs) (lower n (divisionOf (getD (b .divisions) n d))) → y ≡ startRow (b .divs) (upper n (divisionOf (getD (b .divisions) n d)))
-    → Bounded b n rows rows′ → Bounded b (n + 1) rows (set (set rows′ (2 * n) x) (2 * n + 1) y)
-bounded-more b n d rows rows′ x y h l ex ey m =
+pub bounded-more : (ds : List Division) (k n : ℕ) (d : Division) (rows rows′ : List (List ℤ)) (x y : List ℤ) → n < length ds → 2 * n + 2 ≤ length rows → x ≡ startRow k (lower n (divisionOf (getD ds n d))) → y ≡ startRow k (upper n (divisionOf (getD ds n d)))
+    → Bounded ds k n rows rows′ → Bounded ds k (n + 1) rows (set (set rows′ (2 * n) x) (2 * n + 1) y)
+bounded-more ds k n d rows rows′ x y h l ex ey m =
     let len = m .long in
     record {
       long = length-set (set rows′ (2 * n) x) (2 * n + 1) y ∙ length-set rows′ (2 * n) x ∙ m .long;
-      firsts = bounds-more (b .divs) n (b .divisions) d rows′ x y h (omega arith) ex ey (m .firsts);
+      firsts = bounds-more k n ds d rows′ x y h (omega arith) ex ey (m .firsts);
     }
 
 pub map-get : {A B : Type 0} (f : A → B) (l : List A) (i : ℕ) (d : A) (e : B) → i < length l → getD (map f l) i e ≡ f (getD l i d)

@@ -4,12 +4,11 @@ pub mod Exchange
 pub mod Start
 pub mod Points
 pub mod Verdicts
-pub mod Lines
 pub mod Moves
-pub mod Far
 pub mod Canonical
 pub mod Shown
 pub mod Bridge
 pub mod Fills
 pub mod Filled
+pub mod Far
 pub mod Asked

@@ -1,18 +1,16 @@
 -- A reduced row has the same solutions: its numbers are those of the row over one nonzero factor.
 use mathlib.Core.Path.{_≡_, refl, sym, ap, ap₂, _∙_, subst}
-use mathlib.Core.Bool.{Bool, true, false, not, _&&_, _||_, cond}
-use mathlib.Core.Logic.{_⊎_, inl, inr, ⊎-elim}
-use mathlib.Core.List.{List, [], _∷_, _++_, map}
-use Prim.Native.Nat.{ℕ, zero, suc, _+_, _*_, _/_, _%_, _≤_, _<_, _∣_, zero-le, suc-le-suc}
-use native.Mathlib.Nat.{dvd-refl, dvd-zero, dvd-trans, mod-lt, mod-eq-zero-of-dvd, pos-of-dvd-of-pos, zero-lt-suc, mul-pos, le-of-suc-le-suc, not-suc-le-zero}
+use mathlib.Core.List.{List, [], _∷_, map}
+use Prim.Native.Nat.{ℕ, zero, suc, _+_, _*_, _/_, _%_, _<_, _∣_}
+use native.Mathlib.Nat.{dvd-refl, dvd-zero, mod-lt, mod-eq-zero-of-dvd, pos-of-dvd-of-pos, zero-lt-suc, mul-pos, not-suc-le-zero}
 use native.Mathlib.Omega.{arith}
-use lib.Dec.{T, ltb, lt→ltb, ltb→lt}
+use lib.Dec.{ltb, lt→ltb}
 use lib.IntN.{ℤ, pos, negsuc, negℤ, natAbs, _+ℤ_, _-ℤ_, _*ℤ_, *ℤ-zero}
-use lib.Signed.{nonNeg, _≤ℤ_, _<ℤ_, quotZ, remZ, shrZ}
-use lib.ListN.{length, getD, set, length-set, length-map}
+use lib.Signed.{_<ℤ_, quotZ, remZ}
+use lib.ListN.{length, length-map}
 use Rattle.integers.specs.Ring.{ring, quote}
-use Rattle.integers.specs.Lin.{le, lt, eq, lin, lia-le, lia-lt, lia-eq, lia-no}
-use Rattle.integers.specs.Div.{Floor, floor-unique, floorZ-is, exact}
+use Rattle.integers.specs.Lin.{lt, eq, lin, lia-le, lia-lt, lia-eq}
+use Rattle.integers.specs.Div.{floor-unique, floorZ-is, exact}
 use Rattle.integers.specs.Size.{natAbs-neg, natAbs-mul, natAbs-zero}
 use Rattle.integers.specs.Gcd.{IsGcd, step-is, Divides, divides-trans}
 use Rattle.model.specs.Sets.{dot, floorDiv}

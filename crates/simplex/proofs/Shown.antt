@@ -1,38 +1,37 @@
 -- A row of the tableau and its 18 numbers in the table: an exchange of the table's rows is the tableau's. Assumes nothing.
 use mathlib.Core.Path.{_≡_, refl, sym, ap, ap₂, _∙_, subst}
-use mathlib.Core.Bool.{Bool, true, false, not, _&&_, _||_, cond}
+use mathlib.Core.Bool.{Bool, true, false, _&&_, _||_, cond}
 use mathlib.Core.List.{List, [], _∷_, map}
 use mathlib.Core.Logic.{_⊎_, inl, inr, ⊎-elim}
 use Prim.Native.Nat.{ℕ, zero, suc, _+_, _-_, _*_, _≤_, _<_, _∣_, zero-le, suc-le-suc}
-use native.Mathlib.Nat.{dvd-antisymm, dvd-zero, le-of-suc-le-suc, not-suc-le-zero, add-zero}
-use native.Mathlib.Numerals.{add-one, add-two}
+use native.Mathlib.Nat.{dvd-antisymm, le-of-suc-le-suc, not-suc-le-zero}
+use native.Mathlib.Numerals.{add-two}
 use native.Mathlib.Omega.{arith}
-use borrow.Author.Tests.{lt-ltb, le-ltb, ltb-true, ltb-false, eqb-true, eqb-false, leb-true, le-leb}
-use lib.Dec.{T, ltb, leb, eqb, lt→ltb}
+use borrow.Author.Tests.{lt-ltb, le-ltb, ltb-true, ltb-false, eqb-true, eqb-false, le-leb}
+use lib.Dec.{T, ltb, leb, eqb}
 use lib.ListN.{length, getD, set, length-set, length-map}
 use lib.Seq.{ext-getD, getD-set-same, getD-set-other}
 use lib.IntN.{ℤ, pos, negsuc, negℤ, natAbs, _+ℤ_, _-ℤ_, _*ℤ_, *ℤ-zero}
 use lib.Signed.{quotZ, ltZ, _<ℤ_, <ℤ-irrefl}
-use Rattle.integers.specs.Z.{Within}
 use Rattle.integers.specs.Ring.{ring, quote}
-use Rattle.integers.specs.Lin.{le, lt, eq, lin, lia-le, lia-lt, lia-eq, lia-no}
+use Rattle.integers.specs.Lin.{eq, lin, lia-eq}
 use Rattle.integers.specs.Order.{mul-pos-pos, mul-zero}
 use Rattle.integers.specs.Size.{natAbs-neg}
-use Rattle.integers.specs.Div.{exact}
 use Rattle.integers.specs.Gcd.{gcdAll, Divides, gcdAll-divides, gcdAll-most}
 use Rattle.model.specs.Sets.{isZero, floorDiv}
 use Rattle.model.specs.Lists.{all}
 use Rattle.model.proofs.Count.{from-T, to-T, and-left, and-right}
 use Rattle.simplex.specs.Tableau as T
 use Rattle.simplex.specs.Tableau.{Row, bound, reduced, positive, solved, replaced, commonDivisor, combine}
-use Rattle.simplex.specs.Table.{tabulate, columnOf, standing, numberAt, layout, den, entry, divisorFrom, reduceRow, divideRow, turnRow, turnBy, solveRow, replaceRow, rebuildRow, combineRows, minusRow, small, narrowRow, Small}
+use Rattle.tableau.specs.Rows.{den, entry, divisorFrom, reduceRow, divideRow, turnRow, turnBy, solveRow, replaceRow, rebuildRow, combineRows, minusRow, small, narrowRow}
+use Rattle.simplex.specs.Table.{tabulate, columnOf, standing, numberAt, layout}
 use Rattle.simplex.proofs.Rows.{getD-combine, length-combine, length-neg}
 use Rattle.simplex.proofs.Reduce.{evenly, exactly, common-divides, reduced-like}
 use Rattle.simplex.proofs.Exchange.{Shape}
 use Rattle.simplex.proofs.Canonical.{scale, common-is, divisor-is, divides-at, divides-of, lowest-terms, canonical, abs-over}
-use Rattle.simplex.proofs.Lines.{map-zero, combine-at, combine-length, row-divisor, quot-zero, isZero-no, minus-is}
-use Rattle.simplex.proofs.Lines as Lines
-use Rattle.simplex.proofs.Moves.{small-within}
+use Rattle.tableau.proofs.Lines.{map-zero, combine-at, combine-length, row-divisor}
+use Rattle.tableau.proofs.Lines as Lines
+use Rattle.tableau.proofs.Searches.{small-within}
 
 -- ---- where the columns stand
 
@@ -455,16 +454,16 @@ module _ (k : ℕ) (kin : k ≤ 8) where
         ∙ lay-at P solvedNums i h
 
     abbrev q : List ℤ
-    q = set (minusRow p) 0 (pos 0)
+    q = set p 0 (pos 0)
 
     q-length : length q ≡ 18
-    q-length = length-set (minusRow p) 0 (pos 0) ∙ length-map p (λ x. pos 0 -ℤ x) ∙ p-length
+    q-length = length-set p 0 (pos 0) ∙ p-length
 
     q-den : getD q 0 (pos 0) ≡ pos 0
-    q-den = getD-set-same (minusRow p) 0 (pos 0) (pos 0) (subst (λ n. 0 < n) (sym (length-map p (λ x. pos 0 -ℤ x) ∙ p-length)) (omega arith))
+    q-den = Lines.cleared-at p 0
 
-    q-at : (i : ℕ) → getD q (suc i) (pos 0) ≡ pos 0 -ℤ getD p (suc i) (pos 0)
-    q-at i = getD-set-other (minusRow p) 0 (suc i) (pos 0) (pos 0) (λ e. omega arith) ∙ map-zero (λ x. pos 0 -ℤ x) p (suc i) refl
+    q-at : (i : ℕ) → getD q (suc i) (pos 0) ≡ getD p (suc i) (pos 0)
+    q-at i = getD-set-other p 0 (suc i) (pos 0) (pos 0) (λ e. omega arith)
 
     module _ (s : Row) (ss : Shape (8 + k) s) where
       abbrev a : ℤ
@@ -503,10 +502,10 @@ module _ (k : ℕ) (kin : k ≤ 8) where
           ∙ ap₂ (λ x y. P *ℤ x -ℤ a *ℤ y) (number-den D (s .den) (s .nums) i) (number-den D (r .den) (r .nums) i)
 
       abbrev combined : List ℤ
-      combined = combineRows (den p) a o q
+      combined = combineRows (den p) (pos 0 -ℤ a) o q
 
-      combined-at : (i : ℕ) → getD combined i (pos 0) ≡ getD o i (pos 0) *ℤ den p -ℤ a *ℤ getD q i (pos 0)
-      combined-at i = combine-at (den p) a o q i (o-length ∙ sym q-length)
+      combined-at : (i : ℕ) → getD combined i (pos 0) ≡ getD o i (pos 0) *ℤ den p -ℤ (pos 0 -ℤ a) *ℤ getD q i (pos 0)
+      combined-at i = combine-at (den p) (pos 0 -ℤ a) o q i (o-length ∙ sym q-length)
 
       abbrev f : ℤ
       f = p-terms .factor
@@ -516,7 +515,7 @@ module _ (k : ℕ) (kin : k ≤ 8) where
 
       at-0 : f *ℤ getD combined 0 (pos 0) ≡ P *ℤ s .den
       at-0 =
-          ap (λ z. f *ℤ z) (combined-at 0 ∙ ap₂ (λ x y. x *ℤ den p -ℤ a *ℤ y) (o-other 0 (omega arith) (λ e. omega arith) ∙ number-zero (s .den) (s .nums)) q-den)
+          ap (λ z. f *ℤ z) (combined-at 0 ∙ ap₂ (λ x y. x *ℤ den p -ℤ (pos 0 -ℤ a) *ℤ y) (o-other 0 (omega arith) (λ e. omega arith) ∙ number-zero (s .den) (s .nums)) q-den)
           ∙ ring (f ∷ s .den ∷ den p ∷ a ∷ []) {b = f *ℤ den p *ℤ s .den} (search quote depth 30) tt
           ∙ ap (λ x. x *ℤ s .den) fm
 
@@ -524,8 +523,8 @@ module _ (k : ℕ) (kin : k ≤ 8) where
       at-c =
           let h = cin in
           let x : ℤ = getD p (c + 2) (pos 0) in
-          let e : getD q (c + 2) (pos 0) ≡ pos 0 -ℤ x = ap (λ n. getD q n (pos 0)) (add-two c) ∙ q-at (suc c) ∙ ap (λ n. pos 0 -ℤ getD p n (pos 0)) (sym (add-two c)) in
-          ap (λ z. f *ℤ z) (combined-at (c + 2) ∙ ap₂ (λ x y. x *ℤ den p -ℤ a *ℤ y) o-column e)
+          let e : getD q (c + 2) (pos 0) ≡ x = ap (λ n. getD q n (pos 0)) (add-two c) ∙ q-at (suc c) ∙ ap (λ n. getD p n (pos 0)) (sym (add-two c)) in
+          ap (λ z. f *ℤ z) (combined-at (c + 2) ∙ ap₂ (λ x y. x *ℤ den p -ℤ (pos 0 -ℤ a) *ℤ y) o-column e)
           ∙ ring (f ∷ den p ∷ a ∷ x ∷ []) {b = a *ℤ (f *ℤ x)} (search quote depth 30) tt
           ∙ ap (λ x. a *ℤ x) (p-times (c + 2) (omega arith) ∙ solved-column)
 
@@ -534,14 +533,14 @@ module _ (k : ℕ) (kin : k ≤ 8) where
           let x : ℤ = getD p (suc i) (pos 0) in
           let S : ℤ = numberAt k (s .den) (s .nums) (suc i) in
           let R : ℤ = numberAt k (r .den) (r .nums) (suc i) in
-          ap (λ z. f *ℤ z) (combined-at (suc i) ∙ ap₂ (λ x y. x *ℤ den p -ℤ a *ℤ y) (o-other (suc i) h n) (q-at i))
+          ap (λ z. f *ℤ z) (combined-at (suc i) ∙ ap₂ (λ x y. x *ℤ den p -ℤ (pos 0 -ℤ a) *ℤ y) (o-other (suc i) h n) (q-at i))
           ∙ ring (f ∷ S ∷ den p ∷ a ∷ x ∷ []) {b = f *ℤ den p *ℤ S +ℤ a *ℤ (f *ℤ x)} (search quote depth 30) tt
           ∙ ap₂ (λ y z. y *ℤ S +ℤ a *ℤ z) fm (p-times (suc i) h ∙ solved-other i n)
           ∙ ring (P ∷ S ∷ a ∷ R ∷ []) (search quote depth 30) tt
 
       scaled : scale f combined ≡ lay (P *ℤ s .den) newNums
       scaled =
-          lay-is (scale f combined) (P *ℤ s .den) newNums (length-map combined (λ x. f *ℤ x) ∙ combine-length (den p) a o q (o-length ∙ sym q-length) ∙ o-length)
+          lay-is (scale f combined) (P *ℤ s .den) newNums (length-map combined (λ x. f *ℤ x) ∙ combine-length (den p) (pos 0 -ℤ a) o q (o-length ∙ sym q-length) ∙ o-length)
           (λ i h. map-zero (λ x. f *ℤ x) combined i (*ℤ-zero f)
           ∙ by-place (λ i. i < 18 → f *ℤ getD combined i (pos 0) ≡ numberAt k (P *ℤ s .den) newNums i) c
           (λ h. at-0 ∙ sym (number-zero (P *ℤ s .den) newNums))
@@ -552,7 +551,7 @@ module _ (k : ℕ) (kin : k ≤ 8) where
       combined-over : pos 0 <ℤ den combined
       combined-over =
           subst (λ z. pos 0 <ℤ z)
-          (sym (combined-at 0 ∙ ap₂ (λ x y. x *ℤ den p -ℤ a *ℤ y) (o-other 0 (omega arith) (λ e. omega arith) ∙ number-zero (s .den) (s .nums)) q-den ∙ ring (s .den ∷ den p ∷ a ∷ []) {b = s .den *ℤ den p} (search quote depth 30) tt))
+          (sym (combined-at 0 ∙ ap₂ (λ x y. x *ℤ den p -ℤ (pos 0 -ℤ a) *ℤ y) (o-other 0 (omega arith) (λ e. omega arith) ∙ number-zero (s .den) (s .nums)) q-den ∙ ring (s .den ∷ den p ∷ a ∷ []) {b = s .den *ℤ den p} (search quote depth 30) tt))
           (mul-pos-pos (ss .positive) (p-terms .over))
 
       new-den : P *ℤ s .den ≡ pos 0 → ⊥
@@ -561,7 +560,7 @@ module _ (k : ℕ) (kin : k ≤ 8) where
       pub rebuild-shows : rebuildRow c (den p) q (layout k s) ≡ layout k (replaced r j s)
       unfolding rebuildRow replaceRow
       rebuild-shows =
-          ap (λ z. cond (isZero z) (layout k s) (reduceRow (combineRows (den p) z o q))) (lay-entry (s .den) (s .nums) j jin)
+          ap (λ z. cond (isZero z) (layout k s) (reduceRow (combineRows (den p) (pos 0 -ℤ z) o q))) (lay-entry (s .den) (s .nums) j jin)
           ∙ at (isZero a)
         where
           at : (b : Bool) → cond b (layout k s) (reduceRow combined) ≡ layout k (cond b s (reduced (record { var = s .var; den = P *ℤ s .den; nums = newNums })))

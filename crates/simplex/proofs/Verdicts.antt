@@ -1,18 +1,17 @@
 -- What the answers of the test mean: dropped, and no solution; point, and a solution.
-use mathlib.Core.Path.{_≡_, refl, sym, ap, ap₂, _∙_, subst}
-use mathlib.Core.Bool.{Bool, true, false, not, _&&_, _||_, cond}
-use mathlib.Core.List.{List, [], _∷_, _++_, map, tail}
+use mathlib.Core.Path.{_≡_, refl, sym, ap, _∙_, subst}
+use mathlib.Core.Bool.{Bool, true, false, not, cond}
+use mathlib.Core.List.{List, [], _∷_, map, tail}
 use mathlib.Core.Option.{Option, none, some}
-use Prim.Native.Nat.{ℕ, zero, suc, _+_, _*_, _≤_, _<_, zero-le, suc-le-suc}
+use Prim.Native.Nat.{ℕ, zero, suc, _+_, _*_, _≤_, _<_, suc-le-suc}
 use native.Mathlib.Nat.{le-refl, le-of-suc-le-suc, not-suc-le-zero, zero-lt-suc, add-zero, zero-add, add-suc, suc-add}
 use native.Mathlib.Omega.{arith}
-use lib.Dec.{T, not-T, T-not, lt→ltb, ltb, ltb→lt, nltb→le}
-use lib.IntN.{ℤ, pos, negsuc, negℤ, natAbs, _+ℤ_, _-ℤ_, _*ℤ_, *ℤ-zero}
-use lib.Signed.{nonNeg, _≤ℤ_, _<ℤ_, yes-nonNeg}
-use lib.ListN.{length, getD, set}
-use Rattle.integers.specs.Ring.{ring, quote}
-use Rattle.integers.specs.Lin.{le, lt, eq, lin, lia-le, lia-lt, lia-eq, lia-no}
-use Rattle.integers.specs.Order.{mul-nonneg, mul-pos-pos, mul-nonpos, pos-nonneg, add-le, <ℤ-≤ℤ}
+use lib.Dec.{T, lt→ltb, ltb, ltb→lt, nltb→le}
+use lib.IntN.{ℤ, pos, negsuc, _+ℤ_, _-ℤ_, _*ℤ_, *ℤ-zero}
+use lib.Signed.{nonNeg, _≤ℤ_, _<ℤ_}
+use lib.ListN.{length, getD}
+use Rattle.integers.specs.Lin.{le, lt, eq, lin, lia-le, lia-no}
+use Rattle.integers.specs.Order.{mul-nonneg, mul-pos-pos, mul-nonpos, <ℤ-≤ℤ}
 use Rattle.model.specs.Sets.{dot, Kind, equality, inequality, isZero}
 use Rattle.simplex.specs.Tableau.{point, dropped, long, wide, Row, Tableau, entry, constantOf, violates, helps, lower, lowest, when, violatedRows, helpfulCols, exchange, noRow, Look, noneViolated, noneHelps, pivot, column, row, look, run}
 use Rattle.model.proofs.Values.{isZero→, nn}

@@ -1,15 +1,15 @@
 -- The test for fractions (document 01).
 -- Variables 0 to 7 are the axes, then come the divisions, then the constraints (bounds, then rules) in order. An axis that is
 -- absent has entry 0 in each row and never helps, so that it changes no answer and no order.
-use mathlib.Core.Bool.{Bool, true, false, not, _&&_, _||_, cond}
+use mathlib.Core.Bool.{Bool, true, false, not, _||_, cond}
 use mathlib.Core.List.{List, [], _∷_, _++_, map, tail}
 use mathlib.Core.Option.{Option, none, some}
 use Prim.Native.Nat.{ℕ, zero, suc, _+_, _-_, _/_, _%_, _^_}
-use lib.IntN.{ℤ, pos, negsuc, negℤ, natAbs, _-ℤ_, _*ℤ_}
+use lib.IntN.{ℤ, pos, negℤ, natAbs, _-ℤ_, _*ℤ_}
 use lib.Signed.{nonNeg}
-use lib.Dec.{ltb, leb, eqb}
+use lib.Dec.{ltb, leb}
 use lib.ListN.{length, replicate, set, getD}
-use Rattle.model.specs.Lists.{all, any}
+use Rattle.model.specs.Lists.{all}
 use Rattle.model.specs.Sets.{Kind, equality, inequality, Constraint, BasicSet, isZero, meets, floorDiv, conditions}
 
 pub data Verdict : Type 0 where
@@ -132,10 +132,6 @@ bound W = 2 ^ (W / 2 - 1) - 1
 abbrev pub narrow : ℕ → ℕ → Tableau → Bool
 narrow m j t = all (λ (r : Row). isZero (entry r j) || all (λ (z : ℤ). leb (natAbs z) m) (r .den ∷ r .nums)) (t .rows)
 
--- step 4 with no limit
-abbrev pub always : ℕ → Tableau → Bool
-always j t = true
-
 -- what steps 1 and 2 find
 pub data Look : Type 0 where
   noneViolated noneHelps : Look
@@ -174,30 +170,6 @@ pivots fits sort (suc n) t =
       | pivot i j ↦ elim (fits j t) [ false ↦ 0 | true ↦ suc (pivots fits sort n (exchange i j t)) ]
     ]
 
--- the same in two sizes of numbers: what does not fit the first goes on, from that very pivot, under the second
-unfoldable pub carry : (ℕ → Tableau → Bool) → (ℕ → Tableau → Bool) → (ℕ → Option Kind) → ℕ → Tableau → Verdict
-carry fits fits′ sort zero t = run fits′ sort zero t
-carry fits fits′ sort (suc n) t =
-    elim (look sort t) [
-      | noneViolated ↦ point
-      | noneHelps ↦ dropped
-      | pivot i j ↦ elim (fits j t) [ false ↦ run fits′ sort (suc n) t | true ↦ carry fits fits′ sort n (exchange i j t) ]
-    ]
-
--- the tableau after n pivots; none if the test has answered before
-unfoldable pub after : (ℕ → Tableau → Bool) → (ℕ → Option Kind) → ℕ → Tableau → Option Tableau
-after fits sort zero t = some t
-after fits sort (suc n) t =
-    elim (look sort t) [
-      | noneViolated ↦ none
-      | noneHelps ↦ none
-      | pivot i j ↦ elim (fits j t) [ false ↦ none | true ↦ after fits sort n (exchange i j t) ]
-    ]
-
--- v is one of the column variables
-abbrev pub inCols : Tableau → ℕ → Bool
-inCols t v = any (eqb v) (t .cols)
-
 -- the first k numbers, with 0 for what is not there
 abbrev pub pad : ℕ → List ℤ → List ℤ
 pad zero zs = []
@@ -224,10 +196,6 @@ sorts b = sortOf (8 + length (b .divisions)) (conditions b)
 abbrev pub begin : BasicSet → Tableau
 begin b = start (length (b .divisions)) (conditions b)
 
--- how many variables there are
-abbrev pub variables : BasicSet → ℕ
-variables b = 8 + length (b .divisions) + length (conditions b)
-
 -- at W bits
 unfoldable pub testAt : ℕ → BasicSet → Verdict
 testAt W b = run (narrow (bound W)) (sorts b) 200 (begin b)
@@ -240,7 +208,3 @@ pivotsAt W b = pivots (narrow (bound W)) (sorts b) 200 (begin b)
 
 abbrev pub pivotsMade : BasicSet → ℕ
 pivotsMade b = pivotsAt 64 b
-
--- with no number limit, and n pivots
-unfoldable pub unlimited : ℕ → BasicSet → Verdict
-unlimited n b = run always (sorts b) n (begin b)

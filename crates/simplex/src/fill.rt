@@ -1,9 +1,8 @@
 // The first tableau of a basic set: the rows of the divisions' bounds, then those of the constraints, over the free variables.
-use model::BasicSet;
 use model::Constraint;
 use model::Division;
 ghost use mathlib.Core.Path.{_≡_};
-ghost use Prim.Native.Nat.{ℕ, _+_, _*_, _<_, _≤_};
+ghost use Prim.Native.Nat.{_+_, _*_, _<_, _≤_};
 ghost use mathlib.Core.Bool.{cond};
 ghost use lib.ListN.{length};
 ghost use lib.Dec.{ltb};
@@ -12,7 +11,7 @@ ghost use Rattle.integers.specs.Z.{Within};
 ghost use Rattle.model.specs.Sets.{lower, upper};
 ghost use Rattle.model.specs.Values.{divisionOf, constraintOf, kindIs};
 ghost use mathlib.Core.Option.{some};
-ghost use Rattle.simplex.specs.Table.{startRow, placeAt, kindNumber, Copied, Started, Valid, Bounded, Ruled, Named};
+ghost use Rattle.simplex.specs.Table.{startRow, placeAt, kindNumber, Copied, Started, Bounded, Named};
 
 fn times(s: i64, x: i16) -> i64
     requires { ⌜ Within 1 s ⌝ }
@@ -62,94 +61,75 @@ fn copy(r: &mut [i64; 18], base: usize, s: i64, a: [i16; 8], n: usize)
     }
 }
 
-fn row_of(k: usize, z: i64, s: i64, a: [i16; 8]) -> [i64; 18]
+// A first row without divisions.
+fn row_of(r: &mut [i64; 18], k: usize, z: i64, s: i64, a: [i16; 8])
     requires { ⌜ k ≤ 8 ⌝ }
     requires { ⌜ Within 1 s ⌝ }
-    ensures { λ r. ⌜ Started k z s a r ⌝ }
+    ensures { λ _. ⌜ Started k z s a (now (r .exit)) ⌝ }
 {
-    let mut r = [0i64; 18];
+    *r = [0i64; 18];
     r[0] = 1;
     r[1] = z;
-    copy(&mut r, k + 2, s, a, 8);
-    r
+    copy(r, k + 2, s, a, 8);
 }
 
 // numerator − d·q
-fn lower_row(e: Division, i: usize, k: usize) -> [i64; 18]
+fn lower_row(r: &mut [i64; 18], e: Division, i: usize, k: usize)
     requires { ⌜ i < k ⌝ }
     requires { ⌜ k ≤ 8 ⌝ }
-    ensures { λ r. ⌜ r ≡ startRow k (lower i (divisionOf e)) ⌝ }
+    ensures { λ _. ⌜ now (r .exit) ≡ startRow k (lower i (divisionOf e)) ⌝ }
 {
     let z = e.constant;
     let d = e.divisor;
     let a = e.axes;
-    let mut r = row_of(k, wide(z), 1, a);
+    row_of(r, k, wide(z), 1, a);
     r[i + 2] = opposite(d);
-    r
 }
 
 // d·q − numerator + d − 1
-fn upper_row(e: Division, i: usize, k: usize) -> [i64; 18]
+fn upper_row(r: &mut [i64; 18], e: Division, i: usize, k: usize)
     requires { ⌜ i < k ⌝ }
     requires { ⌜ k ≤ 8 ⌝ }
-    ensures { λ r. ⌜ r ≡ startRow k (upper i (divisionOf e)) ⌝ }
+    ensures { λ _. ⌜ now (r .exit) ≡ startRow k (upper i (divisionOf e)) ⌝ }
 {
     let z = e.constant;
     let d = e.divisor;
     let a = e.axes;
-    let mut r = row_of(k, upper_constant(d, z), -1, a);
+    row_of(r, k, upper_constant(d, z), -1, a);
     r[i + 2] = unsigned(d);
-    r
 }
 
-fn constraint_row(c: Constraint, k: usize) -> [i64; 18]
+pub fn constraint_row(r: &mut [i64; 18], c: Constraint, k: usize)
     requires { ⌜ k ≤ 8 ⌝ }
-    ensures { λ r. ⌜ r ≡ startRow k (constraintOf c) ⌝ }
+    ensures { λ _. ⌜ now (r .exit) ≡ startRow k (constraintOf c) ⌝ }
 {
     let z = c.constant;
     let a = c.axes;
     let q = c.divisions;
-    let mut r = row_of(k, wide(z), 1, a);
-    copy(&mut r, 2, 1, q, k);
-    r
+    row_of(r, k, wide(z), 1, a);
+    copy(r, 2, 1, q, k);
 }
 
-pub fn fill_bounds(b: BasicSet, rows: &mut [[i64; 18]])
-    requires { ⌜ Valid b ⌝ }
-    requires { ⌜ 2 * b .divs ≤ length (now rows) ⌝ }
-    ensures { λ _. ⌜ Bounded b (b .divs) (now (rows .entry)) (now (rows .exit)) ⌝ }
+// The rows of the bounds of the first k divisions.
+pub fn fill_bounds(ds: [Division; 8], k: usize, rows: &mut [[i64; 18]])
+    requires { ⌜ k ≤ 8 ⌝ }
+    requires { ⌜ length ds ≡ 8 ⌝ }
+    requires { ⌜ 2 * k ≤ length (now rows) ⌝ }
+    ensures { λ _. ⌜ Bounded ds k k (now (rows .entry)) (now (rows .exit)) ⌝ }
 {
-    let k = b.divs;
     let mut i: usize = 0;
     while i < k {
-        let e = b.divisions[i];
-        rows[2 * i] = lower_row(e, i, k);
-        rows[2 * i + 1] = upper_row(e, i, k);
+        let e = ds[i];
+        lower_row(&mut rows[2 * i], e, i, k);
+        upper_row(&mut rows[2 * i + 1], e, i, k);
         i += 1;
     }
 }
 
-fn kind_of(equality: bool) -> u8
+pub fn kind_of(equality: bool) -> u8
     ensures { λ r. ⌜ r ≡ kindNumber (some (kindIs equality)) ⌝ }
 {
     if equality { 2 } else { 1 }
-}
-
-pub fn fill_constraints(b: BasicSet, rows: &mut [[i64; 18]], kinds: &mut [u8])
-    requires { ⌜ Valid b ⌝ }
-    requires { ⌜ 2 * b .divs + b .cons ≤ length (now rows) ⌝ }
-    requires { ⌜ 8 + 3 * b .divs + b .cons ≤ length (now kinds) ⌝ }
-    ensures { λ _. ⌜ Ruled b (b .cons) (now (rows .entry)) (now (rows .exit)) (now (kinds .entry)) (now (kinds .exit)) ⌝ }
-{
-    let k = b.divs;
-    let n = b.cons;
-    let mut i: usize = 0;
-    while i < n {
-        let c = b.constraints[i];
-        rows[2 * k + i] = constraint_row(c, k);
-        kinds[8 + 3 * k + i] = kind_of(c.equality);
-        i += 1;
-    }
 }
 
 fn place_of(k: usize, v: usize) -> usize

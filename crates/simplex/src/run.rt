@@ -1,7 +1,6 @@
 // Step 5, and the steps until one of them answers.
 use crate::Ended;
 use crate::Move;
-ghost use Prim.Native.Nat.{ℕ};
 ghost use mathlib.Core.Path.{_≡_};
 ghost use Rattle.simplex.specs.Table.{pivotRows, pivotPlace, Fine, Crossing, Ran};
 
@@ -12,7 +11,7 @@ pub fn pivot(t: &mut [[i64; 18]], n: usize, place: &mut [usize], v: usize, w: us
 {
     let i = place[v];
     let c = place[w];
-    crate::pivot::exchange(t, n, i, c - 64);
+    tableau::exchange(t, n, i, c - 64);
     place[v] = c;
     place[w] = i;
 }

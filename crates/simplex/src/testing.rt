@@ -1,15 +1,14 @@
 // The test for fractions of a basic set.
 use crate::Ended;
 use crate::Tested;
+use crate::fill::constraint_row;
 use crate::fill::fill_bounds;
-use crate::fill::fill_constraints;
+use crate::fill::kind_of;
 use crate::fill::name_variables;
 use crate::run::run;
 use model::BasicSet;
-ghost use Prim.Native.Nat.{ℕ, _≤_};
+ghost use Prim.Native.Nat.{_≤_};
 ghost use mathlib.Core.Path.{_≡_};
-ghost use Rattle.codec.specs.Places.{Accepted};
-ghost use Rattle.codec.specs.Parts.{Started};
 ghost use lib.ListN.{length};
 ghost use Rattle.model.specs.Values.{basicSetOf};
 ghost use Rattle.simplex.specs.Table.{Valid};
@@ -29,11 +28,19 @@ pub fn test_basic(
     ensures { λ r. ⌜ Tests (basicSetOf b) r ⌝ }
 {
     let k = b.divs;
-    let m = 2 * k + b.cons;
+    let cons = b.cons;
+    let m = 2 * k + cons;
     let n = 8 + k + m;
     name_variables(k, n, place, kinds);
-    fill_bounds(b, rows);
-    fill_constraints(b, rows, kinds);
+    let ds = b.divisions;
+    fill_bounds(ds, k, rows);
+    let mut i: usize = 0;
+    while i < cons {
+        let c = b.constraints[i];
+        constraint_row(&mut rows[2 * k + i], c, k);
+        kinds[8 + 3 * k + i] = kind_of(c.equality);
+        i += 1;
+    }
     run(&mut rows[..m], k + 10, &mut place[..n], &kinds[..n])
 }
 
@@ -48,23 +55,6 @@ fn test_alone(b: BasicSet) -> Ended
     test_basic(b, &mut rows, &mut place, &mut kinds)
 }
 
-// The place of basic set number i of checked bytes, the first being 0; the end of the bytes where there are fewer.
-fn start_of(s: &[u8], i: usize) -> usize
-    requires { ⌜ Accepted (now s) ⌝ }
-    ensures { λ r. ⌜ Started (now (s .entry)) i r ⌝ }
-{
-    let mut at = 0;
-    let mut j = 0;
-    while j < i {
-        if s.len() <= at {
-            return at;
-        }
-        at = codec::end_of(s, at + 1);
-        j += 1;
-    }
-    at
-}
-
 // The test for fractions of basic set number k, from 1, of a set's bytes.
 pub fn test(n: usize, set: &[u8], k: usize) -> Tested
     ensures { λ r. ⌜ testedOf r ≡ testBytes n (now (set .entry)) k ⌝ }
@@ -76,7 +66,7 @@ pub fn test(n: usize, set: &[u8], k: usize) -> Tested
     if k == 0 {
         return Tested::NoSuchSet;
     }
-    let at = start_of(set, k - 1);
+    let at = codec::start_of(set, k - 1);
     if set.len() <= at {
         return Tested::NoSuchSet;
     }

@@ -1,5 +1,6 @@
 //! `compare PROGRAM COUNT SEED`                a script program against `second` on generated scripts
 //! `compare calls PROGRAM COUNT SEED [KIND..]` a line-mode program against `second` on generated calls
+//! `compare one PROGRAM`                       a script program against `second` on standard input, for a fuzzer: a difference aborts
 //!
 //! PROGRAM is one argument; blanks in it part the program from its own arguments (`"second calls"`).
 //! PROGRAM has to end with status 0: document 01 gives refusals a line of output and no status.
@@ -7,9 +8,10 @@
 use generate::{calls, scripts};
 use hexscript::describe;
 use hexscript::runner::{difference, output_of, Score};
+use std::io::Read;
 use std::process::ExitCode;
 
-const USAGE: &str = "compare PROGRAM COUNT SEED | compare calls PROGRAM COUNT SEED [KIND..]";
+const USAGE: &str = "compare PROGRAM COUNT SEED | compare calls PROGRAM COUNT SEED [KIND..] | compare one PROGRAM";
 
 /// Calls fed to one run of PROGRAM: if it breaks off, only the rest of these goes unanswered.
 const BATCH: u64 = 500;
@@ -63,10 +65,21 @@ fn compare_calls(program: &[String], count: u64, seed: u64, kinds: &[&str]) -> R
     Ok(score.finish())
 }
 
+fn compare_one(program: &[String]) -> Result<ExitCode, String> {
+    let mut script = Vec::new();
+    std::io::stdin().read_to_end(&mut script).map_err(|e| e.to_string())?;
+    let expected = second::run_script(&script);
+    if output_of(program, &script) != Ok(expected) {
+        std::process::abort();
+    }
+    Ok(ExitCode::SUCCESS)
+}
+
 fn run(words: &[&str]) -> Result<ExitCode, String> {
     let number = |w: &str| w.parse::<u64>().map_err(|_| format!("'{w}' is no number"));
     match words {
         ["calls", name, count, seed, kinds @ ..] => compare_calls(&program(name), number(count)?, number(seed)?, kinds),
+        ["one", name] => compare_one(&program(name)),
         [name, count, seed] => Ok(compare_scripts(&program(name), number(count)?, number(seed)?)),
         _ => Err(USAGE.to_string()),
     }

@@ -8,7 +8,7 @@ use lib.IntN.{ℤ}
 use lib.ListN.{length, take, length-take}
 use Rattle.codec.specs.Places.{setFrom}
 use Rattle.query.specs.Holder.{firstHolding, inEither}
-use Rattle.query.proofs.Reading.{take-within}
+use Rattle.bounds.proofs.Reading.{take-within}
 use Rattle.query.proofs.Points.{point-within}
 use Rattle.query.proofs.Answers.{bad, axes-most}
 use Rattle.query.proofs.Seats.{bad-first, bad-second, bad-point, good}

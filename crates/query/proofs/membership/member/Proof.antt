@@ -7,7 +7,7 @@ use mathlib.Core.Bool.{true, false}
 use native.Mathlib.Omega.{arith}
 use lib.ListN.{length, take, length-take}
 use borrow.Author.Tests.{not-true, not-false}
-use Rattle.query.proofs.Reading.{take-within}
+use Rattle.bounds.proofs.Reading.{take-within}
 use Rattle.query.proofs.Points.{point-within}
 use Rattle.query.proofs.Answers.{bad, axes-most, member-refused, member-misfit, member-gives, holding-none, holding-some}
 use borrow.Author.Needs.{needs}

@@ -4,7 +4,7 @@ use native.Mathlib.Omega.{arith}
 use lib.IntN.{pos}
 use Rattle.model.specs.Sets.{holds}
 use Rattle.codec.specs.Bytes.{readConstraint, kindOf}
-use Rattle.query.proofs.Reading.{all-mono}
+use Rattle.bounds.proofs.Reading.{all-mono}
 use borrow.Author.Needs.{needs}
 use Rattle.query.proofs.membership.still.Statement.{statement}
 use Rattle.query.proofs.membership.still.Tie as tie

@@ -1,55 +1,64 @@
-use mathlib.Core.Path.{_≡_, refl, sym, ap, ap₂, _∙_, subst}
-use mathlib.Core.Bool.{Bool, true, false, _&&_, _||_, cond}
-use mathlib.Core.List.{List, []}
 use native.Mathlib.Omega.{arith}
-use borrow.Author.Needs.{needs}
-use Prim.Native.Nat.{ℕ, _+_, _-_, _*_, _≤_, _<_}
-use lib.Dec.{eqb}
-use lib.IntN.{ℤ, pos, natAbs, _+ℤ_}
-use lib.ListN.{length, take, drop, getD, set, length-take}
-use mir.Syntax.{w64}
-use mir.Val.{SFits, toZ, ofZ}
-use Rattle.integers.specs.Z.{Within}
-use Rattle.integers.specs.Mach.{toZ-ofZ, toZ-nat, result-is}
-use Rattle.codec.proofs.Boundaries.{boundary-opened}
+use Prim.Native.Nat.{_-_}
+use lib.ListN.{length}
 use Rattle.query.specs.Search.{boxOf}
-use Rattle.query.proofs.Bounds.{Passing, passing-start, passing-yes, passing-inside, passing-next, passing-end}
+use Rattle.query.proofs.Lives.{live-told, Passing, passing-start, passing-rows, passing-same, passing-yes, passing-next, passing-end}
 use Rattle.query.proofs.search.passes.Statement.{statement}
 use Rattle.query.proofs.search.passes.Tie as tie
 
 abbrev Inv-loop : tie.InvT-loop
-Inv-loop s low high at₀ at = Passing s (boxOf low high) at
+Inv-loop s k low high rows₀ live b₀ rows b = Passing s (length low) (boxOf low high) rows₀ rows b
 
 abbrev μ-loop : tie.MeasureT-loop
-μ-loop s low high at₀ at = length s - at
+μ-loop s k low high rows₀ live b₀ rows b = length rows₀ - b
 
 loop-holds : tie.Need-loop-holds Inv-loop μ-loop
-loop-holds c = let st = c .before in passing-start (st .args .s .now) (boxOf (st .args .low .now) (st .args .high .now)) (st .pre .0)
+loop-holds c = let st = c .before in let a = st .args in passing-start (a .s .now) (length (a .low .now)) (boxOf (a .low .now) (a .high .now)) (a .rows .now) (st .pre .0)
 
-add-can-hold : tie.Need-add-can-hold Inv-loop μ-loop
-add-can-hold c = search needs
+array-read-o : tie.Need-array-read-o Inv-loop μ-loop
+array-read-o c = let f = c .before .loop .inv .right .few in let h = c .loop-test .taken in omega arith
 
-can-hold-requires : tie.Need-can-hold-requires Inv-loop μ-loop
-can-hold-requires c κs = let m = c .before in let st = m .before .before in (boundary-opened (m .loop .inv .n) (st .args .s .now) (m .loop .at) (m .loop .inv .here) (c .loop-test .taken), st .pre .1)
+mul-still-open : tie.Need-mul-still-open Inv-loop μ-loop
+mul-still-open c = let f = c .before .loop .inv .right .few in let h = c .loop-test .taken in omega arith
+
+index-1-still-open : tie.Need-index-1-still-open Inv-loop μ-loop
+index-1-still-open c = c .loop-test .taken
+
+still-open-requires : tie.Need-still-open-requires Inv-loop μ-loop
+still-open-requires c κs =
+    let lp = c .before in let m = lp .before in let st = m .before .before in let a = st .args in let h = lp .loop-test .taken in
+    (m .loop .inv .right .at (m .loop .b) h, st .pre .1, st .pre .2, live-told (a .s .now) (length (a .low .now)) (boxOf (a .low .now) (a .high .now)) (m .loop .rows) (a .t5) (m .loop .inv .right) (st .pre .3) (m .loop .b) h)
+
+same-length : tie.Need-same-length Inv-loop μ-loop
+same-length c =
+    let y = c .before in let lp = y .before .before in let m = lp .before in let st = m .before .before in let a = st .args in let e = y .still-open .ensures in
+    passing-same (a .s .now) (length (a .low .now)) (boxOf (a .low .now) (a .high .now)) (a .rows .now) (m .loop .rows) (m .loop .b) (m .loop .inv) (lp .loop-test .taken) _ (e .row) (e .place) _ (e .is)
 
 returns : tie.Need-returns Inv-loop μ-loop
 returns c =
-    let e = c .before in let lp = e .before in let m = lp .before in let st = m .before .before in
-    passing-yes (st .args .s .now) (boxOf (st .args .low .now) (st .args .high .now)) (m .loop .at) (m .loop .inv) (lp .loop-test .taken) (e .can-hold .result) (e .can-hold .ensures) (c .if1 .taken)
+    let y = c .before in let lp = y .before .before in let m = lp .before in let st = m .before .before in let a = st .args in let e = y .still-open .ensures in (
+      passing-yes (a .s .now) (length (a .low .now)) (boxOf (a .low .now) (a .high .now)) (a .rows .now) (m .loop .rows) (m .loop .b) (m .loop .inv) (lp .loop-test .taken) _ (e .row) (e .place) _ (e .is) (c .if1 .taken),
+      passing-rows (a .s .now) (length (a .low .now)) (boxOf (a .low .now) (a .high .now)) (a .rows .now) (m .loop .rows) (m .loop .b) (m .loop .inv) (lp .loop-test .taken) _ (e .row) (e .place) _ (e .is),
+    )
+
+add-b : tie.Need-add-b Inv-loop μ-loop
+add-b c = let lp = c .before .before .before in let f = lp .before .loop .inv .right .few in let h = lp .loop-test .taken in omega arith
 
 loop-less : tie.Need-loop-less Inv-loop μ-loop
-loop-less c =
-    let e = c .before in let lp = e .before in let m = lp .before in let st = m .before .before in
-    let i = passing-inside (st .args .s .now) (boxOf (st .args .low .now) (st .args .high .now)) (m .loop .at) (m .loop .inv) (lp .loop-test .taken) (e .can-hold .result) (e .can-hold .ensures) in
-    let p = e .can-hold .ensures .next in omega arith
+loop-less c = let lp = c .before .before .before in let e = lp .before .loop .inv .same in let h = lp .loop-test .taken in omega arith
 
 loop-again : tie.Need-loop-again Inv-loop μ-loop
 loop-again c =
-    let e = c .before in let lp = e .before in let m = lp .before in let st = m .before .before in
-    passing-next (st .args .s .now) (boxOf (st .args .low .now) (st .args .high .now)) (m .loop .at) (m .loop .inv) (lp .loop-test .taken) (e .can-hold .result) (e .can-hold .ensures) (c .if1 .left)
+    let y = c .before in let lp = y .before .before in let m = lp .before in let st = m .before .before in let a = st .args in let e = y .still-open .ensures in
+    passing-next (a .s .now) (length (a .low .now)) (boxOf (a .low .now) (a .high .now)) (a .rows .now) (m .loop .rows) (m .loop .b) (m .loop .inv) (lp .loop-test .taken) _ (e .row) (e .place) _ (e .is) (c .if1 .left)
+
+same-length-2 : tie.Need-same-length-2 Inv-loop μ-loop
+same-length-2 c = c .before .loop .inv .same
 
 returns-2 : tie.Need-returns-2 Inv-loop μ-loop
-returns-2 c = let m = c .before in let st = m .before .before in passing-end (st .args .s .now) (boxOf (st .args .low .now) (st .args .high .now)) (m .loop .at) (m .loop .inv) (c .loop-test .left)
+returns-2 c =
+    let m = c .before in let st = m .before .before in let a = st .args in
+    (passing-end (a .s .now) (length (a .low .now)) (boxOf (a .low .now) (a .high .now)) (a .rows .now) (m .loop .rows) (m .loop .b) (m .loop .inv) (c .loop-test .left), m .loop .inv .right)
 
 pub passes-spec : {M : Type 1} → statement M
-passes-spec = tie.close (tie.spec Inv-loop μ-loop loop-holds add-can-hold can-hold-requires returns loop-less loop-again returns-2)
+passes-spec = tie.close (tie.spec Inv-loop μ-loop loop-holds array-read-o mul-still-open index-1-still-open still-open-requires same-length returns add-b loop-less loop-again same-length-2 returns-2)

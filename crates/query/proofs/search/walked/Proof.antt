@@ -1,17 +1,12 @@
-use mathlib.Core.Path.{_≡_, refl, sym, ap, ap₂, _∙_, subst, subst₂}
-use mathlib.Core.Bool.{Bool, true, false, _&&_, cond}
-use mathlib.Core.List.{List, []}
+use mathlib.Core.Path.{sym, subst₂}
+use mathlib.Core.List.{List}
 use native.Mathlib.Omega.{arith}
 use borrow.Author.Needs.{needs}
-use borrow.Author.Tests.{not-true, not-false, le-ltb, lt-ltb, le-leb, lt-leb}
-use Prim.Native.Nat.{ℕ, _+_, _-_, _≤_, _<_}
-use lib.Dec.{ltb, leb}
-use lib.IntN.{ℤ, pos}
-use lib.Signed.{leZ}
-use lib.ListN.{length, take, drop, getD}
-use Rattle.query.specs.Sides.{Boxed}
+use lib.IntN.{ℤ}
+use lib.ListN.{length-take}
+use Rattle.query.specs.Sides.{Boxed, sidesOf, Standing}
+use Rattle.query.proofs.Lives.{live-first}
 use Rattle.query.proofs.Searching.{standing-first, walk-sides}
-use borrow.Author.Needs.{needs}
 use Rattle.query.proofs.search.walked.Statement.{statement}
 use Rattle.query.proofs.search.walked.Tie as tie
 
@@ -21,16 +16,30 @@ widened-requires c κs = search needs
 widened-requires-2 : tie.Need-widened-requires-2
 widened-requires-2 c κs = search needs
 
+slice-aggregate-laid : tie.Need-slice-aggregate-laid
+slice-aggregate-laid c = search needs
+
+laid-requires : tie.Need-laid-requires
+laid-requires c κs = search needs
+
+array-borrow-prefix-rows : tie.Need-array-borrow-prefix-rows
+array-borrow-prefix-rows c = search needs
+
+slice-aggregate-level : tie.Need-slice-aggregate-level
+slice-aggregate-level c = let x = c .before .before in let i = x .laid .ensures .inside in omega (arith, length-take (x .laid .result) (x .laid .last .1 .0))
+
 level-requires : tie.Need-level-requires
 level-requires c κs =
-    let w = c .before in let st = w .before .before in
-    let b = subst₂ (λ (u v : List ℤ). Boxed (st .args .n) (st .args .s .now) u v) (sym (w .widened .ensures .0)) (sym (c .widened2 .ensures .0)) (st .pre) in
-    (standing-first (st .args .n) (st .args .s .now) (w .widened .result) (c .widened2 .result) b (w .widened .ensures .1) (c .widened2 .ensures .1), omega arith)
+    let x = c .before .before in let w2 = c .before .before .before .before in let w = w2 .before in let st = w .before .before in let a = st .args in
+    let b = subst₂ (λ (u v : List ℤ). Boxed (a .n) (a .s .now) u v) (sym (w .widened .ensures .0)) (sym (w2 .widened2 .ensures .0)) (st .pre) in
+    let g : Standing (a .s .now) (a .n) 0 (w .widened .result) (w2 .widened2 .result) = standing-first (a .n) (a .s .now) (w .widened .result) (w2 .widened2 .result) b (w .widened .ensures .1) (w2 .widened2 .ensures .1) in
+    let r = x .laid .ensures .laid (a .n) (g .axes) in
+    (g, omega arith, live-first (a .s .now) (a .n) (sidesOf (a .n) (w .widened .result) (w2 .widened2 .result)) _ r, r)
 
 returns : tie.Need-returns
 returns c =
-    let x = c .before in let w = x .before in let st = w .before .before in
-    walk-sides (st .args .n) (st .args .s .now) (st .args .low) (st .args .high) (w .widened .result) (x .widened2 .result) (st .args .limit) (c .level .result) (w .widened .ensures .0) (x .widened2 .ensures .0) (c .level .ensures)
+    let l = c .before in let w2 = l .before .before .before .before .before in let w = w2 .before in let st = w .before .before in let a = st .args in
+    walk-sides (a .n) (a .s .now) (a .low) (a .high) (w .widened .result) (w2 .widened2 .result) (a .limit) (l .level .result) (w .widened .ensures .0) (w2 .widened2 .ensures .0) (l .level .ensures .1)
 
 pub walked-spec : {M : Type 1} → statement M
-walked-spec = tie.close (tie.spec widened-requires widened-requires-2 level-requires returns)
+walked-spec = tie.close (tie.spec widened-requires widened-requires-2 slice-aggregate-laid laid-requires array-borrow-prefix-rows slice-aggregate-level level-requires returns)

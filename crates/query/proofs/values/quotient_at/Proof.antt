@@ -13,7 +13,8 @@ use Rattle.integers.specs.Z.{Within}
 use Rattle.integers.specs.Mach.{toZ-ofZ, toZ-nat, result-is, mach}
 use Rattle.model.specs.Sets.{dot, floorDiv, quotient, meets, isZero, equality, inequality, value}
 use Rattle.codec.specs.Bytes.{valueOf, signed, signedList, readDivision, readConstraint, kindOf, readCommand, widthOf}
-use Rattle.query.proofs.Reading.{all-mono, sum-fits, sum-within, floor-within}
+use Rattle.bounds.proofs.Reading.{all-mono, floor-within}
+use Rattle.query.proofs.Reading.{sum-fits, sum-within}
 use borrow.Author.Needs.{needs}
 use Rattle.query.proofs.values.quotient_at.Statement.{statement}
 use Rattle.query.proofs.values.quotient_at.Tie as tie

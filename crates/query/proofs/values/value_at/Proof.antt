@@ -14,7 +14,8 @@ use Rattle.integers.specs.Mach.{toZ-ofZ, toZ-nat, result-is, mach}
 use Rattle.model.specs.Sets.{dot, floorDiv, quotient, Kind, meets, isZero, equality, inequality, value}
 use Rattle.codec.specs.Bytes.{valueOf, signed, signedList, readDivision, readConstraint, kindOf, readCommand, widthOf}
 use lib.Signed.{nonNeg}
-use Rattle.query.proofs.Reading.{dots-fit, value-fits, zero-bits, nonneg-bits, value-one, kind-equality, kind-inequality}
+use Rattle.bounds.proofs.Reading.{nonneg-bits, kind-equality, kind-inequality}
+use Rattle.query.proofs.Reading.{dots-fit, value-fits, zero-bits, value-one}
 use borrow.Author.Needs.{needs}
 use Rattle.query.proofs.values.value_at.Statement.{statement}
 use Rattle.query.proofs.values.value_at.Tie as tie

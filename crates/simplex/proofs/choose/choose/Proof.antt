@@ -1,25 +1,18 @@
-use mathlib.Core.Path.{_≡_, refl, sym, ap, ap₂, _∙_, subst}
-use mathlib.Core.Bool.{true, false, not}
-use mathlib.Core.List.{List, []}
-use Prim.Native.Nat.{ℕ, _+_, _-_, _≤_, _<_}
+use mathlib.Core.Path.{sym, _∙_}
+use mathlib.Core.Bool.{true, false}
+use mathlib.Core.List.{[]}
 use borrow.Author.Needs.{needs}
-use borrow.Author.Tests.{eq-eqb, ne-eqb, le-leb, lt-leb, not-true, not-false}
 use native.Mathlib.Omega.{arith}
-use lib.ListN.{length, getD, set}
-use lib.IntN.{ℤ, pos}
-use mathlib.Core.Bool.{cond}
-use Rattle.simplex.specs.declared.Verdict.the-variants.{Point, Dropped, Long, Wide}
-use Rattle.simplex.specs.declared.Move.the-variants.{Stop, Pivot}
-use Rattle.simplex.specs.Table.{violated as violatedOf, helping as helpingOf, narrowRows as narrowOf}
-use Rattle.simplex.specs.Table.{moveOf as chooseOf, moveFor, moveBy}
-use Rattle.simplex.proofs.Moves.{violated-found, helping-found, choose-point, choose-dropped, choose-long, choose-last, row-spot, column-spot}
+use lib.ListN.{getD}
+use Rattle.tableau.proofs.Searches.{column-spot}
+use Rattle.simplex.proofs.Moves.{choose-point, choose-dropped, choose-long, choose-last, row-spot}
 use Rattle.simplex.proofs.choose.choose.Statement.{statement}
 use Rattle.simplex.proofs.choose.choose.Tie as tie
 use Rattle.simplex.proofs.choose.choose.Reads as reads
 use Rattle.simplex.proofs.choose.choose.Lts as lts
-use Rattle.simplex.proofs.choose.helping.Reads as helping-reads
-use Rattle.simplex.proofs.choose.narrow.Reads as narrow-reads
-use Rattle.simplex.proofs.choose.violated.Reads as violated-reads
+use Rattle.tableau.proofs.helping.Reads as helping-reads
+use Rattle.tableau.proofs.narrow.Reads as narrow-reads
+use Rattle.tableau.proofs.violated.Reads as violated-reads
 
 violated-requires : tie.Need-violated-requires
 violated-requires c κs = search needs

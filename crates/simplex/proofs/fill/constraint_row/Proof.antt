@@ -1,9 +1,6 @@
-use mathlib.Core.Path.{_≡_, refl, sym, ap, ap₂, _∙_, subst}
-use Prim.Native.Nat.{ℕ, _+_, _-_, _*_, _≤_, _<_}
-use native.Mathlib.Omega.{arith}
-use lib.ListN.{length, getD, set, take}
-use lib.IntN.{ℤ, pos, negsuc, negℤ, _-ℤ_, _*ℤ_}
-use mir.Syntax.{w16, w32, w64}
+use mathlib.Core.Path.{_≡_, _∙_, subst}
+use lib.IntN.{pos}
+use mir.Syntax.{w32, w64}
 use mir.Val.{toZ, ofZ}
 use mir.Facts.{toZ-ofZ}
 use Rattle.simplex.proofs.Fills.{constraint-is}
@@ -29,12 +26,12 @@ copy-requires c κs = search needs
 
 returns : tie.Need-returns
 returns c =
-    let s = c .before .before .before .before .before .before .before in
+    let s = c .before .before .before .before .before .before .before .before in
     let w = c .before .before .before .wide in
     let r = s .args .c in
     let z : toZ w64 (ofZ w64 (w .result)) ≡ r .constant =
-    toZ-ofZ (record { sfits = w .ok }) ∙ w .ensures ∙ toZ-ofZ {w = w32} {z = r .constant} (record { sfits = c .before .before .before .before .before .before .struct-told .given .1 .0 .1 }) in
-    let l = c .before .before .row-of .result in
+    toZ-ofZ (record { sfits = w .ok }) ∙ w .ensures ∙ toZ-ofZ {w = w32} {z = r .constant} (record { sfits = c .before .before .before .before .before .before .before .struct-told .given .1 .0 .1 }) in
+    let l = c .before .before .row-of .last .0 in
     constraint-is (s .args .k) (kindIs (r .equality)) (r .constant) (r .axes) (r .divisions) l (c .copy .last .0) (s .pre)
     (subst (λ z. Started (s .args .k) z (pos 1) (r .axes) l) z (c .before .before .row-of .ensures)) (c .copy .ensures)
 

@@ -1,9 +1,8 @@
-use mathlib.Core.Path.{_≡_, refl, sym, ap, ap₂, _∙_, subst}
-use Prim.Native.Nat.{ℕ, _+_, _-_, _*_, _≤_, _<_}
-use native.Mathlib.Omega.{arith}
-use lib.ListN.{length, getD, set, take}
-use lib.IntN.{ℤ, pos, negsuc, negℤ, _-ℤ_, _*ℤ_}
-use mir.Syntax.{w16, w32, w64}
+use mathlib.Core.Path.{_≡_, ap, _∙_, subst}
+use Prim.Native.Nat.{_+_}
+use lib.ListN.{set}
+use lib.IntN.{pos}
+use mir.Syntax.{w32, w64}
 use mir.Val.{toZ, ofZ}
 use mir.Facts.{toZ-ofZ}
 use Rattle.simplex.proofs.Fills.{lower-is}
@@ -26,26 +25,33 @@ row-of-requires c κs = search needs
 opposite-requires : tie.Need-opposite-requires
 opposite-requires c κs = search needs
 
-add-r : tie.Need-add-r
-add-r c = search needs
+add-t11 : tie.Need-add-t11
+add-t11 c = search needs
 
-mul-r : tie.Need-mul-r
-mul-r c = search needs
+mul-t12 : tie.Need-mul-t12
+mul-t12 c = search needs
 
-array-set-from-r : tie.Need-array-set-from-r
-array-set-from-r c = search needs
+element-set-from-r : tie.Need-element-set-from-r
+element-set-from-r c = search needs
 
 returns : tie.Need-returns
 returns c =
-    let s = c .before .before .before .before .before in
+    let s = c .before .before .before .before .before .before in
     let w = c .before .before .wide in
     let z : toZ w64 (ofZ w64 (w .result)) ≡ s .args .e .constant =
-    toZ-ofZ (record { sfits = w .ok }) ∙ w .ensures ∙ toZ-ofZ {w = w32} {z = s .args .e .constant} (record { sfits = c .before .before .before .before .struct-told .given .1 .0 .1 }) in
-    let l = c .before .row-of .result in
+    toZ-ofZ (record { sfits = w .ok }) ∙ w .ensures ∙ toZ-ofZ {w = w32} {z = s .args .e .constant} (record { sfits = c .before .before .before .before .before .struct-told .given .1 .0 .1 }) in
+    let l = c .before .row-of .last .0 in
     ap (set l (s .args .i + 2)) (toZ-ofZ (record { sfits = c .opposite .ok }) ∙ c .opposite .ensures)
     ∙ lower-is (s .args .k) (s .args .i) (s .args .e .divisor) (s .args .e .constant) (s .args .e .axes) l (s .pre .1) (s .pre .0) (subst (λ z. Started (s .args .k) z (pos 1) (s .args .e .axes) l) z (c .before .row-of .ensures))
 
 pub lower-row-spec : {M : Type 1} → statement M
 lower-row-spec =
     tie.close
-    (tie.spec wide-requires row-of-requires opposite-requires add-r mul-r array-set-from-r returns)
+    (tie.spec
+    wide-requires
+    row-of-requires
+    opposite-requires
+    add-t11
+    mul-t12
+    element-set-from-r
+    returns)

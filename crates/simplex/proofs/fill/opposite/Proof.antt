@@ -1,16 +1,8 @@
-use mathlib.Core.Path.{_≡_, refl, sym, ap, ap₂, _∙_}
-use mathlib.Core.Bool.{true, false, cond}
-use Prim.Native.Nat.{ℕ, _+_, _-_, _≤_, _<_}
-use native.Mathlib.Omega.{arith}
+use mathlib.Core.Path.{_∙_}
 use borrow.Author.Needs.{needs}
-use borrow.Author.Tests.{lt-ltb, le-ltb}
-use lib.Dec.{ltb}
-use lib.ListN.{length, getD, set}
-use lib.IntN.{ℤ, pos, negℤ, _-ℤ_, _*ℤ_}
-use mir.Syntax.{w16, w32, w64}
-use mir.Val.{toZ, ofZ}
+use lib.IntN.{pos}
 use mir.Facts.{toZ-ofZ}
-use Rattle.simplex.proofs.Lines.{minus-is}
+use Rattle.tableau.proofs.Lines.{minus-is}
 use Rattle.simplex.proofs.Fills.{count-is, minus-fits}
 use Rattle.simplex.proofs.fill.opposite.Statement.{statement}
 use Rattle.simplex.proofs.fill.opposite.Tie as tie

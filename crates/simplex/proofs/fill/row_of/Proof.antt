@@ -1,10 +1,6 @@
-use mathlib.Core.Path.{_≡_, refl, sym, ap, ap₂, _∙_, subst₂}
-use Prim.Native.Nat.{ℕ, _+_, _-_, _*_, _≤_, _<_}
+use mathlib.Core.Path.{refl, subst₂}
+use Prim.Native.Nat.{_+_}
 use native.Mathlib.Omega.{arith}
-use lib.ListN.{length, getD, set, take}
-use lib.IntN.{ℤ, pos, negsuc, negℤ, _-ℤ_, _*ℤ_}
-use mir.Syntax.{w16, w32, w64}
-use mir.Val.{toZ, ofZ}
 use mir.Facts.{toZ-ofZ}
 use Rattle.simplex.proofs.Fills.{started, fresh}
 use Rattle.simplex.specs.Table.{Copied}
@@ -15,23 +11,24 @@ use Rattle.simplex.proofs.fill.row_of.Reads as reads
 use Rattle.simplex.proofs.fill.row_of.Lts as lts
 use Rattle.simplex.proofs.fill.copy.Reads as copy-reads
 
-array-set-of-r : tie.Need-array-set-of-r
-array-set-of-r c = search needs
+element-set-of-r : tie.Need-element-set-of-r
+element-set-of-r c = search needs
 
-array-set-from-r : tie.Need-array-set-from-r
-array-set-from-r c = search needs
+element-set-from-z : tie.Need-element-set-from-z
+element-set-from-z c = search needs
 
 add-copy : tie.Need-add-copy
 add-copy c = search needs
 
 copy-requires : tie.Need-copy-requires
-copy-requires c κs = let s = c .before in (refl, (omega arith, (omega arith, simp (toZ-ofZ (s .fits .s)) (s .pre .1))))
+copy-requires c κs = let s = c .before .before in (refl, (omega arith, (omega arith, simp (toZ-ofZ (s .fits .s)) (s .pre .1))))
 
 returns : tie.Need-returns
 returns c =
-    let s = c .before .before in
+    let s = c .before .before .before in
     started (s .args .k) (s .args .z) (s .args .s) (s .args .a) (c .copy .last .0) (s .pre .0)
     (subst₂ (λ x z. Copied (s .args .k + 2) x 8 (s .args .a) (fresh z) (c .copy .last .0)) (toZ-ofZ (s .fits .s)) (toZ-ofZ (s .fits .z)) (c .copy .ensures))
 
 pub row-of-spec : {M : Type 1} → statement M
-row-of-spec = tie.close (tie.spec array-set-of-r array-set-from-r add-copy copy-requires returns)
+row-of-spec =
+    tie.close (tie.spec element-set-of-r element-set-from-z add-copy copy-requires returns)

@@ -1,9 +1,8 @@
-use mathlib.Core.Path.{_≡_, refl, sym, ap, ap₂, _∙_, subst}
-use Prim.Native.Nat.{ℕ, _+_, _-_, _*_, _≤_, _<_}
-use native.Mathlib.Omega.{arith}
-use lib.ListN.{length, getD, set, take}
-use lib.IntN.{ℤ, pos, negsuc, negℤ, _-ℤ_, _*ℤ_}
-use mir.Syntax.{w16, w32, w64}
+use mathlib.Core.Path.{_≡_, ap, _∙_, subst}
+use Prim.Native.Nat.{_+_}
+use lib.ListN.{set}
+use lib.IntN.{pos, negsuc, _-ℤ_}
+use mir.Syntax.{w32, w64}
 use mir.Val.{toZ, ofZ}
 use mir.Facts.{toZ-ofZ}
 use Rattle.simplex.proofs.Fills.{upper-is}
@@ -26,24 +25,24 @@ row-of-requires c κs = search needs
 unsigned-requires : tie.Need-unsigned-requires
 unsigned-requires c κs = search needs
 
-add-r : tie.Need-add-r
-add-r c = search needs
+add-t11 : tie.Need-add-t11
+add-t11 c = search needs
 
-mul-r : tie.Need-mul-r
-mul-r c = search needs
+mul-t12 : tie.Need-mul-t12
+mul-t12 c = search needs
 
-array-set-from-r : tie.Need-array-set-from-r
-array-set-from-r c = search needs
+element-set-from-r : tie.Need-element-set-from-r
+element-set-from-r c = search needs
 
 returns : tie.Need-returns
 returns c =
-    let s = c .before .before .before .before .before in
+    let s = c .before .before .before .before .before .before in
     let w = c .before .before .upper-constant in
     let d = s .args .e .divisor in
     let z : toZ w64 (ofZ w64 (w .result)) ≡ pos d -ℤ pos 1 -ℤ s .args .e .constant =
     toZ-ofZ (record { sfits = w .ok }) ∙ w .ensures
-    ∙ ap (λ z. pos d -ℤ pos 1 -ℤ z) (toZ-ofZ {w = w32} {z = s .args .e .constant} (record { sfits = c .before .before .before .before .struct-told .given .1 .0 .1 })) in
-    let l = c .before .row-of .result in
+    ∙ ap (λ z. pos d -ℤ pos 1 -ℤ z) (toZ-ofZ {w = w32} {z = s .args .e .constant} (record { sfits = c .before .before .before .before .before .struct-told .given .1 .0 .1 })) in
+    let l = c .before .row-of .last .0 in
     ap (set l (s .args .i + 2)) (toZ-ofZ (record { sfits = c .unsigned .ok }) ∙ c .unsigned .ensures)
     ∙ upper-is (s .args .k) (s .args .i) d (s .args .e .constant) (s .args .e .axes) l (s .pre .1) (s .pre .0) (subst (λ z. Started (s .args .k) z (negsuc 0) (s .args .e .axes) l) z (c .before .row-of .ensures))
 
@@ -54,7 +53,7 @@ upper-row-spec =
     upper-constant-requires
     row-of-requires
     unsigned-requires
-    add-r
-    mul-r
-    array-set-from-r
+    add-t11
+    mul-t12
+    element-set-from-r
     returns)

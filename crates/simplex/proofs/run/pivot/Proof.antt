@@ -1,12 +1,11 @@
 use mathlib.Core.Path.{refl}
-use native.Mathlib.Omega.{arith}
 use Rattle.simplex.specs.Table.{pivotRows, pivotPlace}
 use borrow.Author.Needs.{needs}
 use Rattle.simplex.proofs.run.pivot.Statement.{statement}
 use Rattle.simplex.proofs.run.pivot.Tie as tie
 use Rattle.simplex.proofs.run.pivot.Reads as reads
 use Rattle.simplex.proofs.run.pivot.Lts as lts
-use Rattle.simplex.proofs.pivot.exchange.Reads as exchange-reads
+use Rattle.tableau.proofs.exchange.Reads as exchange-reads
 
 mul-i : tie.Need-mul-i
 mul-i c = search needs

@@ -1,10 +1,10 @@
-use mathlib.Core.Path.{_≡_, refl, sym, ap, _∙_, subst}
-use Prim.Native.Nat.{ℕ, _+_, _-_, _≤_, _<_}
+use mathlib.Core.Path.{_≡_, refl, sym, ap, _∙_}
+use Prim.Native.Nat.{_-_, _≤_}
 use borrow.Author.Needs.{needs}
 use native.Mathlib.Omega.{arith}
-use lib.ListN.{length, getD, set}
+use lib.ListN.{length}
 use Rattle.simplex.specs.declared.Move.the-variants.{Stop, Pivot}
-use Rattle.simplex.specs.Table.{moveOf as chooseOf, runTable as run, pivotRows, pivotPlace, Fine, Crossing}
+use Rattle.simplex.specs.Table.{moveOf as chooseOf, runTable as run, Fine}
 use Rattle.simplex.proofs.Moves.{run-stop, run-pivot, pivot-left, pivot-fine, crossing, pivot-length, rows-length}
 use Rattle.simplex.proofs.run.run.Statement.{statement}
 use Rattle.simplex.proofs.run.run.Tie as tie

@@ -1,0 +1,86 @@
+use mathlib.Core.Path.{ap, _∙_, subst}
+use mathlib.Core.List.{List}
+use native.Mathlib.Omega.{arith}
+use Prim.Native.Nat.{ℕ}
+use lib.ListN.{length-take}
+use Rattle.model.specs.Lists.{all}
+use Rattle.codec.specs.Places.{basicAt}
+use Rattle.bounds.specs.Intervals.{Interval, canHold, boxOf}
+use Rattle.bounds.specs.Ends.{Past, canStand}
+use Rattle.bounds.specs.Rows.{startOf}
+use Rattle.bounds.proofs.Reading.{take-within}
+use borrow.Author.Needs.{needs}
+use Rattle.bounds.proofs.holding.can_hold.Statement.{statement}
+use Rattle.bounds.proofs.holding.can_hold.Tie as tie
+
+settle-requires : tie.Need-settle-requires
+settle-requires c κs = search needs
+
+no-values-requires : tie.Need-no-values-requires
+no-values-requires c κs = search needs
+
+no-values-requires-2 : tie.Need-no-values-requires-2
+no-values-requires-2 c κs = search needs
+
+slice-aggregate-bounded : tie.Need-slice-aggregate-bounded
+slice-aggregate-bounded c = search needs
+
+slice-aggregate-bounded-2 : tie.Need-slice-aggregate-bounded-2
+slice-aggregate-bounded-2 c = search needs
+
+bounded-requires : tie.Need-bounded-requires
+bounded-requires c κs = search needs
+
+array-share-prefix-ql : tie.Need-array-share-prefix-ql
+array-share-prefix-ql c = search needs
+
+slice-aggregate-open : tie.Need-slice-aggregate-open
+slice-aggregate-open c =
+    let d = c .before .before .before .before in let f = d .bounded .ensures .few in let l = d .bounded .ensures .lows in
+    omega (arith, length-take (d .bounded .result) (d .bounded .last .1 .1 .1 .1 .1 .0))
+
+array-share-prefix-qh : tie.Need-array-share-prefix-qh
+array-share-prefix-qh c = search needs
+
+slice-aggregate-open-2 : tie.Need-slice-aggregate-open-2
+slice-aggregate-open-2 c =
+    let d = c .before .before .before .before .before in let f = d .bounded .ensures .few in let l = d .bounded .ensures .highs in
+    omega (arith, length-take (d .bounded .result) (d .bounded .last .1 .1 .1 .1 .1 .1 .0))
+
+open-requires : tie.Need-open-requires
+open-requires c κs =
+    let d = c .before .before .before .before .before in let y = d .before .before .before .before .before .before in let st = y .before .before .before in let e = d .bounded .ensures in
+    let ql = d .bounded .last .1 .1 .1 .1 .1 .0 in let qh = d .bounded .last .1 .1 .1 .1 .1 .1 .0 in let m = d .bounded .result in
+    let f = e .few in let l = e .lows in let h = e .highs in (
+      y .settle .ensures .0,
+      st .pre .1,
+      record { few = omega (arith, length-take m ql); same = omega (arith, length-take m ql, length-take m qh); lows = take-within 549755813888 ql m (e .low-size); highs = take-within 549755813888 qh m (e .high-size) },
+      subst (Past (st .args .s .now) (startOf (y .settle .last .1 .1 .1 .1 .0))) (slice-aggregate-open (c .before)) (record { count = e .count; there = e .there; same = e .same }),
+    )
+
+returns : tie.Need-returns
+returns c =
+    let d = c .before .before .before .before .before .before in let y = d .before .before .before .before .before .before in let st = y .before .before .before in let a = st .args in
+    let xs = boxOf (a .low .now) (a .high .now) in let r = y .settle .last .1 .1 .1 .1 .0 in
+    record {
+      is = c .«open» .ensures ∙ ap (λ (qs : List Interval). all (canStand xs qs) (basicAt (a .s .now) (startOf r) .constraints)) (d .bounded .ensures .is) ∙ ap (λ (p : ℕ). canHold xs (basicAt (a .s .now) p)) (y .settle .ensures .1);
+      row = y .settle .ensures .0 .row;
+      place = y .settle .ensures .1;
+    }
+
+pub can-hold-spec : {M : Type 1} → statement M
+can-hold-spec =
+    tie.close
+    (tie.spec
+    settle-requires
+    no-values-requires
+    no-values-requires-2
+    slice-aggregate-bounded
+    slice-aggregate-bounded-2
+    bounded-requires
+    array-share-prefix-ql
+    slice-aggregate-open
+    array-share-prefix-qh
+    slice-aggregate-open-2
+    open-requires
+    returns)

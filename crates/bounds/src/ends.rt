@@ -1,0 +1,105 @@
+// The least and the greatest value of one division or constraint over a box, from the ends of its axes' part over a box that differs in one axis.
+ghost use mathlib.Core.Path.{_≡_};
+ghost use mathlib.Core.Bool.{cond};
+ghost use Prim.Native.Nat.{ℕ, _+_, _-_, _*_, _≤_, _<_};
+ghost use lib.IntN.{ℤ, _+ℤ_, _*ℤ_};
+ghost use lib.Signed.{nonNeg};
+ghost use lib.ListN.{length, take, drop};
+ghost use Rattle.integers.specs.Z.{Within};
+ghost use Rattle.model.specs.Sets.{floorDiv};
+ghost use Rattle.codec.specs.Bytes.{valueOf, signed, signedList, readDivision, readConstraint, kindOf};
+ghost use Rattle.bounds.specs.Intervals.{canMeet};
+ghost use Rattle.bounds.specs.Ends.{AllWithin, best, gain, Ends, Step, meetSide};
+use crate::numbers::s16_at;
+use crate::numbers::s32_at;
+
+pub fn no_values() -> [i64; 8]
+    ensures { λ r. ⌜ (length r ≡ 8) × AllWithin 549755813888 r ⌝ }
+{
+    [0i64; 8]
+}
+
+// A coefficient times the end that makes it greatest, for a side from v to u.
+fn term(a: i64, u: i64, v: i64) -> i64
+    requires { ⌜ Within 32768 a × Within 2199023255552 u × Within 2199023255552 v ⌝ }
+    ensures { λ r. ⌜ r ≡ a *ℤ cond (nonNeg a) u v ⌝ }
+{
+    if 0 <= a {
+        return a * u;
+    }
+    a * v
+}
+
+// A number, and the greatest sum of the coefficients from p on times the sides from v to u.
+fn extreme(t: &[u8], p: usize, u: &[i64], v: &[i64], from: i64) -> i64
+    requires { ⌜ (p + 16 ≤ length (now t)) × Ends (now u) (now v) 2199023255552 × Within 2199023255552 from ⌝ }
+    ensures is { λ r. ⌜ r ≡ from +ℤ best (signedList 8 (drop p (now (t .entry)))) (now (u .entry)) (now (v .entry)) ⌝ }
+    ensures size { λ r. ⌜ ((F B : ℕ) → Within F from → AllWithin B (now (u .entry)) → AllWithin B (now (v .entry)) → Within (F + 8 * (32768 * B)) r) ⌝ }
+{
+    let mut s = from;
+    let mut i = 0;
+    let mut q = p;
+    while i < u.len() {
+        s += term(s16_at(t, q), u[i], v[i]);
+        q += 2;
+        i += 1;
+    }
+    s
+}
+
+// The greatest sum z of the coefficients from p on times sides, once the side of axis k has moved by to and from.
+pub fn moved(t: &[u8], p: usize, k: usize, from: i64, to: i64, z: i64) -> i64
+    requires { ⌜ (p + 16 ≤ length (now t)) × Step k from to × Within 274877906944 z ⌝ }
+    ensures is { λ r. ⌜ r ≡ z +ℤ gain k from to (signedList 8 (drop p (now (t .entry)))) ⌝ }
+    ensures size { λ r. ⌜ Within 343597383680 r ⌝ }
+{
+    z + term(s16_at(t, p + 2 * k), from, to)
+}
+
+// The same, with the constant that stands before the coefficients.
+fn end_at(t: &[u8], p: usize, k: usize, from: i64, to: i64, z: i64) -> i64
+    requires { ⌜ (4 ≤ p) × (p + 16 ≤ length (now t)) × Step k from to × Within 274877906944 z ⌝ }
+    ensures is { λ r. ⌜ r ≡ signed 4 (valueOf (take 4 (drop (p - 4) (now (t .entry))))) +ℤ (z +ℤ gain k from to (signedList 8 (drop p (now (t .entry))))) ⌝ }
+    ensures size { λ r. ⌜ Within 549755813888 r ⌝ }
+{
+    let c = s32_at(t, p - 4);
+    c + moved(t, p, k, from, to, z)
+}
+
+// The floor of the greatest value of the numerator of the division whose bytes after the first are t; with from and to exchanged of the least.
+pub fn quotient_end(t: &[u8], k: usize, from: i64, to: i64, z: i64) -> i64
+    requires { ⌜ (22 ≤ length (now t)) × (0 < readDivision (now t) .divisor) × Step k from to × Within 274877906944 z ⌝ }
+    ensures is { λ r. ⌜ r ≡ floorDiv (readDivision (now (t .entry)) .constant +ℤ (z +ℤ gain k from to (readDivision (now (t .entry)) .axes))) (readDivision (now (t .entry)) .divisor) ⌝ }
+    ensures size { λ r. ⌜ Within 549755813888 r ⌝ }
+{
+    let e = end_at(t, 6, k, from, to, z);
+    let d = integers::u16_at(t, 0);
+    integers::floor_div(e, d as i64)
+}
+
+// Whether the constraint whose command is b and whose bytes after it are t can hold: l and h are the ends of its axes' part before axis k has moved, ql and qh
+// those of the divisions' values.
+pub fn can_meet(
+    b: u8,
+    t: &[u8],
+    k: usize,
+    from: i64,
+    to: i64,
+    l: i64,
+    h: i64,
+    ql: &[i64],
+    qh: &[i64],
+) -> bool
+    requires { ⌜ (36 ≤ length (now t)) × Step k from to × Within 274877906944 l × Within 274877906944 h × Ends (now ql) (now qh) 549755813888 ⌝ }
+    ensures { λ r. ⌜ r ≡ canMeet (kindOf b) (meetSide k from to l h (now (ql .entry)) (now (qh .entry)) (readConstraint (kindOf b) (now (t .entry)))) ⌝ }
+{
+    let g = end_at(t, 4, k, to, from, h);
+    if extreme(t, 20, qh, ql, g) < 0 {
+        return false;
+    }
+    if b == 19 {
+        let f = end_at(t, 4, k, from, to, l);
+        return extreme(t, 20, ql, qh, f) <= 0;
+    }
+    true
+}

@@ -1,0 +1,93 @@
+use mathlib.Core.Path.{_≡_, ap, ap₂, _∙_}
+use Prim.Native.Nat.{_+_, zero-le}
+use borrow.Author.Needs.{needs}
+use lib.ListN.{getD, set}
+use lib.IntN.{pos, _-ℤ_}
+use mir.Facts.{toZ-ofZ}
+use Rattle.integers.specs.Size.{bound}
+use Rattle.tableau.specs.Rows.{combineRows as combineOf, reduceRow as reduceOf, replaceRow as replaceOf, divisor}
+use Rattle.tableau.proofs.Lines.{set-small, clear-line, combine-line, combine-small, combine-den, set-den, within-minus, minus-back, back, wider, fits}
+use Rattle.tableau.proofs.row.replace.Statement.{statement}
+use Rattle.tableau.proofs.row.replace.Tie as tie
+use Rattle.tableau.proofs.row.replace.Reads as reads
+use Rattle.tableau.proofs.row.replace.Lts as lts
+use Rattle.tableau.proofs.row.combine.Reads as combine-reads
+use Rattle.tableau.proofs.row.reduce_by.Reads as reduce-by-reads
+
+add-b : tie.Need-add-b
+add-b c = search needs
+
+mul-b : tie.Need-mul-b
+mul-b c = search needs
+
+element-copy-out-b : tie.Need-element-copy-out-b
+element-copy-out-b c = search needs
+
+add-r : tie.Need-add-r
+add-r c = search needs
+
+mul-r : tie.Need-mul-r
+mul-r c = search needs
+
+element-set-of-r : tie.Need-element-set-of-r
+element-set-of-r c = search needs
+
+sub-combine : tie.Need-sub-combine
+sub-combine c =
+    let s = c .before .before in
+    let (hj, (hr, (hq, (wr, rest)))) = s .pre in
+    let h = wr (s .args .j + 2) in
+    rw (back (wider h)) (fits (within-minus (wider h)))
+
+combine-requires : tie.Need-combine-requires
+combine-requires c κs =
+    let s = c .before .before in
+    let (hj, (hr, (hq, (wr, (wq, (hz, (hm, (pm, pd)))))))) = s .pre in
+    let h = wr (s .args .j + 2) in
+    rw (minus-back (getD (s .args .r .now) (s .args .j + 2) (pos 0)) h, toZ-ofZ (s .fits .m))
+    (clear-line (s .args .n) (s .args .r .now) (s .args .j + 2) hr, (hq, (set-small (bound 64) (s .args .r .now) (s .args .j + 2) (pos 0) (record { size = zero-le }) wr, (wq, (hm, within-minus h)))))
+
+reduce-by-requires : tie.Need-reduce-by-requires
+reduce-by-requires c κs =
+    let s = c .before .before .before .before in
+    let (hj, (hr, (hq, (wr, (wq, (hz, (hm, (pm, pd)))))))) = s .pre in
+    let m = s .args .m in
+    let h = wr (s .args .j + 2) in
+    let b = pos 0 -ℤ getD (s .args .r .now) (s .args .j + 2) (pos 0) in
+    let l = set (s .args .r .now) (s .args .j + 2) (pos 0) in
+    let q = s .args .q .now in
+    let hl = clear-line (s .args .n) (s .args .r .now) (s .args .j + 2) hr in
+    let e : c .before .combine .last .0 ≡ combineOf m b l q =
+    c .before .combine .ensures .0 ∙ ap₂ (λ m b. combineOf m b l q) (toZ-ofZ (s .fits .m)) (minus-back (getD (s .args .r .now) (s .args .j + 2) (pos 0)) h) in
+    let g : c .before .combine .result ≡ divisor (combineOf m b l q) = c .before .combine .ensures .1 ∙ ap divisor e in
+    rw e (
+      combine-line (s .args .n) m b l q hl hq,
+      (
+        combine-small (s .args .n) m b l q hl hq hm (within-minus h) (set-small (bound 64) (s .args .r .now) (s .args .j + 2) (pos 0) (record { size = zero-le }) wr) wq,
+        (combine-den (s .args .n) m b l q hl hq pm (rw (set-den (s .args .r .now) (s .args .j) (pos 0)) pd) hz, g),
+      ),
+    )
+
+returns : tie.Need-returns
+unfolding replaceOf
+returns c =
+    let s = c .before .before .before .before .before in
+    let h = s .pre .1 .1 .1 .0 (s .args .j + 2) in
+    let l = set (s .args .r .now) (s .args .j + 2) (pos 0) in
+    c .reduce-by .ensures
+    ∙ ap reduceOf (c .before .before .combine .ensures .0 ∙ ap₂ (λ m b. combineOf m b l (s .args .q .now)) (toZ-ofZ (s .fits .m)) (minus-back (getD (s .args .r .now) (s .args .j + 2) (pos 0)) h))
+
+pub replace-spec : {M : Type 1} → statement M
+replace-spec =
+    tie.close
+    (tie.spec
+    add-b
+    mul-b
+    element-copy-out-b
+    add-r
+    mul-r
+    element-set-of-r
+    sub-combine
+    combine-requires
+    reduce-by-requires
+    returns)
