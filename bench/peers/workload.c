@@ -1,0 +1,398 @@
+/* workload FAMILY SEED CASES FILE: makes cases from a seed; the same arguments give the same file.
+ *
+ *   dispatch  5 axes: payload in 100 kg, road, grade in 0.1 %, truck class, minute of the shift; divisions for tonnes, half-hour slots,
+ *             hours and road zones. A of 1 to 10 permits, B of 1 to 6, C and D of 1 to 6 closures, E of basic sets of A with further
+ *             constraints, in half of the cases one of them a little outside
+ *   limit     8 axes, 8 divisions, up to 32 constraints a basic set: near document 01's limits
+ *   big       4 axes, coefficients to 32,767, constants to 1,000,000,000; closures without bounds of their own
+ *   tiny      1 to 3 axes and small numbers in a box of 15 values an axis, of which every point is checked
+ */
+#include "sets.h"
+#include <stdio.h>
+#include <stdlib.h>
+#include <string.h>
+
+/* splitmix64 */
+static uint64_t state;
+static uint64_t draw(void)
+{
+    uint64_t z = (state += 0x9e3779b97f4a7c15u);
+    z = (z ^ (z >> 30)) * 0xbf58476d1ce4e5b9u;
+    z = (z ^ (z >> 27)) * 0x94d049bb133111ebu;
+    return z ^ (z >> 31);
+}
+static int from(int low, int high) { return low + (int)(draw() % (uint64_t)((int64_t)high - low + 1)); }
+static int chance(int percent) { return from(0, 99) < percent; }
+
+static constraint *add(basic_set *b, int equality, int64_t constant)
+{
+    static constraint spare;
+    constraint *c = b->cons == CONSTRAINTS ? &spare : &b->con[b->cons++];
+    memset(c, 0, sizeof *c);
+    c->equality = equality;
+    c->constant = (int32_t)constant;
+    return c;
+}
+
+static void lower(basic_set *b, int v, int low) { add(b, 0, -(int64_t)low)->coefficient[v] = 1; }
+static void upper(basic_set *b, int v, int high) { add(b, 0, high)->coefficient[v] = -1; }
+static void equal(basic_set *b, int v, int value) { add(b, 1, -(int64_t)value)->coefficient[v] = 1; }
+
+/* constant + p·v + q·w ≥ 0 or = 0 */
+static void pair(basic_set *b, int equality, int64_t constant, int v, int p, int w, int q)
+{
+    constraint *c = add(b, equality, constant);
+    c->coefficient[v] = (int16_t)p;
+    c->coefficient[w] = (int16_t)q;
+}
+
+/* the place of floor((axis + c) / d) among the coefficients */
+static int divided(basic_set *b, int axis, int d, int c)
+{
+    division q = {d, c, {0}};
+    q.axis[axis] = 1;
+    for (int i = 0; i < b->divs; i++)
+        if (!memcmp(&b->div[i], &q, sizeof q)) return AXES + i;
+    b->div[b->divs] = q;
+    return AXES + b->divs++;
+}
+
+enum { PAYLOAD, ROAD, GRADE, CLASS, MINUTE };
+static const int32_t DISPATCH_LOW[AXES] = {0, 0, -120, 0, 0}, DISPATCH_HIGH[AXES] = {2186, 63, 120, 7, 719};
+
+/* constraints on class, grade and load until there are `target` */
+static void permit_rest(basic_set *b, int target)
+{
+    if (b->cons < target) {
+        int c = from(0, 5);
+        lower(b, CLASS, c);
+        if (b->cons < target) upper(b, CLASS, from(c, 7));
+    }
+    if (b->cons < target) lower(b, GRADE, -from(20, 120));
+    if (b->cons < target) upper(b, GRADE, from(20, 120));
+    for (int sign = -1; sign <= 1; sign += 2) /* heavy loads on flat roads only, uphill and downhill */
+        if (b->cons < target) {
+            int most = from(1800, 2600);
+            pair(b, 0, most, PAYLOAD, -1, GRADE, sign * from(4, 12));
+        }
+    if (b->cons < target) { /* heavier trucks start later */
+        int start = from(-40, 40);
+        pair(b, 0, start, MINUTE, 1, CLASS, -from(2, 10));
+    }
+}
+
+static void permit(basic_set *b, int first_road, int last_road, int target)
+{
+    memset(b, 0, sizeof *b);
+    int alternate = chance(30), by_class = chance(60), zoned = chance(20), slotted = chance(35), full = chance(6);
+    int tonnes = by_class || full ? divided(b, PAYLOAD, 10, 0) : 0;
+    int slot = alternate || slotted ? divided(b, MINUTE, 30, 0) : 0;
+    int hour = alternate ? divided(b, MINUTE, 60, 0) : 0;
+    int zone = zoned ? divided(b, ROAD, 8, 0) : 0;
+    int start = from(0, 20) * 30, end = start + from(2, 14) * 30 - 1;
+    if (end > 719) end = 719;
+    lower(b, PAYLOAD, 0);
+    upper(b, PAYLOAD, chance(50) ? 2186 : from(600, 2186));
+    if (chance(25)) equal(b, ROAD, from(first_road, last_road));
+    else {
+        lower(b, ROAD, first_road);
+        upper(b, ROAD, last_road);
+    }
+    lower(b, slotted ? slot : MINUTE, slotted ? start / 30 : start);
+    upper(b, slotted ? slot : MINUTE, slotted ? end / 30 : end);
+    if (by_class) { /* the tonnes allowed grow with the class */
+        int most = from(40, 120);
+        pair(b, 0, most, tonnes, -1, CLASS, from(10, 28));
+    }
+    if (alternate) pair(b, 1, -chance(50), slot, 1, hour, -2);
+    if (full) pair(b, 1, 0, PAYLOAD, 1, tonnes, -10);
+    if (zoned) upper(b, zone, last_road / 8);
+    permit_rest(b, target);
+}
+
+static void closure(basic_set *b)
+{
+    memset(b, 0, sizeof *b);
+    int alternate = chance(25), slotted = chance(30), heavy = chance(35);
+    int tonnes = heavy ? divided(b, PAYLOAD, 10, 0) : 0;
+    int slot = alternate || slotted ? divided(b, MINUTE, 30, 0) : 0;
+    int hour = alternate ? divided(b, MINUTE, 60, 0) : 0;
+    int first = from(0, 60), last = first + from(0, 8);
+    if (chance(40)) equal(b, ROAD, first);
+    else {
+        lower(b, ROAD, first);
+        upper(b, ROAD, last);
+    }
+    int start = from(0, 23), end = start + from(0, 8);
+    if (slotted) {
+        lower(b, slot, start);
+        upper(b, slot, end);
+    } else if (chance(85)) {
+        lower(b, MINUTE, start * 30 + from(0, 10));
+        upper(b, MINUTE, end * 30 + from(0, 29));
+    }
+    if (alternate) pair(b, 1, -chance(50), slot, 1, hour, -2);
+    if (heavy) lower(b, tonnes, from(60, 200));
+    if (chance(30)) lower(b, CLASS, from(1, 6));
+    if (chance(15)) {
+        int least = from(400, 1500);
+        pair(b, 0, -least, PAYLOAD, 1, GRADE, from(2, 8));
+    }
+}
+
+/* basic sets of a with further constraints; in half of the cases a bound of one of them moves out by 1 */
+static void inside(const set *a, set *e)
+{
+    e->count = a->count < 4 ? a->count : from(1, 4);
+    for (int i = 0; i < e->count; i++) {
+        basic_set *b = &e->basic[i];
+        *b = a->basic[i];
+        upper(b, PAYLOAD, from(300, 2000));
+        lower(b, CLASS, from(0, 3));
+        if (chance(50)) {
+            int most = from(1500, 2400);
+            pair(b, 0, most, PAYLOAD, -1, GRADE, -from(2, 6));
+        }
+    }
+    if (!chance(50)) return;
+    basic_set *b = &e->basic[from(0, e->count - 1)];
+    for (constraint *c = b->con; c < b->con + b->cons; c++)
+        if (!c->equality && (c->coefficient[MINUTE] == -1 || c->coefficient[ROAD] == -1)) {
+            c->constant += 1;
+            break;
+        }
+}
+
+static void dispatch(set *s)
+{
+    for (int k = A; k <= B; k++) {
+        int count = from(1, k == A ? 10 : 6);
+        for (int i = 0; i < count; i++) {
+            int roads = 64 / count, first = i * roads, last = first + roads - 1 + from(0, roads / 2 + 2);
+            if (chance(25)) {
+                first = from(0, 50);
+                last = first + from(2, 30);
+            }
+            permit(&s[k].basic[s[k].count++], first, last > 63 ? 63 : last, from(5, 15));
+        }
+    }
+    for (int k = C; k <= D; k++) {
+        int count = from(1, 6);
+        for (int i = 0; i < count; i++) closure(&s[k].basic[s[k].count++]);
+    }
+    inside(&s[A], &s[E]);
+}
+
+static const int PERIOD[DIVISIONS] = {10, 30, 60, 7, 12, 24, 5, 9};
+
+/* constraints around a centre, so that sets meet */
+static void crowded(basic_set *b, int target, int divs, const int *axis, int boxed)
+{
+    int32_t centre[AXES + DIVISIONS];
+    for (int j = 0; j < divs; j++) divided(b, axis[j], PERIOD[j], 0);
+    for (int j = 0; j < AXES; j++) centre[j] = from(200, 800);
+    for (int j = 0; j < DIVISIONS; j++) centre[AXES + j] = centre[axis[j]] / PERIOD[j];
+    for (int j = 0; j < AXES && boxed; j++) {
+        lower(b, j, 0);
+        upper(b, j, 1000);
+    }
+    while (b->cons < target) {
+        int kind = from(0, 9), v = chance(60) ? from(0, AXES - 1) : AXES + from(0, divs - 1);
+        if (kind < 3) lower(b, v, centre[v] - from(1, 1 + centre[v] / 2));
+        else if (kind < 6) upper(b, v, centre[v] + from(1, 1 + centre[v] / 2));
+        else {
+            int u = from(0, AXES - 1), p = from(-9, 9), q = from(-9, 9);
+            if (u == v || !p || !q) continue;
+            pair(b, 0, -(int64_t)p * centre[v] - (int64_t)q * centre[u] + from(0, 600), v, p, u, q);
+        }
+    }
+}
+
+static void limit(set *s)
+{
+    int axis[DIVISIONS];
+    for (int i = 0; i < DIVISIONS; i++) axis[i] = from(0, AXES - 1);
+    for (int k = 0; k < SETS; k++) {
+        int count = k == A ? from(2, 6) : k == E ? 1 : from(1, 2);
+        int target = k == A ? from(20, 32) : k == B ? from(6, 12) : from(2, 5);
+        for (int i = 0; i < count; i++) {
+            basic_set *b = &s[k].basic[s[k].count++];
+            int divs = k == A ? DIVISIONS : from(2, 6);
+            if (k != E) crowded(b, target, divs, axis, k == A);
+        }
+    }
+    s[E].basic[0] = s[A].basic[0];
+    upper(&s[E].basic[0], 0, 300);
+    lower(&s[E].basic[0], 1, 20);
+}
+
+/* constraints that hold at a centre, and bounds of every axis where `boxed` says so */
+static void large(basic_set *b, int boxed)
+{
+    int32_t centre[6];
+    for (int j = 0; j < 4; j++) centre[j] = from(-1000000, 1000000);
+    divided(b, 0, 32749, 12345);
+    divided(b, 1, 997, -678);
+    centre[4] = (int32_t)floor_division(centre[0] + 12345, 32749);
+    centre[5] = (int32_t)floor_division(centre[1] - 678, 997);
+    for (int j = 0; j < 4 && boxed; j++) {
+        lower(b, j, -1048576);
+        upper(b, j, 1048576);
+    }
+    int target = b->cons + (boxed ? from(2, 5) : from(1, 2));
+    while (b->cons < target) {
+        int64_t sum = 0;
+        int16_t a[6];
+        for (int j = 0; j < 6; j++) {
+            a[j] = (int16_t)from(-32767, 32767);
+            if (chance(50)) a[j] = (int16_t)from(-300, 300);
+            sum += (int64_t)a[j] * centre[j];
+        }
+        int64_t constant = -sum + from(0, 100000000);
+        if (constant > 1000000000 || constant < -1000000000) continue;
+        constraint *c = add(b, 0, constant);
+        for (int j = 0; j < 6; j++) c->coefficient[j < 4 ? j : AXES + j - 4] = a[j];
+    }
+}
+
+static void big(set *s)
+{
+    for (int k = A; k < E; k++) {
+        s[k].count = from(1, 2);
+        for (int i = 0; i < s[k].count; i++) large(&s[k].basic[i], k <= B);
+    }
+    s[E].count = 1;
+    s[E].basic[0] = s[A].basic[0];
+    upper(&s[E].basic[0], 0, 500000);
+}
+
+static void small(basic_set *b, int n, int divs, const int *period, const int *offset, const int *axis)
+{
+    int own = from(0, divs), cons = from(0, 4);
+    for (int j = 0; j < own; j++) {
+        divided(b, axis[j], period[j], offset[j]);
+        if (!chance(30)) continue;
+        int coefficient = from(-3, 3);
+        b->div[b->divs - 1].axis[from(0, n - 1)] = (int16_t)coefficient;
+    }
+    for (int j = 0; j < cons; j++) {
+        int constant = from(-9, 12);
+        constraint *c = add(b, chance(15), constant);
+        for (int v = 0; v < n; v++)
+            if (chance(60)) c->coefficient[v] = (int16_t)from(-4, 4);
+        for (int v = 0; v < b->divs; v++)
+            if (chance(60)) c->coefficient[AXES + v] = (int16_t)from(-4, 4);
+    }
+}
+
+static void tiny(set *s, int n)
+{
+    int divs = from(0, 2), period[2], offset[2], axis[2];
+    for (int i = 0; i < 2; i++) period[i] = from(2, 5);
+    for (int i = 0; i < 2; i++) offset[i] = from(-3, 3);
+    for (int i = 0; i < 2; i++) axis[i] = from(0, n - 1);
+    for (int k = 0; k < SETS; k++) {
+        s[k].count = from(0, 3);
+        if (k == A && !s[k].count) s[k].count = 1;
+        for (int i = 0; i < s[k].count; i++) small(&s[k].basic[i], n, divs, period, offset, axis);
+    }
+}
+
+/* moves x towards or over the edge of one bound of b, a constraint of one axis or of one division of one axis */
+static void to_edge(const basic_set *b, const constraint *c, int n, const int32_t *low, const int32_t *high, int32_t *x)
+{
+    int place = -1, places = 0, scale = 1, axis;
+    for (int j = 0; j < AXES + DIVISIONS; j++)
+        if (c->coefficient[j]) {
+            place = j;
+            places++;
+        }
+    if (places != 1) return;
+    axis = place;
+    if (place >= AXES) {
+        const division *d = &b->div[place - AXES];
+        scale = d->divisor;
+        axis = -1;
+        for (int j = 0; j < AXES; j++)
+            if (d->axis[j]) axis = j;
+    }
+    if (axis < 0) return;
+    int a = c->coefficient[place];
+    int64_t edge = -(int64_t)c->constant / a * scale;
+    if (edge < low[axis] || edge > high[axis]) return;
+    int off = chance(25) ? from(-1, 1) : from(0, 40);
+    if (!basic_member(n, b, x)) x[axis] = (int32_t)(c->equality ? edge : edge + (a > 0 ? off : scale - 1 - off));
+    if (x[axis] < low[axis]) x[axis] = low[axis];
+    if (x[axis] > high[axis]) x[axis] = high[axis];
+}
+
+/* a third of the points uniform, the others moved into a basic set of A or C or just over its edges */
+static void point(const set *s, int n, uint32_t number, const int32_t *low, const int32_t *high, int32_t *x)
+{
+    const set *t = &s[number % 3 == 1 ? A : C];
+    for (int j = 0; j < n; j++) x[j] = from(low[j], high[j]);
+    if (number % 3 == 0 || !t->count) return;
+    const basic_set *b = &t->basic[from(0, t->count - 1)];
+    for (const constraint *c = b->con; c < b->con + b->cons; c++) to_edge(b, c, n, low, high, x);
+}
+
+static int family_of(const char *name, set *s, int32_t *low, int32_t *high)
+{
+    int n = !strcmp(name, "dispatch") ? 5 : !strcmp(name, "limit") ? 8 : !strcmp(name, "big") ? 4 : from(1, 3);
+    for (int k = 0; k < SETS; k++) s[k].n = n;
+    for (int j = 0; j < n; j++) {
+        low[j] = n == 5 ? DISPATCH_LOW[j] : n == 8 ? 0 : n == 4 ? -1048576 : -7;
+        high[j] = n == 5 ? DISPATCH_HIGH[j] : n == 8 ? 1000 : n == 4 ? 1048576 : 7;
+    }
+    if (n == 5) dispatch(s);
+    else if (n == 8) limit(s);
+    else if (n == 4) big(s);
+    else tiny(s, n);
+    return n;
+}
+
+static void write_case(const char *family, FILE *f)
+{
+    static set s[SETS];
+    static uint8_t bytes[LONGEST];
+    int32_t low[AXES] = {0}, high[AXES] = {0};
+    uint32_t points = 256;
+    memset(s, 0, sizeof s);
+    int n = family_of(family, s, low, high);
+    uint8_t head[2] = {(uint8_t)n, n < 4};
+    fwrite(head, 1, 2, f);
+    for (int k = 0; k < SETS; k++) {
+        uint32_t length = (uint32_t)set_encode(&s[k], bytes);
+        fwrite(&length, 4, 1, f);
+        fwrite(bytes, 1, length, f);
+    }
+    fwrite(low, sizeof low, 1, f);
+    fwrite(high, sizeof high, 1, f);
+    fwrite(&points, 4, 1, f);
+    for (uint32_t i = 0; i < points; i++) {
+        int32_t x[AXES] = {0};
+        point(s, n, i, low, high, x);
+        fwrite(x, sizeof x, 1, f);
+    }
+}
+
+int main(int argc, char **argv)
+{
+    if (argc != 5) {
+        fputs("workload dispatch|limit|big|tiny SEED CASES FILE\n", stderr);
+        return 2;
+    }
+    char family[16] = {0};
+    strncpy(family, argv[1], sizeof family - 1);
+    state = strtoull(argv[2], NULL, 10) * 0x1000193u + 77;
+    uint32_t cases = (uint32_t)strtoul(argv[3], NULL, 10);
+    FILE *f = fopen(argv[4], "wb");
+    if (!f) {
+        perror(argv[4]);
+        return 2;
+    }
+    fwrite(family, sizeof family, 1, f);
+    fwrite(&cases, 4, 1, f);
+    for (uint32_t i = 0; i < cases; i++) write_case(family, f);
+    return fclose(f) ? 2 : 0;
+}

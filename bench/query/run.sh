@@ -1,0 +1,7 @@
+#!/usr/bin/env bash
+# The first-point search against the second program (search.py says how). bench/query/run.sh [quick]
+cd "$(dirname "$0")/../.." || exit 2
+rt staticlib probe >/dev/null || exit 1
+(cd tools && cargo build --release --offline --quiet) || exit 1
+if [ "${1:-}" = quick ]; then rounds=1; else rounds=5; fi
+exec python3 bench/query/search.py $rounds
