@@ -1,0 +1,65 @@
+/* What a member costs: the check of a set's bytes, the whole question, which judges the rules where they stand, and a basic set decoded into a
+ * struct first. Least of many rounds. */
+#define _POSIX_C_SOURCE 200809L
+#include <stdint.h>
+#include <stdio.h>
+#include <stdlib.h>
+#include <time.h>
+
+uint32_t probe_check(size_t, const uint8_t *, size_t);
+uint64_t probe_member(size_t, const uint8_t *, size_t, int32_t, int32_t, int32_t, int32_t, int32_t, int32_t, int32_t, int32_t);
+size_t probe_tests(size_t, const uint8_t *, size_t, size_t);
+
+enum { AXES = 5, SETS = 5, DIVISIONS = 2, RULES = 13, ROUNDS = 3000, CALLS = 100 };
+
+static double now(void)
+{
+    struct timespec t;
+    clock_gettime(CLOCK_MONOTONIC, &t);
+    return (double)t.tv_sec * 1e9 + (double)t.tv_nsec;
+}
+
+static uint8_t *basic_set(uint8_t *s)
+{
+    *s++ = 0x11;
+    for (int d = 0; d < DIVISIONS; d++, s += 23) {
+        s[0] = 0x12;
+        s[1] = 10;
+        for (int i = 0; i < AXES; i++) s[7 + 2 * i] = (uint8_t)(rand() % 5);
+    }
+    for (int c = 0; c < RULES; c++, s += 37) {
+        s[0] = 0x14;
+        s[1] = (uint8_t)rand();
+        for (int i = 0; i < AXES; i++) s[5 + 2 * i] = (uint8_t)(rand() % 5);
+        for (int i = 0; i < DIVISIONS; i++) s[21 + 2 * i] = (uint8_t)(rand() % 3);
+    }
+    return s;
+}
+
+#define LEAST(best, call) \
+    do { \
+        double from = now(); \
+        for (int i = 0; i < CALLS; i++) sum += (call); \
+        double each = (now() - from) / CALLS; \
+        if (each < best) best = each; \
+    } while (0)
+
+int main(void)
+{
+    static uint8_t set[8000];
+    uint8_t *end = basic_set(set);
+    size_t one = (size_t)(end - set), all;
+    for (int b = 1; b < SETS; b++) end = basic_set(end);
+    all = (size_t)(end - set);
+    double check = 1e9, member = 1e9, alone = 1e9, decoded = 1e9;
+    uint64_t sum = 0;
+    for (int r = 0; r < ROUNDS; r++) {
+        LEAST(check, probe_check(AXES, set, all));
+        LEAST(member, probe_member(AXES, set, all, -3, 4, -7, 2, 9, 0, 0, 0));
+        LEAST(alone, probe_check(AXES, set, one));
+        LEAST(decoded, probe_tests(AXES, set, one, 0));
+    }
+    printf("%d basic sets, %zu bytes: check %.0f ns, member %.0f ns (%d basic sets judged from their bytes: %.0f ns)\n", SETS, all, check, member, SETS, member - check);
+    printf("one basic set, %zu bytes: check %.0f ns; check, decode and a tableau of 9 KB set to 0: %.0f ns\n", one, alone, decoded);
+    return sum == 0;
+}
