@@ -17,7 +17,6 @@ use Rattle.session.specs.Turns.{Memory, stateIn, tableAt, keeps, isAssignment, 
 use Rattle.commands.specs.Contracts.{Holds}
 use Rattle.session.proofs.Commands.{by-command, set-at}
 
-
 pub load-operands : (b : ℕ) → b ≡ 0x40 → fixedWidth b ≡ 4
 load-operands b e = ap fixedWidth e
 
@@ -36,6 +35,7 @@ three-numbers = by-command (λ (b : ℕ). ¬ (b ≡ 0x40) → ¬ (b ≡ 0x44) �
 pub is-difference : (b : ℕ) → isAssignment b ≡ true → ¬ (b ≡ 0x40) → ¬ (b ≡ 0x44) → ¬ (b ≡ 0x41) → ¬ (b ≡ 0x42) → b ≡ 0x43
 is-difference = by-command (λ (b : ℕ). ¬ (b ≡ 0x40) → ¬ (b ≡ 0x44) → ¬ (b ≡ 0x41) → ¬ (b ≡ 0x42) → b ≡ 0x43)
     (λ a d u i. absurd (a refl)) (λ a d u i. absurd (u refl)) (λ a d u i. absurd (i refl)) (λ a d u i. refl) (λ a d u i. absurd (d refl))
+
 pub result-same : {r r′ : ℕ} {a a′ : Answer (List ℕ)} {o : Answer ℕ} {t : List ℕ} → r ≡ r′ → a ≡ a′ → Result r a o t → Result r′ a′ o t
 result-same {r} {r′} {a} {a′} {o} {t} p q x = subst (λ (i : ℕ). Result i a′ o t) p (subst (λ (b : Answer (List ℕ)). Result r b o t) q x)
 

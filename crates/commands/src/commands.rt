@@ -15,11 +15,20 @@ ghost use Rattle.session.specs.Turns.{Fitted, stateIn, answerOf, keeps, isAssig
 ghost use Rattle.commands.specs.Contracts.{Operands, Single, Performable, Usable, CommandIs, tells, doneLine, firstLine, Told, Holds, saying};
 ghost use Rattle.commands.specs.Found.{foundIs};
 ghost use Rattle.session.specs.declared.Listing.the-variants.{Nothing};
-use crate::memory::{answer, byte, keep, table};
-use listing::{at_line, counted_line, header, word};
+use crate::memory::answer;
+use crate::memory::byte;
+use crate::memory::keep;
+use crate::memory::table;
+use listing::at_line;
+use listing::counted_line;
+use listing::header;
+use listing::word;
 use operations::Outcome;
-use query::{FirstPoint, Membership, first_point};
-use session::{Cursor, Listing};
+use query::FirstPoint;
+use query::Membership;
+use query::first_point;
+use session::Cursor;
+use session::Listing;
 
 pub struct CommandDone {
     pub text: usize,
@@ -133,12 +142,26 @@ fn search(axes: usize, set: &[u8], s: &[u8], out: &mut [u8]) -> usize
     requires { ⌜ (69 ≤ length (now s)) × (axes ≤ 8) × (512 ≤ length (now out)) ⌝ }
     ensures { λ r. ⌜ Writes 512 (tells searchLine (searchBytes axes (now (set .entry)) (S.coordinates 8 (drop 5 (now (s .entry)))) (S.coordinates 8 (drop 37 (now (s .entry)))) (valueOf (take 4 (drop 1 (now (s .entry))))))) (now (out .entry)) 0 r (now (out .exit)) ⌝ }
 {
-    let f = first_point(axes, set, point(s, 5), point(s, 37), integers::u32_at(s, 1) as u32);
+    let f = first_point(
+        axes,
+        set,
+        point(s, 5),
+        point(s, 37),
+        integers::u32_at(s, 1) as u32,
+    );
     found_line(axes, f, out)
 }
 
 // `40` to `44`, with the operands s.
-fn assign(axes: usize, b: u8, s: &[u8], tables: &mut [u8], lengths: &mut [usize], result: &mut [u8], out: &mut [u8]) -> usize
+fn assign(
+    axes: usize,
+    b: u8,
+    s: &[u8],
+    tables: &mut [u8],
+    lengths: &mut [usize],
+    result: &mut [u8],
+    out: &mut [u8],
+) -> usize
     requires { ⌜ Fitted (now tables) (now lengths) × Operands b (now s) × (isAssignment b ≡ true) × (length (now result) ≡ room) × (512 ≤ length (now out)) ⌝ }
     ensures told { λ r. ⌜ Writes 30 (tells doneLine (answerOf (stateIn axes (now (tables .entry)) (now (lengths .entry))) b (now (s .entry)))) (now (out .entry)) 0 r (now (out .exit)) ⌝ }
     ensures kept { λ _. ⌜ Holds (keeps (record { tables = now (tables .entry); lengths = now (lengths .entry); result = now (result .entry) }) (getD (now (s .entry)) 0 0) (answerOf (stateIn axes (now (tables .entry)) (now (lengths .entry))) b (now (s .entry)))) (now (tables .exit)) (now (lengths .exit)) (now (result .exit)) ⌝ }
@@ -187,7 +210,15 @@ fn numbers_fit(s: &[u8], k: usize) -> bool
 }
 
 // A command b that prints one line, with the operands s.
-fn print(axes: usize, b: u8, s: &[u8], tables: &mut [u8], lengths: &mut [usize], result: &mut [u8], out: &mut [u8]) -> usize
+fn print(
+    axes: usize,
+    b: u8,
+    s: &[u8],
+    tables: &mut [u8],
+    lengths: &mut [usize],
+    result: &mut [u8],
+    out: &mut [u8],
+) -> usize
     requires { ⌜ Performable axes b (now s) (now tables) (now lengths) (now result) (now out) × (eqb b 0x45 ≡ false) ⌝ }
     ensures told { λ r. ⌜ Writes 512 (S.perform (stateIn axes (now (tables .entry)) (now (lengths .entry))) b (now (s .entry)) .text) (now (out .entry)) 0 r (now (out .exit)) ⌝ }
     ensures kept { λ _. ⌜ Holds (memoryOf (record { tables = now (tables .entry); lengths = now (lengths .entry); result = now (result .entry) }) (performs (stateIn axes (now (tables .entry)) (now (lengths .entry))) b (now (s .entry)))) (now (tables .exit)) (now (lengths .exit)) (now (result .exit)) ⌝ }
@@ -204,7 +235,15 @@ fn print(axes: usize, b: u8, s: &[u8], tables: &mut [u8], lengths: &mut [usize],
 }
 
 // A command b whose set numbers are good, with the operands s.
-fn perform(axes: usize, b: u8, s: &[u8], tables: &mut [u8], lengths: &mut [usize], result: &mut [u8], out: &mut [u8]) -> CommandDone
+fn perform(
+    axes: usize,
+    b: u8,
+    s: &[u8],
+    tables: &mut [u8],
+    lengths: &mut [usize],
+    result: &mut [u8],
+    out: &mut [u8],
+) -> CommandDone
     requires { ⌜ Performable axes b (now s) (now tables) (now lengths) (now result) (now out) ⌝ }
     ensures told { λ r. ⌜ Told (shown (S.perform (stateIn axes (now (tables .entry)) (now (lengths .entry))) b (now (s .entry)) .text) (performs (stateIn axes (now (tables .entry)) (now (lengths .entry))) b (now (s .entry)))) axes true (listingOf (performs (stateIn axes (now (tables .entry)) (now (lengths .entry))) b (now (s .entry)))) r (now (out .entry)) (now (out .exit)) ⌝ }
     ensures kept { λ _. ⌜ Holds (memoryOf (record { tables = now (tables .entry); lengths = now (lengths .entry); result = now (result .entry) }) (performs (stateIn axes (now (tables .entry)) (now (lengths .entry))) b (now (s .entry)))) (now (tables .exit)) (now (lengths .exit)) (now (result .exit)) ⌝ }
@@ -218,7 +257,14 @@ fn perform(axes: usize, b: u8, s: &[u8], tables: &mut [u8], lengths: &mut [usize
 }
 
 // One whole command c.
-pub fn command(axes: usize, c: &[u8], tables: &mut [u8], lengths: &mut [usize], result: &mut [u8], out: &mut [u8]) -> CommandDone
+pub fn command(
+    axes: usize,
+    c: &[u8],
+    tables: &mut [u8],
+    lengths: &mut [usize],
+    result: &mut [u8],
+    out: &mut [u8],
+) -> CommandDone
     requires { ⌜ Single axes (now c) × Usable axes (now tables) (now lengths) (now result) (now out) ⌝ }
     ensures told { λ r. ⌜ CommandIs (execute (stateIn axes (now (tables .entry)) (now (lengths .entry))) (now (c .entry))) (effectOf (stateIn axes (now (tables .entry)) (now (lengths .entry))) (now (c .entry))) r (now (out .entry)) (now (out .exit)) ⌝ }
     ensures kept { λ _. ⌜ Holds (memoryOf (record { tables = now (tables .entry); lengths = now (lengths .entry); result = now (result .entry) }) (effectOf (stateIn axes (now (tables .entry)) (now (lengths .entry))) (now (c .entry)))) (now (tables .exit)) (now (lengths .exit)) (now (result .exit)) ⌝ }

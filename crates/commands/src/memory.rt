@@ -11,7 +11,11 @@ ghost use Rattle.commands.specs.Contracts.{Operands};
 ghost use Rattle.operations.specs.Outcome.{outcomeIs};
 use codec::clear;
 use listing::word;
-use operations::{Outcome, complement, difference, intersection, union};
+use operations::Outcome;
+use operations::complement;
+use operations::difference;
+use operations::intersection;
+use operations::union;
 
 pub fn byte(s: &[u8], i: usize) -> usize
     requires { ⌜ i < length (now s) ⌝ }
@@ -51,7 +55,14 @@ pub fn load(n: usize, set: &[u8], result: &mut [u8]) -> Outcome
 }
 
 // The answer of a command that assigns a set, in the table for results.
-pub fn answer(b: u8, n: usize, s: &[u8], tables: &[u8], lengths: &[usize], result: &mut [u8]) -> Outcome
+pub fn answer(
+    b: u8,
+    n: usize,
+    s: &[u8],
+    tables: &[u8],
+    lengths: &[usize],
+    result: &mut [u8],
+) -> Outcome
     requires { ⌜ Fitted (now tables) (now lengths) × Operands b (now s) × (isAssignment b ≡ true) × (length (now result) ≡ room) ⌝ }
     ensures { λ r. ⌜ Result room (answerOf (stateIn n (now (tables .entry)) (now (lengths .entry))) b (now (s .entry))) (outcomeIs r) (now (result .exit)) ⌝ }
 {

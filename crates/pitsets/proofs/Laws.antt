@@ -15,24 +15,38 @@ use Rattle.session.proofs.Turning.{turn-used, turn-short}
 use Rattle.script.specs.Contracts.{TurnIs}
 use Rattle.script.specs.declared.turns.Turn.{Turn}
 
-module _ (st : State) (y : Memory) (e : Bool) (s : List ℕ) {r : Turn} {o o′ t l u : List ℕ} (i : TurnIs (turnOf st y (length o) e s) r o o′ t l u) where
-  pub text-within : r .text ≤ length o
-  text-within = i .says .text .room
+-- the bytes from..have of the table that is read into
+abbrev pub unused : List ℕ → ℕ → ℕ → List ℕ
+unused l from have = take (have - from) (drop from l)
 
-  pub used-within : r .used ≤ length s
-  used-within = subst (λ (k : ℕ). k ≤ length s) (sym (i .says .used)) (turn-used st y (length o) e s)
+-- they are in the table, and all of it consists of bytes
+pub record Window (l : List ℕ) (from have : ℕ) : Type 0 where
+  pub long : length l ≡ 69632
+  pub order : from ≤ have
+  pub within : have ≤ 69632
+  pub bytes : (i : ℕ) → getD l i 0 < 256
 
-  pub asks-short : ((j : ℕ) → getD s j 0 < 256) → r .next ≡ Reads → length s < 65539
-  asks-short h q = turn-short st y (length o) e s h (sym (i .says .next) ∙ q)
+module _ (l : List ℕ) (from have : ℕ) (w : Window l from have) where
+  unused-long : length (unused l from have) ≡ have - from
+  unused-long = let m = w .long in let n = w .within in length-take-le (have - from) (drop from l) (omega (arith, length-drop from l))
 
--- the bytes from..have
-module _ (l : List ℕ) (from have : ℕ) (h : from ≤ have) (k : have ≤ length l) where
-  pub part-length : length (take (have - from) (drop from l)) ≡ have - from
-  part-length = length-take-le (have - from) (drop from l) (omega (arith, length-drop from l))
-
-  pub part-bytes : ((j : ℕ) → getD l j 0 < 256) → (j : ℕ) → getD (take (have - from) (drop from l)) j 0 < 256
-  part-bytes b j = by (ltb j (have - from)) refl
+  unused-bytes : (j : ℕ) → getD (unused l from have) j 0 < 256
+  unused-bytes j = by (ltb j (have - from)) refl
     where
-      by : (x : Bool) → ltb j (have - from) ≡ x → getD (take (have - from) (drop from l)) j 0 < 256
-      by true q = let e = getD-take (have - from) (drop from l) j 0 (ltb-true j (have - from) q) in let f = getD-drop from l j 0 in let h = b (from + j) in omega arith
-      by false q = let m = part-length in let n = ltb-false j (have - from) q in let e : getD (take (have - from) (drop from l)) j 0 ≡ 0 = List·getD-eq-default (take (have - from) (drop from l)) 0 (omega arith) in omega arith
+      by : (x : Bool) → ltb j (have - from) ≡ x → getD (unused l from have) j 0 < 256
+      by true q = let e = getD-take (have - from) (drop from l) j 0 (ltb-true j (have - from) q) in let f = getD-drop from l j 0 in let h = w .bytes (from + j) in omega arith
+      by false q = let m = unused-long in let n = ltb-false j (have - from) q in let e : getD (unused l from have) j 0 ≡ 0 = List·getD-eq-default (unused l from have) 0 (omega arith) in omega arith
+
+  module _ (st : State) (y : Memory) (e : Bool) {r : Turn} {o o′ t k u : List ℕ} (i : TurnIs (turnOf st y (length o) e (unused l from have)) r o o′ t k u) where
+    pub text-in : r .text ≤ length o
+    text-in = i .says .text .room
+
+    pub used-in : from + r .used ≤ have
+    used-in =
+        let m = unused-long in let z = w .order in
+        let h : r .used ≤ length (unused l from have) = subst (λ (n : ℕ). n ≤ length (unused l from have)) (sym (i .says .used)) (turn-used st y (length o) e (unused l from have)) in
+        omega arith
+
+    -- with room for a byte more
+    pub short-in : r .next ≡ Reads → have - from < 65539
+    short-in q = let m = unused-long in let h = turn-short st y (length o) e (unused l from have) unused-bytes (sym (i .says .next) ∙ q) in omega arith

@@ -14,10 +14,19 @@ ghost use Rattle.script.specs.Contracts.{silentTurn, afterTurn, CursorIn
 ghost use mathlib.Core.List.{[]};
 ghost use Rattle.session.specs.declared.Listing.the-variants.{Nothing};
 ghost use Rattle.session.specs.declared.Next.the-variants.{Goes};
-use commands::{CommandDone, command, refused_line, table};
 use crate::fronts::next;
-use listing::{constraint_line, counted_line, division_line};
-use session::{Cursor, Front, Listing, Next, State};
+use commands::CommandDone;
+use commands::command;
+use commands::refused_line;
+use commands::table;
+use listing::constraint_line;
+use listing::counted_line;
+use listing::division_line;
+use session::Cursor;
+use session::Front;
+use session::Listing;
+use session::Next;
+use session::State;
 
 // What a turn did: the length of its text, the bytes of input that it used, the state after it, and what comes next.
 pub struct Turn {
@@ -136,10 +145,7 @@ fn after(d: CommandDone, used: usize) -> Turn
     let goes = d.goes;
     let axes = d.axes;
     let listing = d.listing;
-    let state = State {
-        axes,
-        listing,
-    };
+    let state = State { axes, listing };
     if goes {
         return Turn {
             text,
@@ -157,7 +163,15 @@ fn after(d: CommandDone, used: usize) -> Turn
 }
 
 // The command at the front of the input.
-fn front_turn(state: State, input: &[u8], ended: bool, tables: &mut [u8], lengths: &mut [usize], result: &mut [u8], out: &mut [u8]) -> Turn
+fn front_turn(
+    state: State,
+    input: &[u8],
+    ended: bool,
+    tables: &mut [u8],
+    lengths: &mut [usize],
+    result: &mut [u8],
+    out: &mut [u8],
+) -> Turn
     requires { ⌜ Usable (state .axes) (now tables) (now lengths) (now result) (now out) ⌝ }
     ensures { λ r. ⌜ TurnIs (frontTurn state (D.memory (now (tables .entry)) (now (lengths .entry)) (now (result .entry))) (now (input .entry)) (frontOf (state .axes) ended (now (input .entry)))) r (now (out .entry)) (now (out .exit)) (now (tables .exit)) (now (lengths .exit)) (now (result .exit)) ⌝ }
 {
@@ -243,7 +257,15 @@ fn usable(state: State, tables: &[u8], lengths: &[usize], result: &[u8], width: 
 }
 
 // One turn on the input that has been read and not used; `ended`: there is no more. At most one line of text goes to `out`.
-pub fn step(state: State, input: &[u8], ended: bool, tables: &mut [u8], lengths: &mut [usize], result: &mut [u8], out: &mut [u8]) -> Turn
+pub fn step(
+    state: State,
+    input: &[u8],
+    ended: bool,
+    tables: &mut [u8],
+    lengths: &mut [usize],
+    result: &mut [u8],
+    out: &mut [u8],
+) -> Turn
     ensures { λ r. ⌜ TurnIs (turnOf state (D.memory (now (tables .entry)) (now (lengths .entry)) (now (result .entry))) (length (now (out .entry))) ended (now (input .entry))) r (now (out .entry)) (now (out .exit)) (now (tables .exit)) (now (lengths .exit)) (now (result .exit)) ⌝ }
 {
     if !usable(state, tables, lengths, result, out.len()) {

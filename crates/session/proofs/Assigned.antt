@@ -55,11 +55,11 @@ module _ (tables lengths l : List ℕ) (f : Fitted tables lengths) (g : length l
   table : List ℕ
   table = tableOf room (gives l)
 
-  table-long : length table ≡ room
+  pub table-long : length (tableOf room (gives l)) ≡ room
   unfolding table
   table-long = length-append l (replicate (room - length l) 0) ∙ ap (λ (j : ℕ). length l + j) (length-replicate (room - length l) 0) ∙ (let o : length l + (room - length l) ≡ room = omega arith in o)
 
-  within : room * m + length table ≤ length tables
+  pub within : room * m + length (tableOf room (gives l)) ≤ length tables
   within = let a = table-long in let b = f .tables-long in omega arith
 
   pub kept-same : tableAt (put (room * m) (tableOf room (gives l)) tables) (set lengths m (length l)) m ≡ l

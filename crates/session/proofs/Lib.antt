@@ -5,3 +5,4 @@ pub mod Turning
 pub mod Listings
 pub mod Assigned
 pub mod Sessions
+pub mod Ending

@@ -6,14 +6,14 @@ use Prim.Native.Nat.{ℕ, suc, _+_, _-_, _≤_, _<_}
 use native.Mathlib.Numerals.{add-one}
 use native.Mathlib.Omega.{arith}
 use borrow.Author.Tests.{eqb-true, eqb-false}
-use lib.Dec.{eqb}
+use lib.Dec.{eqb, ltb→lt}
 use lib.IntN.{pos}
 use lib.ListN.{length, getD, drop}
 use Rattle.model.specs.Lists.{concatMap}
 use Rattle.model.specs.Sets.{Division, Constraint}
-use Rattle.codec.specs.Bytes.{decode, Command, opens, division, constraint, Counts, counted, widthOf, readCommand, readDivision, readConstraint, kindOf, Built, number, axesFit}
+use Rattle.codec.specs.Bytes.{decode, Command, opens, division, constraint, Counts, testsOf, refusal, counted, widthOf, readCommand, readDivision, readConstraint, kindOf, Built, number, axesFit}
 use Rattle.codec.specs.Places.{built, setFrom, Checked}
-use Rattle.codec.proofs.Parsing.{start, decode-bad, decode-good, read-opens, read-division, read-constraint}
+use Rattle.codec.proofs.Parsing.{all-passed, few-next, start, decode-bad, decode-good, read-opens, read-division, read-constraint}
 use Rattle.codec.proofs.Walking.{added, Head, head, built-end, ordered}
 use Rattle.codec.proofs.Boundaries.{boundary-start}
 use Rattle.listing.specs.Text.{line, divisionLine, constraintLine, basicsFrom, listing}
@@ -32,6 +32,13 @@ pub record Stands (n : ℕ) (s : List ℕ) (c : Cursor) : Type 0 where
   pub here : Checked n s (c .place) k
   pub basics : k .basics ≡ c .basics
   pub divisions : k .divisions ≡ c .divisions
+  pub most : k .basics ≤ 32
+  pub few : k .divisions ≤ 8
+
+most-next : (n : ℕ) (k : Counts) (c : Command) → refusal n k c ≡ 0 → k .basics ≤ 32 → counted k c .basics ≤ 32
+most-next n k opens z h = let t = all-passed (testsOf n k opens) tt z in let l = ltb→lt (k .basics) 32 (t .0) in omega arith
+most-next n k (division e) z h = h
+most-next n k (constraint r) z h = h
 
 module _ (n : ℕ) (s : List ℕ) (c : Cursor) (d : Stands n s c) (l : c .place < length s) where
   b : ℕ
@@ -74,6 +81,8 @@ module _ (n : ℕ) (s : List ℕ) (c : Cursor) (d : Stands n s c) (l : c .place 
                   here = h .there;
                   basics = ap (λ (z : Command). counted (d .k) z .basics) r ∙ ap (λ (z : ℕ). z + 1) (d .basics) ∙ sym (ap (λ (z : Cursor). z .basics) u);
                   divisions = ap (λ (z : Command). counted (d .k) z .divisions) r ∙ sym (ap (λ (z : Cursor). z .divisions) u);
+                  most = most-next n (d .k) (readCommand b t) (h .none) (d .most);
+                  few = few-next n (d .k) (readCommand b t) (h .none) (d .few);
                 };
           }
       by false e true f =
@@ -94,6 +103,8 @@ module _ (n : ℕ) (s : List ℕ) (c : Cursor) (d : Stands n s c) (l : c .place 
                   here = h .there;
                   basics = ap (λ (z : Command). counted (d .k) z .basics) r ∙ d .basics ∙ sym (ap (λ (z : Cursor). z .basics) u);
                   divisions = ap (λ (z : Command). counted (d .k) z .divisions) r ∙ ap (λ (z : ℕ). z + 1) (d .divisions) ∙ sym (ap (λ (z : Cursor). z .divisions) u);
+                  most = most-next n (d .k) (readCommand b t) (h .none) (d .most);
+                  few = few-next n (d .k) (readCommand b t) (h .none) (d .few);
                 };
           }
       by false e false f =
@@ -119,6 +130,8 @@ module _ (n : ℕ) (s : List ℕ) (c : Cursor) (d : Stands n s c) (l : c .place 
                   here = h .there;
                   basics = ap (λ (z : Command). counted (d .k) z .basics) r ∙ d .basics ∙ sym (ap (λ (z : Cursor). z .basics) u);
                   divisions = ap (λ (z : Command). counted (d .k) z .divisions) r ∙ d .divisions ∙ sym (ap (λ (z : Cursor). z .divisions) u);
+                  most = most-next n (d .k) (readCommand b t) (h .none) (d .most);
+                  few = few-next n (d .k) (readCommand b t) (h .none) (d .few);
                 };
           }
 
@@ -142,4 +155,4 @@ module _ (n m : ℕ) (s : List ℕ) (z : number (decode n s) ≡ 0) where
       go false e = absurd (omega (arith, decode-bad n s e))
 
   pub stands-start : Stands n s (startOf m)
-  stands-start = record { k = start; here = record { inside = omega arith; accepted = sym (decode-good n s fits) ∙ z }; basics = refl; divisions = refl }
+  stands-start = record { k = start; here = record { inside = omega arith; accepted = sym (decode-good n s fits) ∙ z }; basics = refl; divisions = refl; most = omega arith; few = omega arith }

@@ -227,7 +227,7 @@ pub record After (st : State) (y : Memory) (s f : List ℕ) (t : Turned) : Type 
 after-same : {st : State} {y : Memory} {s f : List ℕ} {t t′ : Turned} → t ≡ t′ → After st y s f t → After st y s f t′
 after-same {st} {y} {s} {f} q a = subst (λ (t : Turned). After st y s f t) q a
 
-never : {X : Type 0} → _≡_ {A = ℕ} 0 1 → X
+pub never : {X : Type 0} → _≡_ {A = ℕ} 0 1 → X
 never z = absurd (omega arith)
 
 -- a turn that goes on
@@ -340,7 +340,7 @@ module _ (st : State) (y : Memory) (e : Bool) (s f : List ℕ) (q : st .listing 
 
 -- ---- the whole
 
-abbrev joined : List (List ℕ) → List ℕ
+abbrev pub joined : List (List ℕ) → List ℕ
 joined [] = []
 joined (p ∷ ps) = p ++ joined ps
 
@@ -351,7 +351,7 @@ used-well st y w e s n = at (usable st y w) refl
     at true q = q
     at false q = absurd (n (ap (λ (t : Turned). t .next) (turn-misused st y w e s q)))
 
-turned : (st : State) (y : Memory) (w : ℕ) (e : Bool) (s f : List ℕ) → usable st y w ≡ true → Fine (st .axes) y (st .listing) → (e ≡ true → f ≡ []) → After st y s f (turnOf st y w e s)
+pub turned : (st : State) (y : Memory) (w : ℕ) (e : Bool) (s f : List ℕ) → usable st y w ≡ true → Fine (st .axes) y (st .listing) → (e ≡ true → f ≡ []) → After st y s f (turnOf st y w e s)
 turned st y w e s f u i g = at (st .listing) refl i
   where
     fit : Fitted (y .tables) (y .lengths)

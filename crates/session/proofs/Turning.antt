@@ -150,6 +150,19 @@ front-short st y e (b ∷ s) h q = by (leb (commandWidth (b ∷ s)) (suc (length
     by true z true false q = not-reads false q
     by true z false o q = not-reads false q
 
+front-ended : (axes : ℕ) (e : Bool) (s : List ℕ) → e ≡ true → ¬ (frontOf axes e s ≡ More)
+unfolding frontOf
+front-ended axes e s d = by (ending axes s) e d
+  where
+    by : (k : ℕ) (e : Bool) → e ≡ true → ¬ (elim k [ zero ↦ Whole (commandWidth s) | suc k ↦ cond (eqb (suc k) 3 && not e) More (Stop (suc k)) ] ≡ More)
+    by zero e d q = let z : _≡_ {A = ℕ} 0 1 = cc in omega arith
+    by (suc k) false d q = no d
+    by (suc k) true d q = stop (eqb (suc k) 3) q
+      where
+        stop : (x : Bool) → ¬ (cond (x && false) More (Stop (suc k)) ≡ More)
+        stop true q = let z : _≡_ {A = ℕ} 0 1 = cc in omega arith
+        stop false q = let z : _≡_ {A = ℕ} 0 1 = cc in omega arith
+
 module _ (st : State) (y : Memory) (w : ℕ) (e : Bool) (s : List ℕ) where
   abbrev turnBy : Bool → Listing → Turned
   turnBy x l = cond x (turnIn st y e s l) (quiet st y Misused)
@@ -193,3 +206,32 @@ module _ (st : State) (y : Memory) (w : ℕ) (e : Bool) (s : List ℕ) where
       at false l q = let z : _≡_ {A = ℕ} 0 1 = cc in absurd (omega arith)
       at true (From c) q = line c (drop (c .place) (tableAt (y .tables) (y .lengths) (c .set))) q
       at true Nothing q = front-short st y e s h q
+
+  -- what is lent rightly is not misused, and where the input has ended nothing is waited for
+  pub turn-next : usable st y w ≡ true → ¬ (turnOf st y w e s .next ≡ Misused) × (e ≡ true → ¬ (turnOf st y w e s .next ≡ Reads))
+  unfolding turnOf
+  turn-next u = at (usable st y w) u (st .listing)
+    where
+      goes : (x : Bool) → ¬ (goesOn x ≡ Misused)
+      goes true q = let z : _≡_ {A = ℕ} 0 1 = cc in omega arith
+      goes false q = let z : _≡_ {A = ℕ} 0 1 = cc in omega arith
+
+      line : (c : Cursor) (t : List ℕ) → lineTurn (st .axes) y c t .next ≡ Goes
+      line c [] = refl
+      line c (b ∷ t) = by (there (b ∷ t))
+        where
+          by : (x : Bool) → (cond x (record { text = lineOf (st .axes) c b t; used = 0; state = stateAt (st .axes) (From (past c b)); next = Goes; memory = y }) (quiet (stateAt (st .axes) Nothing) y Goes)) .next ≡ Goes
+          by true = refl
+          by false = refl
+
+      front : (f : Front) → (e ≡ true → ¬ (f ≡ More)) → ¬ (frontTurn st y s f .next ≡ Misused) × (e ≡ true → ¬ (frontTurn st y s f .next ≡ Reads))
+      front (Whole k) h = (goes (execute (stateOf (st .axes) y) (take k s) .goes), λ d. not-reads (execute (stateOf (st .axes) y) (take k s) .goes))
+      front More h = (λ q. let z : _≡_ {A = ℕ} 0 1 = cc in omega arith, λ d q. h d refl)
+      front (Stop k) h = (goes false, λ d. not-reads false)
+
+      at : (x : Bool) → x ≡ true → (l : Listing) → ¬ (turnBy x l .next ≡ Misused) × (e ≡ true → ¬ (turnBy x l .next ≡ Reads))
+      at false q l = no q
+      at true q (From c) =
+          let g = line c (drop (c .place) (tableAt (y .tables) (y .lengths) (c .set))) in
+          (λ q. goes true (sym g ∙ q), λ d q. not-reads true (sym g ∙ q))
+      at true q Nothing = front (frontOf (st .axes) e s) (λ d. front-ended (st .axes) e s d)

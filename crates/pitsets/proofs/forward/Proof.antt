@@ -68,7 +68,9 @@ loop-less c = omega arith
 
 loop-again : tie.Need-loop-again Inv-loop μ-loop
 loop-again c =
-    let l = c .before .before .loop in let st = c .before .before .before .before in
+    let at-p4 = c .before .before .before .before in
+    let l = c .before .before .loop in
+    let st = at-p4 in
     (omega arith, moved-more (l .i) (st .args .from) _ (st .args .read .now) (l .read) (slice-write-read c) refl (l .inv .1))
 
 same-length : tie.Need-same-length Inv-loop μ-loop

@@ -28,10 +28,19 @@ enum-known-a-2 : tie.Need-enum-known-a-2
 enum-known-a-2 c = search needs
 
 byte-requires : tie.Need-byte-requires
-byte-requires c κs = let f = one-operand (c .before .before .before .before .before .before .before .before .before .before .before .before .before .before .before .before .args .b) (c .before .before .before .before .before .before .before .before .before .before .before .before .before .before .before .before .pre .2) in let e = c .before .before .before .before .before .before .before .before .before .before .before .before .before .before .before .before .pre .1 .enough in omega arith
+byte-requires c κs =
+    let st = c .before .before .before .before .before .before .before .before .before .before .before .before .before .before .before .before in
+    let f = one-operand (st .args .b) (st .pre .2) in
+    let e = st .pre .1 .enough in
+    omega arith
 
 keep-requires : tie.Need-keep-requires
-keep-requires c κs = let g = number-good _ 0 (c .before .before .before .before .before .before .before .before .before .before .before .before .before .before .before .before .before .before .args .s .now) (c .before .before .before .before .before .before .before .before .before .before .before .before .before .before .before .before .before .before .pre .1 .good) (numbers-one (c .before .before .before .before .before .before .before .before .before .before .before .before .before .before .before .before .before .before .args .b)) in let e = c .before .byte .ensures .0 in let k = c .before .before .before .before .before .before .before .before .before .answer .kept .1 .1 .1 .1 .1 .0 in (c .before .before .before .before .before .before .before .before .before .before .before .before .before .before .before .before .before .before .pre .0 .tables-long, c .before .before .before .before .before .before .before .before .before .before .before .before .before .before .before .before .before .before .pre .0 .lengths-long, omega arith, omega arith)
+keep-requires c κs =
+    let at-answer = c .before .before .before .before .before .before .before .before .before in let st = at-answer .before .before .before .before .before .before .before .before .before in
+    let g = number-good _ 0 (st .args .s .now) (st .pre .1 .good) (numbers-one (st .args .b)) in
+    let e = c .before .byte .ensures .0 in
+    let k = at-answer .answer .kept .1 .1 .1 .1 .1 .0 in
+    (st .pre .0 .tables-long, st .pre .0 .lengths-long, omega arith, omega arith)
 
 slice-aggregate-word : tie.Need-slice-aggregate-word
 slice-aggregate-word c = search needs
@@ -53,8 +62,18 @@ same-length-4 c = search needs
 
 returns : tie.Need-returns
 returns c =
-    let x = subst (λ (o : Answer ℕ). Result room (answerOf (stateIn (c .before .before .before .before .before .before .before .before .before .before .before .before .before .before .before .before .before .before .args .axes) (c .before .before .before .before .before .before .before .before .before .before .before .before .before .before .before .before .before .before .args .tables .now) (c .before .before .before .before .before .before .before .before .before .before .before .before .before .before .before .before .before .before .args .lengths .now)) (c .before .before .before .before .before .before .before .before .before .before .before .before .before .before .before .before .before .before .args .b) (c .before .before .before .before .before .before .before .before .before .before .before .before .before .before .before .before .before .before .args .s .now)) o (c .before .before .before .before .before .before .before .before .before .answer .last .1 .1 .1 .1 .1 .0)) (ap outcomeIs (c .before .before .before .before .before .a .given .1)) (c .before .before .before .before .before .before .before .before .before .answer .ensures) in let e = answered-refused _ x in
-    (writes-same (omega arith) (ap (tells doneLine) (sym e)) (c .before .before .refused-line .ensures), kept-refused (memory (c .before .before .before .before .before .before .before .before .before .before .before .before .before .before .before .before .before .before .args .tables .now) (c .before .before .before .before .before .before .before .before .before .before .before .before .before .before .before .before .before .before .args .lengths .now) (c .before .before .before .before .before .before .before .before .before .before .before .before .before .before .before .before .before .before .args .result .now)) (getD (c .before .before .before .before .before .before .before .before .before .before .before .before .before .before .before .before .before .before .args .s .now) 0 0) (answerOf (stateIn (c .before .before .before .before .before .before .before .before .before .before .before .before .before .before .before .before .before .before .args .axes) (c .before .before .before .before .before .before .before .before .before .before .before .before .before .before .before .before .before .before .args .tables .now) (c .before .before .before .before .before .before .before .before .before .before .before .before .before .before .before .before .before .before .args .lengths .now)) (c .before .before .before .before .before .before .before .before .before .before .before .before .before .before .before .before .before .before .args .b) (c .before .before .before .before .before .before .before .before .before .before .before .before .before .before .before .before .before .before .args .s .now)) _ _ e (x .bytes))
+    let at-a = c .before .before .before .before .before in let at-answer = at-a .before .before .before .before in
+    let st = at-answer .before .before .before .before .before .before .before .before .before in
+    let x = subst
+    (λ (o : Answer ℕ). Result room (answerOf (stateIn (st .args .axes) (st .args .tables .now) (st .args .lengths .now)) (st .args .b) (st .args .s .now)) o
+    (at-answer .answer .last .1 .1 .1 .1 .1 .0))
+    (ap outcomeIs (at-a .a .given .1)) (at-answer .answer .ensures) in
+    let e = answered-refused _ x in (
+      writes-same (omega arith) (ap (tells doneLine) (sym e)) (c .before .before .refused-line .ensures),
+      kept-refused
+          (memory (st .args .tables .now) (st .args .lengths .now) (st .args .result .now)) (getD (st .args .s .now) 0 0)
+          (answerOf (stateIn (st .args .axes) (st .args .tables .now) (st .args .lengths .now)) (st .args .b) (st .args .s .now)) _ _ e (x .bytes),
+    )
 
 same-length-5 : tie.Need-same-length-5
 same-length-5 c = search needs
@@ -70,8 +89,18 @@ same-length-8 c = search needs
 
 returns-2 : tie.Need-returns-2
 returns-2 c =
-    let x = subst (λ (o : Answer ℕ). Result room (answerOf (stateIn (c .before .before .before .before .before .before .before .before .before .before .before .before .before .before .before .before .before .before .before .before .before .before .before .before .before .before .before .before .args .axes) (c .before .before .before .before .before .before .before .before .before .before .before .before .before .before .before .before .before .before .before .before .before .before .before .before .before .before .before .before .args .tables .now) (c .before .before .before .before .before .before .before .before .before .before .before .before .before .before .before .before .before .before .before .before .before .before .before .before .before .before .before .before .args .lengths .now)) (c .before .before .before .before .before .before .before .before .before .before .before .before .before .before .before .before .before .before .before .before .before .before .before .before .before .before .before .before .args .b) (c .before .before .before .before .before .before .before .before .before .before .before .before .before .before .before .before .before .before .before .before .before .before .before .before .before .before .before .before .args .s .now)) o (c .before .before .before .before .before .before .before .before .before .before .before .before .before .before .before .before .before .before .before .answer .last .1 .1 .1 .1 .1 .0)) (ap outcomeIs (c .before .before .before .before .before .before .before .before .before .before .before .before .before .before .before .a2 .given .1)) (c .before .before .before .before .before .before .before .before .before .before .before .before .before .before .before .before .before .before .before .answer .ensures) in let g = answered-gives _ x in
-    (writes-same (omega arith) (ap (tells doneLine) (sym (g .is))) (c .before .before .word .ensures), kept-given (memory (c .before .before .before .before .before .before .before .before .before .before .before .before .before .before .before .before .before .before .before .before .before .before .before .before .before .before .before .before .args .tables .now) (c .before .before .before .before .before .before .before .before .before .before .before .before .before .before .before .before .before .before .before .before .before .before .before .before .before .before .before .before .args .lengths .now) (c .before .before .before .before .before .before .before .before .before .before .before .before .before .before .before .before .before .before .before .before .before .before .before .before .before .before .before .before .args .result .now)) (getD (c .before .before .before .before .before .before .before .before .before .before .before .before .before .before .before .before .before .before .before .before .before .before .before .before .before .before .before .before .args .s .now) 0 0) (answerOf (stateIn (c .before .before .before .before .before .before .before .before .before .before .before .before .before .before .before .before .before .before .before .before .before .before .before .before .before .before .before .before .args .axes) (c .before .before .before .before .before .before .before .before .before .before .before .before .before .before .before .before .before .before .before .before .before .before .before .before .before .before .before .before .args .tables .now) (c .before .before .before .before .before .before .before .before .before .before .before .before .before .before .before .before .before .before .before .before .before .before .before .before .before .before .before .before .args .lengths .now)) (c .before .before .before .before .before .before .before .before .before .before .before .before .before .before .before .before .before .before .before .before .before .before .before .before .before .before .before .before .args .b) (c .before .before .before .before .before .before .before .before .before .before .before .before .before .before .before .before .before .before .before .before .before .before .before .before .before .before .before .before .args .s .now)) _ _ _ _ _ (c .before .before .before .before .before .before .before .before .before .before .before .byte .ensures .0) g (x .bytes) (c .before .before .before .before .before .before .before .before .before .keep .ensures .0) (c .before .before .before .before .before .before .before .before .before .keep .ensures .1))
+    let at-keep = c .before .before .before .before .before .before .before .before .before in let at-byte = at-keep .before .before in let at-a2 = at-byte .before .before .before .before in
+    let at-answer = at-a2 .before .before .before .before in let st = at-answer .before .before .before .before .before .before .before .before .before in
+    let x = subst
+    (λ (o : Answer ℕ). Result room (answerOf (stateIn (st .args .axes) (st .args .tables .now) (st .args .lengths .now)) (st .args .b) (st .args .s .now)) o
+    (at-answer .answer .last .1 .1 .1 .1 .1 .0))
+    (ap outcomeIs (at-a2 .a2 .given .1)) (at-answer .answer .ensures) in
+    let g = answered-gives _ x in (
+      writes-same (omega arith) (ap (tells doneLine) (sym (g .is))) (c .before .before .word .ensures),
+      kept-given (memory (st .args .tables .now) (st .args .lengths .now) (st .args .result .now))
+          (getD (st .args .s .now) 0 0) (answerOf (stateIn (st .args .axes) (st .args .tables .now) (st .args .lengths .now)) (st .args .b) (st .args .s .now)) _ _ _ _ _ (at-byte .byte .ensures .0) g
+          (x .bytes) (at-keep .keep .ensures .0) (at-keep .keep .ensures .1),
+    )
 
 pub assign-spec : {M : Type 1} → statement M
 assign-spec =

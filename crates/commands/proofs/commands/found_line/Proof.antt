@@ -49,25 +49,37 @@ same-length : tie.Need-same-length
 same-length c = search needs
 
 returns : tie.Need-returns
-returns c = writes-same (omega arith) (ap (λ (x : Outcome). tells searchLine (foundBy (c .before .before .before .before .before .before .before .before .before .args .n) (c .before .before .before .before .before .before .before .before .before .args .f) x)) (sym (c .before .before .before .before .enum-told .given .1))) (c .before .before .at-line .ensures)
+returns c =
+    let at-enum-told = c .before .before .before .before in let st = at-enum-told .before .before .before .before .before in
+    writes-same (omega arith) (ap (λ (x : Outcome). tells searchLine (foundBy (st .args .n) (st .args .f) x)) (sym (at-enum-told .enum-told .given .1))) (c .before .before .at-line .ensures)
 
 same-length-2 : tie.Need-same-length-2
 same-length-2 c = search needs
 
 returns-2 : tie.Need-returns-2
-returns-2 c = writes-same (omega arith) (one-number (codes "none") (c .before .before .before .before .before .before .before .before .before .before .args .f .tested) ∙ ap (λ (x : Outcome). tells searchLine (foundBy (c .before .before .before .before .before .before .before .before .before .before .args .n) (c .before .before .before .before .before .before .before .before .before .before .args .f) x)) (sym (c .before .before .before .before .before .enum-told2 .given .1))) (c .before .before .counted-line .ensures)
+returns-2 c =
+    let at-enum-told2 = c .before .before .before .before .before in let st = at-enum-told2 .before .before .before .before .before in
+    writes-same (omega arith)
+    (one-number (codes "none") (st .args .f .tested) ∙ ap (λ (x : Outcome). tells searchLine (foundBy (st .args .n) (st .args .f) x)) (sym (at-enum-told2 .enum-told2 .given .1)))
+    (c .before .before .counted-line .ensures)
 
 same-length-3 : tie.Need-same-length-3
 same-length-3 c = search needs
 
 returns-3 : tie.Need-returns-3
-returns-3 c = writes-same (omega arith) (one-number (codes "spent") (c .before .before .before .before .before .before .before .before .before .before .args .f .tested) ∙ ap (λ (x : Outcome). tells searchLine (foundBy (c .before .before .before .before .before .before .before .before .before .before .args .n) (c .before .before .before .before .before .before .before .before .before .before .args .f) x)) (sym (c .before .before .before .before .before .enum-told3 .given .1))) (c .before .before .counted-line2 .ensures)
+returns-3 c =
+    let at-enum-told3 = c .before .before .before .before .before in let st = at-enum-told3 .before .before .before .before .before in
+    writes-same (omega arith)
+    (one-number (codes "spent") (st .args .f .tested) ∙ ap (λ (x : Outcome). tells searchLine (foundBy (st .args .n) (st .args .f) x)) (sym (at-enum-told3 .enum-told3 .given .1)))
+    (c .before .before .counted-line2 .ensures)
 
 same-length-4 : tie.Need-same-length-4
 same-length-4 c = search needs
 
 returns-4 : tie.Need-returns-4
-returns-4 c = writes-same (omega arith) (ap (λ (x : Outcome). tells searchLine (foundBy (c .before .before .before .before .before .before .before .before .before .before .args .n) (c .before .before .before .before .before .before .before .before .before .before .args .f) x)) (sym (c .before .before .before .before .before .seen .given .1))) (c .before .before .refused-line .ensures)
+returns-4 c =
+    let at-seen = c .before .before .before .before .before in let st = at-seen .before .before .before .before .before in
+    writes-same (omega arith) (ap (λ (x : Outcome). tells searchLine (foundBy (st .args .n) (st .args .f) x)) (sym (at-seen .seen .given .1))) (c .before .before .refused-line .ensures)
 
 pub found-line-spec : {M : Type 1} → statement M
 found-line-spec =

@@ -20,7 +20,10 @@ same-length : tie.Need-same-length
 same-length c = search needs
 
 returns : tie.Need-returns
-returns c = told-refused (c .before .before .before .before .before .before .before .before .before .args .axes) (c .before .before .before .before .before .before .before .before .before .args .m) (c .before .before .before .before .before .before .before .before .before .args .s .now) (c .before .before .before .before .before .before .check .result) (c .before .before .before .before .before .before .check .ensures) (c .before .before .before .before .before .if1 .taken) (c .says .ensures) (c .before .before .before .refused-line .ensures)
+returns c =
+    let at-refused-line = c .before .before .before in let at-if1 = at-refused-line .before .before in let at-check = at-if1 .before in let st = at-check .before .before .before in
+    told-refused (st .args .axes) (st .args .m) (st .args .s .now) (at-check .check .result) (at-check .check .ensures) (at-if1 .if1 .taken) (c .says .ensures)
+    (at-refused-line .refused-line .ensures)
 
 count-requires : tie.Need-count-requires
 count-requires c κs = record { n = c .before .before .before .before .before .args .axes; accepted = sym (c .before .before .check .ensures) ∙ c .before .if1 .left }
@@ -32,7 +35,10 @@ same-length-2 : tie.Need-same-length-2
 same-length-2 c = search needs
 
 returns-2 : tie.Need-returns-2
-returns-2 c = told-listed (c .before .before .before .before .before .before .before .before .before .args .axes) (c .before .before .before .before .before .before .before .before .before .args .m) (c .before .before .before .before .before .before .before .before .before .args .s .now) (setFrom (c .before .before .before .before .before .before .before .before .before .args .s .now) 0) (decode-is (c .before .before .before .before .before .before .before .before .before .args .axes) (c .before .before .before .before .before .before .before .before .before .args .s .now) (sym (c .before .before .before .before .before .before .check .ensures) ∙ c .before .before .before .before .before .if1 .left)) (c .before .before .before .count .result) (c .before .before .before .count .ensures) (c .before .before .header .ensures)
+returns-2 c =
+    let at-count = c .before .before .before in let at-if1 = at-count .before .before in let at-check = at-if1 .before in let st = at-check .before .before .before in
+    told-listed (st .args .axes) (st .args .m) (st .args .s .now) (setFrom (st .args .s .now) 0)
+    (decode-is (st .args .axes) (st .args .s .now) (sym (at-check .check .ensures) ∙ at-if1 .if1 .left)) (at-count .count .result) (at-count .count .ensures) (c .before .before .header .ensures)
 
 pub list-spec : {M : Type 1} → statement M
 list-spec =

@@ -45,19 +45,36 @@ same-length : tie.Need-same-length
 same-length c = search needs
 
 returns : tie.Need-returns
-returns c = writes-same (omega arith) (ap (λ (m : Membership). tells memberLine (memberIs m)) (sym (c .before .before .before .before .before .enum-told .given .1)) ∙ ap (tells memberLine) (c .before .before .before .before .before .before .before .member .ensures ∙ ap (memberBytes (c .before .before .before .before .before .before .before .before .before .before .before .before .args .axes) (c .before .before .before .before .before .before .before .before .before .before .before .before .args .set .now)) (c .before .before .before .before .before .before .before .before .point .ensures))) (c .before .before .word .ensures)
+returns c =
+    let at-enum-told = c .before .before .before .before .before in let at-member = at-enum-told .before .before in let at-point = at-member .before in
+    let st = at-point .before .before .before .before in
+    writes-same (omega arith)
+    (ap (λ (m : Membership). tells memberLine (memberIs m)) (sym (at-enum-told .enum-told .given .1)) ∙ ap (tells memberLine)
+    (at-member .member .ensures ∙ ap (memberBytes (st .args .axes) (st .args .set .now)) (at-point .point .ensures)))
+    (c .before .before .word .ensures)
 
 same-length-2 : tie.Need-same-length-2
 same-length-2 c = search needs
 
 returns-2 : tie.Need-returns-2
-returns-2 c = writes-same (omega arith) (ap (λ (m : Membership). tells memberLine (memberIs m)) (sym (c .before .before .before .before .before .enum-told2 .given .1)) ∙ ap (tells memberLine) (c .before .before .before .before .before .before .before .member .ensures ∙ ap (memberBytes (c .before .before .before .before .before .before .before .before .before .before .before .before .args .axes) (c .before .before .before .before .before .before .before .before .before .before .before .before .args .set .now)) (c .before .before .before .before .before .before .before .before .point .ensures))) (c .before .before .word2 .ensures)
+returns-2 c =
+    let at-enum-told2 = c .before .before .before .before .before in let at-member = at-enum-told2 .before .before in let at-point = at-member .before in
+    let st = at-point .before .before .before .before in
+    writes-same (omega arith)
+    (ap (λ (m : Membership). tells memberLine (memberIs m)) (sym (at-enum-told2 .enum-told2 .given .1)) ∙ ap (tells memberLine)
+    (at-member .member .ensures ∙ ap (memberBytes (st .args .axes) (st .args .set .now)) (at-point .point .ensures)))
+    (c .before .before .word2 .ensures)
 
 same-length-3 : tie.Need-same-length-3
 same-length-3 c = search needs
 
 returns-3 : tie.Need-returns-3
-returns-3 c = writes-same (omega arith) (ap (λ (m : Membership). tells memberLine (memberIs m)) (sym (c .before .before .before .before .before .m .given .1)) ∙ ap (tells memberLine) (c .before .before .before .before .before .before .before .member .ensures ∙ ap (memberBytes (c .before .before .before .before .before .before .before .before .before .before .before .before .args .axes) (c .before .before .before .before .before .before .before .before .before .before .before .before .args .set .now)) (c .before .before .before .before .before .before .before .before .point .ensures))) (c .before .before .refused-line .ensures)
+returns-3 c =
+    let at-m = c .before .before .before .before .before in let at-member = at-m .before .before in let at-point = at-member .before in let st = at-point .before .before .before .before in
+    writes-same (omega arith)
+    (ap (λ (m : Membership). tells memberLine (memberIs m)) (sym (at-m .m .given .1)) ∙ ap (tells memberLine)
+    (at-member .member .ensures ∙ ap (memberBytes (st .args .axes) (st .args .set .now)) (at-point .point .ensures)))
+    (c .before .before .refused-line .ensures)
 
 pub member-spec : {M : Type 1} → statement M
 member-spec =

@@ -20,33 +20,41 @@ Inv-loop s k i₀ i = (i ≤ k) × (all (λ (m : ℕ). leb m 3) (drop i (take k 
 abbrev μ-loop : tie.MeasureT-loop
 μ-loop s k i₀ i = k - i
 
--- src/commands.rt:206:5
 loop-holds : tie.Need-loop-holds Inv-loop μ-loop
 loop-holds c = (omega arith, refl)
 
--- src/commands.rt:207:16
 shared-slice-read-if1 : tie.Need-shared-slice-read-if1 Inv-loop μ-loop
 shared-slice-read-if1 c = search needs
 
--- src/commands.rt:208:13
 returns : tie.Need-returns Inv-loop μ-loop
-returns c = sym (sym (c .before .before .before .loop .inv .1) ∙ fits-at (c .before .before .before .before .args .k) (c .before .before .before .loop .i) (c .before .before .before .before .args .s .now) (c .before .before .loop-test .taken) (c .before .before .before .before .pre) ∙ ap (λ (x : Bool). x && all (λ (m : ℕ). leb m 3) (drop (c .before .before .before .loop .i + 1) (take (c .before .before .before .before .args .k) (c .before .before .before .before .args .s .now)))) (lt-leb _ _ (c .if1 .taken)))
+returns c =
+    let in-loop = c .before .before .before in let st = in-loop .before in
+    sym
+    (sym (in-loop .loop .inv .1) ∙ fits-at (st .args .k) (in-loop .loop .i) (st .args .s .now) (c .before .before .loop-test .taken) (st .pre) ∙ ap
+    (λ (x : Bool). x && all (λ (m : ℕ). leb m 3) (drop (in-loop .loop .i + 1) (take (st .args .k) (st .args .s .now)))) (lt-leb _ _ (c .if1 .taken)))
 
--- src/commands.rt:210:9
 add-i : tie.Need-add-i Inv-loop μ-loop
 add-i c = search needs
 
--- src/commands.rt:206:5
 loop-less : tie.Need-loop-less Inv-loop μ-loop
 loop-less c = search needs
 
--- src/commands.rt:206:5
 loop-again : tie.Need-loop-again Inv-loop μ-loop
-loop-again c = (omega arith, sym (fits-at (c .before .before .before .before .args .k) (c .before .before .before .loop .i) (c .before .before .before .before .args .s .now) (c .before .before .loop-test .taken) (c .before .before .before .before .pre) ∙ ap (λ (x : Bool). x && all (λ (m : ℕ). leb m 3) (drop (c .before .before .before .loop .i + 1) (take (c .before .before .before .before .args .k) (c .before .before .before .before .args .s .now)))) (le-leb _ _ (c .if1 .left))) ∙ c .before .before .before .loop .inv .1)
+loop-again c =
+    let in-loop = c .before .before .before in let st = in-loop .before in (
+      omega arith,
+      sym
+          (fits-at (st .args .k) (in-loop .loop .i) (st .args .s .now) (c .before .before .loop-test .taken) (st .pre) ∙ ap
+          (λ (x : Bool). x && all (λ (m : ℕ). leb m 3) (drop (in-loop .loop .i + 1) (take (st .args .k) (st .args .s .now)))) (le-leb _ _ (c .if1 .left)))
+          ∙ in-loop .loop .inv .1,
+    )
 
--- src/commands.rt:201:1
 returns-2 : tie.Need-returns-2 Inv-loop μ-loop
-returns-2 c = let l = length-take-le (c .before .before .args .k) (c .before .before .args .s .now) (c .before .before .pre) in let h : length (take (c .before .before .args .k) (c .before .before .args .s .now)) ≤ c .before .loop .i = omega arith in sym (sym (c .before .loop .inv .1) ∙ ap (all (λ (m : ℕ). leb m 3)) (drop-of-length-le (take (c .before .before .args .k) (c .before .before .args .s .now)) h))
+returns-2 c =
+    let st = c .before .before in
+    let l = length-take-le (st .args .k) (st .args .s .now) (st .pre) in
+    let h : length (take (st .args .k) (st .args .s .now)) ≤ c .before .loop .i = omega arith in
+    sym (sym (c .before .loop .inv .1) ∙ ap (all (λ (m : ℕ). leb m 3)) (drop-of-length-le (take (st .args .k) (st .args .s .now)) h))
 
 pub numbers-fit-spec : {M : Type 1} → statement M
 numbers-fit-spec =

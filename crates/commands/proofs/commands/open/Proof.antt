@@ -15,7 +15,9 @@ same-length : tie.Need-same-length
 same-length c = search needs
 
 returns : tie.Need-returns
-returns c = opened-bad (c .before .before .before .before .before .before .before .args .axes) (c .before .before .before .before .before .before .before .args .n) (axes-zero _ (c .before .before .before .before .before .if1 .taken)) (c .says .ensures) (c .before .before .before .refused-line .ensures)
+returns c =
+    let at-refused-line = c .before .before .before in let at-if1 = at-refused-line .before .before in let st = at-if1 .before .before in
+    opened-bad (st .args .axes) (st .args .n) (axes-zero _ (at-if1 .if1 .taken)) (c .says .ensures) (at-refused-line .refused-line .ensures)
 
 refused-line-requires-2 : tie.Need-refused-line-requires-2
 refused-line-requires-2 c κs = search needs
@@ -27,7 +29,9 @@ same-length-2 : tie.Need-same-length-2
 same-length-2 c = search needs
 
 returns-2 : tie.Need-returns-2
-returns-2 c = opened-bad (c .before .before .before .before .before .before .before .before .args .axes) (c .before .before .before .before .before .before .before .before .args .n) (axes-over _ (c .before .before .before .before .before .if2 .taken)) (c .says2 .ensures) (c .before .before .before .refused-line2 .ensures)
+returns-2 c =
+    let at-refused-line2 = c .before .before .before in let at-if2 = at-refused-line2 .before .before in let st = at-if2 .before .before .before in
+    opened-bad (st .args .axes) (st .args .n) (axes-over _ (at-if2 .if2 .taken)) (c .says2 .ensures) (at-refused-line2 .refused-line2 .ensures)
 
 slice-aggregate-counted-line : tie.Need-slice-aggregate-counted-line
 slice-aggregate-counted-line c = search needs
@@ -42,7 +46,9 @@ same-length-3 : tie.Need-same-length-3
 same-length-3 c = search needs
 
 returns-3 : tie.Need-returns-3
-returns-3 c = opened-good (c .before .before .before .before .before .before .before .before .before .args .axes) (c .before .before .before .before .before .before .before .before .before .args .n) (axes-in _ (c .before .before .before .before .before .before .before .if1 .left) (c .before .before .before .before .before .before .if2 .left)) (c .says3 .ensures) (c .before .before .before .counted-line .ensures)
+returns-3 c =
+    let at-counted-line = c .before .before .before in let at-if2 = at-counted-line .before .before .before in let at-if1 = at-if2 .before in let st = at-if1 .before .before in
+    opened-good (st .args .axes) (st .args .n) (axes-in _ (at-if1 .if1 .left) (at-if2 .if2 .left)) (c .says3 .ensures) (at-counted-line .counted-line .ensures)
 
 pub open-spec : {M : Type 1} → statement M
 open-spec =

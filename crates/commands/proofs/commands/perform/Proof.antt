@@ -20,7 +20,11 @@ byte-requires : tie.Need-byte-requires
 byte-requires c κs = let f = ap fixedWidth (c .if1 .taken) in let e = c .before .before .before .before .before .before .pre .operands .enough in omega arith
 
 table-requires : tie.Need-table-requires
-table-requires c κs = let g = number-good _ 0 (c .before .before .before .before .before .before .before .before .before .args .s .now) (c .before .before .before .before .before .before .before .before .before .pre .operands .good) (numbers-one (c .before .before .before .before .before .before .before .before .before .args .b)) in let e = c .before .before .byte .ensures .0 in (c .before .before .before .before .before .before .before .before .before .pre .usable .fitted, omega arith)
+table-requires c κs =
+    let st = c .before .before .before .before .before .before .before .before .before in
+    let g = number-good _ 0 (st .args .s .now) (st .pre .operands .good) (numbers-one (st .args .b)) in
+    let e = c .before .before .byte .ensures .0 in
+    (st .pre .usable .fitted, omega arith)
 
 list-requires : tie.Need-list-requires
 list-requires c κs = search needs
@@ -35,7 +39,16 @@ same-length-3 : tie.Need-same-length-3
 same-length-3 c = search needs
 
 returns : tie.Need-returns
-returns c = (list-told (c .before .before .before .before .before .before .before .before .before .before .before .before .before .before .args .axes) (c .before .before .before .before .before .before .before .before .before .before .before .before .before .before .args .tables .now) (c .before .before .before .before .before .before .before .before .before .before .before .before .before .before .args .lengths .now) (c .before .before .before .before .before .before .before .before .before .before .before .before .before .before .args .b) (c .before .before .before .before .before .before .before .before .before .before .before .before .before .before .args .s .now) (c .before .before .before .before .before .before .before .byte .result) _ (c .before .before .before .before .before .before .before .byte .ensures .0) (number-good _ 0 (c .before .before .before .before .before .before .before .before .before .before .before .before .before .before .args .s .now) (c .before .before .before .before .before .before .before .before .before .before .before .before .before .before .pre .operands .good) (numbers-one (c .before .before .before .before .before .before .before .before .before .before .before .before .before .before .args .b))) (c .before .before .before .before .table .ensures) (c .before .before .before .before .before .before .before .before .if1 .taken) (c .before .before .list .ensures), list-kept (memory (c .before .before .before .before .before .before .before .before .before .before .before .before .before .before .args .tables .now) (c .before .before .before .before .before .before .before .before .before .before .before .before .before .before .args .lengths .now) (c .before .before .before .before .before .before .before .before .before .before .before .before .before .before .args .result .now)) _ (getD (c .before .before .before .before .before .before .before .before .before .before .before .before .before .before .args .s .now) 0 0) (decode (c .before .before .before .before .before .before .before .before .before .before .before .before .before .before .args .axes) (setAt (stateIn (c .before .before .before .before .before .before .before .before .before .before .before .before .before .before .args .axes) (c .before .before .before .before .before .before .before .before .before .before .before .before .before .before .args .tables .now) (c .before .before .before .before .before .before .before .before .before .before .before .before .before .before .args .lengths .now)) (getD (c .before .before .before .before .before .before .before .before .before .before .before .before .before .before .args .s .now) 0 0))) (performs-list (stateIn (c .before .before .before .before .before .before .before .before .before .before .before .before .before .before .args .axes) (c .before .before .before .before .before .before .before .before .before .before .before .before .before .before .args .tables .now) (c .before .before .before .before .before .before .before .before .before .before .before .before .before .before .args .lengths .now)) _ (c .before .before .before .before .before .before .before .before .before .before .before .before .before .before .args .s .now) (c .before .before .before .before .before .before .before .before .if1 .taken)))
+returns c =
+    let at-table = c .before .before .before .before in let at-byte = at-table .before .before .before in let at-if1 = at-byte .before in
+    let st = at-if1 .before .before .before .before .before .before in (
+      list-told (st .args .axes) (st .args .tables .now) (st .args .lengths .now) (st .args .b) (st .args .s .now) (at-byte .byte .result) _ (at-byte .byte .ensures .0)
+          (number-good _ 0 (st .args .s .now) (st .pre .operands .good) (numbers-one (st .args .b))) (at-table .table .ensures) (at-if1 .if1 .taken) (c .before .before .list .ensures),
+      list-kept
+          (memory (st .args .tables .now) (st .args .lengths .now) (st .args .result .now)) _ (getD (st .args .s .now) 0 0)
+          (decode (st .args .axes) (setAt (stateIn (st .args .axes) (st .args .tables .now) (st .args .lengths .now)) (getD (st .args .s .now) 0 0)))
+          (performs-list (stateIn (st .args .axes) (st .args .tables .now) (st .args .lengths .now)) _ (st .args .s .now) (at-if1 .if1 .taken)),
+    )
 
 print-requires : tie.Need-print-requires
 print-requires c κs = (c .before .before .before .before .before .before .before .before .before .before .pre, ne-eqb _ _ (c .before .before .before .before .if1 .left))
@@ -57,8 +70,15 @@ same-length-7 c = search needs
 
 returns-2 : tie.Need-returns-2
 returns-2 c =
-    let st = (stateIn (c .before .before .before .before .before .before .before .before .before .before .before .before .before .before .before .before .before .before .before .before .args .axes) (c .before .before .before .before .before .before .before .before .before .before .before .before .before .before .before .before .before .before .before .before .args .tables .now) (c .before .before .before .before .before .before .before .before .before .before .before .before .before .before .before .before .before .before .before .before .args .lengths .now)) in let b = c .before .before .before .before .before .before .before .before .before .before .before .before .before .before .before .before .before .before .before .before .args .b in let s = c .before .before .before .before .before .before .before .before .before .before .before .before .before .before .before .before .before .before .before .before .args .s .now in
-    (told-by (c .says .ensures) refl refl (sym (performs-quiet st b s (λ (e : Effect). listingOf e ≡ Nothing) refl (λ m a. refl) (c .before .before .before .before .before .before .before .before .before .before .before .before .before .before .if1 .left))) (writes-same {j = 512} (omega arith) (sym (shown-quiet st b s _ (c .before .before .before .before .before .before .before .before .before .before .before .before .before .before .if1 .left))) (c .before .before .before .before .before .before .before .before .before .print .ensures .0) .wrote), c .before .before .before .before .before .before .before .before .before .print .ensures .1)
+    let at-print = c .before .before .before .before .before .before .before .before .before in let at-if1 = at-print .before .before .before .before .before in
+    let st2 = at-if1 .before .before .before .before .before .before in
+    let st = (stateIn (st2 .args .axes) (st2 .args .tables .now) (st2 .args .lengths .now)) in
+    let b = st2 .args .b in
+    let s = st2 .args .s .now in (
+      told-by (c .says .ensures) refl refl (sym (performs-quiet st b s (λ (e : Effect). listingOf e ≡ Nothing) refl (λ m a. refl) (at-if1 .if1 .left)))
+          (writes-same {j = 512} (omega arith) (sym (shown-quiet st b s _ (at-if1 .if1 .left))) (at-print .print .ensures .0) .wrote),
+      at-print .print .ensures .1,
+    )
 
 pub perform-spec : {M : Type 1} → statement M
 perform-spec =

@@ -53,7 +53,13 @@ i32-at-requires-8 : tie.Need-i32-at-requires-8
 i32-at-requires-8 c κs = search needs
 
 returns : tie.Need-returns
-returns c = eight (c .before .before .before .before .before .before .before .before .before .args .s .now) (c .before .before .before .before .before .before .before .before .before .args .p) (result-is w32 _ (c .before .before .before .before .before .before .before .i32-at .ok) ∙ c .before .before .before .before .before .before .before .i32-at .ensures) (result-is w32 _ (c .before .before .before .before .before .before .i32-at2 .ok) ∙ c .before .before .before .before .before .before .i32-at2 .ensures) (result-is w32 _ (c .before .before .before .before .before .i32-at3 .ok) ∙ c .before .before .before .before .before .i32-at3 .ensures) (result-is w32 _ (c .before .before .before .before .i32-at4 .ok) ∙ c .before .before .before .before .i32-at4 .ensures) (result-is w32 _ (c .before .before .before .i32-at5 .ok) ∙ c .before .before .before .i32-at5 .ensures) (result-is w32 _ (c .before .before .i32-at6 .ok) ∙ c .before .before .i32-at6 .ensures) (result-is w32 _ (c .before .i32-at7 .ok) ∙ c .before .i32-at7 .ensures) (result-is w32 _ (c .i32-at8 .ok) ∙ c .i32-at8 .ensures)
+returns c =
+    let at-i32-at5 = c .before .before .before in let at-i32-at4 = at-i32-at5 .before in let at-i32-at3 = at-i32-at4 .before in let at-i32-at2 = at-i32-at3 .before in
+    let at-i32-at = at-i32-at2 .before in let st = at-i32-at .before .before in
+    eight (st .args .s .now) (st .args .p) (result-is w32 _ (at-i32-at .i32-at .ok) ∙ at-i32-at .i32-at .ensures) (result-is w32 _ (at-i32-at2 .i32-at2 .ok) ∙ at-i32-at2 .i32-at2 .ensures)
+    (result-is w32 _ (at-i32-at3 .i32-at3 .ok) ∙ at-i32-at3 .i32-at3 .ensures) (result-is w32 _ (at-i32-at4 .i32-at4 .ok) ∙ at-i32-at4 .i32-at4 .ensures)
+    (result-is w32 _ (at-i32-at5 .i32-at5 .ok) ∙ at-i32-at5 .i32-at5 .ensures) (result-is w32 _ (c .before .before .i32-at6 .ok) ∙ c .before .before .i32-at6 .ensures)
+    (result-is w32 _ (c .before .i32-at7 .ok) ∙ c .before .i32-at7 .ensures) (result-is w32 _ (c .i32-at8 .ok) ∙ c .i32-at8 .ensures)
 
 pub point-spec : {M : Type 1} → statement M
 point-spec =

@@ -39,14 +39,20 @@ same-length c = search needs
 
 returns : tie.Need-returns
 returns c =
-    let f = c .before .before .before .before in let u = f .before in let h = u .before in let l = h .before in let st = l .before .before .before .before in
-    let n : ℕ = st .args .axes in let a : List ℕ = st .args .set .now in let s : List ℕ = st .args .s .now in
+    let at-p4 = c .before .before .before .before in
+    let f = at-p4 in
+    let u = f .before in
+    let h = u .before in
+    let l = h .before in
+    let st = l .before .before .before .before in
+    let n : ℕ = st .args .axes in
+    let a : List ℕ = st .args .set .now in
+    let s : List ℕ = st .args .s .now in
     writes-same (omega arith)
     (ap (tells searchLine)
     (ap (foundIs n)
-    (f .first-point .ensures
-    ∙ ap₂ (λ (x y : List ℤ). answerOf (searchBytes n a x y (u .u32-at .result))) (l .point .ensures) (h .point2 .ensures)
-    ∙ ap (λ (k : ℕ). answerOf (searchBytes n a (coordinates 8 (drop 5 s)) (coordinates 8 (drop 37 s)) k)) (u .u32-at .ensures .0))
+    (f .first-point .ensures ∙ ap₂ (λ (x y : List ℤ). answerOf (searchBytes n a x y (u .u32-at .result))) (l .point .ensures) (h .point2 .ensures) ∙ ap
+    (λ (k : ℕ). answerOf (searchBytes n a (coordinates 8 (drop 5 s)) (coordinates 8 (drop 37 s)) k)) (u .u32-at .ensures .0))
     ∙ found-is n a (coordinates 8 (drop 5 s)) (coordinates 8 (drop 37 s)) (valueOf (take 4 (drop 1 s))) refl refl))
     (c .before .before .found-line .ensures)
 

@@ -20,7 +20,10 @@ same-length : tie.Need-same-length
 same-length c = search needs
 
 returns : tie.Need-returns
-returns c = result-same refl (sym (load-refused (c .before .before .before .before .before .before .before .before .args .n) (c .before .before .before .before .before .before .before .before .args .set .now) (c .before .before .before .before .before .check .result) (c .before .before .before .before .before .check .ensures) (c .before .before .before .before .if1 .taken))) (record { answer = refl; bytes = c .before .before .clear .ensures ∙ cleared-all (c .before .before .before .before .before .before .before .before .args .result .now) (c .before .before .before .before .before .check .result) (c .before .before .before .before .before .before .before .before .pre) })
+returns c =
+    let at-if1 = c .before .before .before .before in let at-check = at-if1 .before in let st = at-check .before .before .before in
+    result-same refl (sym (load-refused (st .args .n) (st .args .set .now) (at-check .check .result) (at-check .check .ensures) (at-if1 .if1 .taken)))
+    (record { answer = refl; bytes = c .before .before .clear .ensures ∙ cleared-all (st .args .result .now) (at-check .check .result) (st .pre) })
 
 clear-requires-2 : tie.Need-clear-requires-2
 clear-requires-2 c κs = search needs
@@ -29,7 +32,13 @@ same-length-2 : tie.Need-same-length-2
 same-length-2 c = search needs
 
 returns-2 : tie.Need-returns-2
-returns-2 c = result-same refl (sym (load-long (c .before .before .before .before .before .before .before .before .before .args .n) (c .before .before .before .before .before .before .before .before .before .args .set .now) (c .before .before .before .before .before .before .check .result) (c .before .before .before .before .before .before .check .ensures) (setFrom (c .before .before .before .before .before .before .before .before .before .args .set .now) 0) (decode-is (c .before .before .before .before .before .before .before .before .before .args .n) (c .before .before .before .before .before .before .before .before .before .args .set .now) (sym (c .before .before .before .before .before .before .check .ensures) ∙ c .before .before .before .before .before .if1 .left)) (c .before .before .before .before .if2 .taken))) (record { answer = refl; bytes = c .before .before .clear2 .ensures ∙ cleared-all (c .before .before .before .before .before .before .before .before .before .args .result .now) 11 (c .before .before .before .before .before .before .before .before .before .pre) })
+returns-2 c =
+    let at-if2 = c .before .before .before .before in let at-if1 = at-if2 .before in let at-check = at-if1 .before in let st = at-check .before .before .before in
+    result-same refl
+    (sym
+    (load-long (st .args .n) (st .args .set .now) (at-check .check .result) (at-check .check .ensures) (setFrom (st .args .set .now) 0)
+    (decode-is (st .args .n) (st .args .set .now) (sym (at-check .check .ensures) ∙ at-if1 .if1 .left)) (at-if2 .if2 .taken)))
+    (record { answer = refl; bytes = c .before .before .clear2 .ensures ∙ cleared-all (st .args .result .now) 11 (st .pre) })
 
 word-requires : tie.Need-word-requires
 word-requires c κs = search needs
@@ -42,9 +51,15 @@ same-length-3 c = search needs
 
 returns-3 : tie.Need-returns-3
 returns-3 c =
-    let w = c .before .before .before .before .before .before .word .ensures .wrote in let l = wrote-length w in
-    result-same refl (sym (load-gives (c .before .before .before .before .before .before .before .before .before .before .before .before .before .args .n) (c .before .before .before .before .before .before .before .before .before .before .before .before .before .args .set .now) (c .before .before .before .before .before .before .before .before .before .before .check .result) (c .before .before .before .before .before .before .before .before .before .before .check .ensures) (setFrom (c .before .before .before .before .before .before .before .before .before .before .before .before .before .args .set .now) 0) (decode-is (c .before .before .before .before .before .before .before .before .before .before .before .before .before .args .n) (c .before .before .before .before .before .before .before .before .before .before .before .before .before .args .set .now) (sym (c .before .before .before .before .before .before .before .before .before .before .check .ensures) ∙ c .before .before .before .before .before .before .before .before .before .if1 .left)) (omega arith)))
-    (record { answer = ap gives (let e = w .end-is in omega arith); bytes = c .before .before .clear3 .ensures ∙ loaded-table (c .before .before .before .before .before .before .before .before .before .before .before .before .before .args .set .now) (c .before .before .before .before .before .before .before .before .before .before .before .before .before .args .result .now) (c .before .before .before .before .before .before .word .last .0) (c .before .before .before .before .before .before .word .result) (c .before .before .before .before .before .before .before .before .before .before .before .before .before .pre) (l ∙ c .before .before .before .before .before .before .before .before .before .before .before .before .before .pre) w })
+    let at-word = c .before .before .before .before .before .before in let at-if1 = at-word .before .before .before in let at-check = at-if1 .before in
+    let st = at-check .before .before .before in
+    let w = at-word .word .ensures .wrote in
+    let l = wrote-length w in
+    result-same refl
+    (sym
+    (load-gives (st .args .n) (st .args .set .now) (at-check .check .result) (at-check .check .ensures) (setFrom (st .args .set .now) 0)
+    (decode-is (st .args .n) (st .args .set .now) (sym (at-check .check .ensures) ∙ at-if1 .if1 .left)) (omega arith)))
+    (record { answer = ap gives (let e = w .end-is in omega arith); bytes = c .before .before .clear3 .ensures ∙ loaded-table (st .args .set .now) (st .args .result .now) (at-word .word .last .0) (at-word .word .result) (st .pre) (l ∙ st .pre) w })
 
 pub load-spec : {M : Type 1} → statement M
 load-spec =

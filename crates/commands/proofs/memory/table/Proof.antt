@@ -28,7 +28,10 @@ part-result-end : tie.Need-part-result-end
 part-result-end c = let f = c .before .pre .0 .fit (c .before .args .m) in let t = c .before .pre .0 .tables-long in omega arith
 
 returns : tie.Need-returns
-returns c = let e : 8000 * c .before .before .args .m + getD (c .before .before .args .lengths .now) (c .before .before .args .m) 0 - 8000 * c .before .before .args .m ≡ getD (c .before .before .args .lengths .now) (c .before .before .args .m) 0 = omega arith in ap (λ (k : ℕ). take k (drop (8000 * c .before .before .args .m) (c .before .before .args .tables .now))) e
+returns c =
+    let st = c .before .before in
+    let e : 8000 * st .args .m + getD (st .args .lengths .now) (st .args .m) 0 - 8000 * st .args .m ≡ getD (st .args .lengths .now) (st .args .m) 0 = omega arith in
+    ap (λ (k : ℕ). take k (drop (8000 * st .args .m) (st .args .tables .now))) e
 
 pub table-spec : {M : Type 1} → statement M
 table-spec =

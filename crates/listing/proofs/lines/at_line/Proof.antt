@@ -28,7 +28,11 @@ same-length : tie.Need-same-length
 same-length c = search needs
 
 returns : tie.Need-returns
-returns c = writes-same (omega arith) (at-text (c .before .before .before .before .before .before .before .before .before .before .before .before .before .before .before .before .before .before .before .args .n) (c .before .before .before .before .before .before .before .before .before .before .before .before .before .before .before .before .before .before .before .args .p) (c .before .before .before .before .before .before .before .before .before .before .before .before .before .before .before .before .before .before .before .args .k)) (writes-more (c .before .before .before .before .before .before .before .before .before .before .before .before .before .before .before .word .ensures) (writes-more (c .before .before .before .before .before .before .before .before .before .before .before .coordinates .ensures) (writes-more (c .before .before .before .before .before .before .before .natural .ensures) (c .before .before .word2 .ensures))))
+returns c =
+    let at-natural = c .before .before .before .before .before .before .before in let at-coordinates = at-natural .before .before .before .before in
+    let at-word = at-coordinates .before .before .before .before in let st = at-word .before .before .before .before in
+    writes-same (omega arith) (at-text (st .args .n) (st .args .p) (st .args .k))
+    (writes-more (at-word .word .ensures) (writes-more (at-coordinates .coordinates .ensures) (writes-more (at-natural .natural .ensures) (c .before .before .word2 .ensures))))
 
 pub at-line-spec : {M : Type 1} → statement M
 at-line-spec =

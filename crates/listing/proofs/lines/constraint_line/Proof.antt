@@ -32,8 +32,14 @@ same-length : tie.Need-same-length
 same-length c = search needs
 
 returns : tie.Need-returns
-returns c = writes-same (omega arith) (constraint-text (c .before .before .before .before .before .before .before .before .before .before .before .before .before .before .before .before .before .before .before .before .before .before .before .before .args .n) (c .before .before .before .before .before .before .before .before .before .before .before .before .before .before .before .before .before .before .before .before .before .before .before .before .args .k) (c .before .before .before .before .before .before .before .before .before .before .before .before .before .before .before .before .u32-at .result) (kindOf (c .before .before .before .before .before .before .before .before .before .before .before .before .before .before .before .before .before .before .before .before .before .before .before .before .args .b)) (c .before .before .before .before .before .before .before .before .before .before .before .before .before .before .before .before .before .before .before .before .before .before .before .before .args .t .now) (c .before .before .before .before .before .before .before .before .before .before .before .before .before .before .before .before .before .before .before .before .before .before .before .before .pre .1) (c .before .before .before .before .before .before .before .before .before .before .before .before .before .before .before .before .before .before .before .before .before .before .before .before .pre .2) (c .before .before .before .before .before .before .before .before .before .before .before .before .before .before .before .before .u32-at .ensures .0))
-    (writes-more (c .before .before .before .before .before .before .before .before .before .before .before .before .before .before .before .before .before .before .before .before .kind-word .ensures) (writes-more (writes-more (c .before .before .before .before .before .before .before .before .before .before .before .before .before .before .before .number .ensures) (writes-more (c .before .before .before .before .before .before .before .before .before .before .before .coefficients .ensures) (c .before .before .before .before .before .before .before .coefficients2 .ensures))) (c .before .before .word .ensures)))
+returns c =
+    let at-coefficients2 = c .before .before .before .before .before .before .before in let at-coefficients = at-coefficients2 .before .before .before .before in
+    let at-number = at-coefficients .before .before .before .before in let at-u32-at = at-number .before in let at-kind-word = at-u32-at .before .before .before .before in
+    let st = at-kind-word .before .before .before .before in
+    writes-same (omega arith)
+    (constraint-text (st .args .n) (st .args .k) (at-u32-at .u32-at .result) (kindOf (st .args .b)) (st .args .t .now) (st .pre .1) (st .pre .2) (at-u32-at .u32-at .ensures .0))
+    (writes-more (at-kind-word .kind-word .ensures)
+    (writes-more (writes-more (at-number .number .ensures) (writes-more (at-coefficients .coefficients .ensures) (at-coefficients2 .coefficients2 .ensures))) (c .before .before .word .ensures)))
 
 pub constraint-line-spec : {M : Type 1} → statement M
 constraint-line-spec =

@@ -22,7 +22,9 @@ same-length : tie.Need-same-length
 same-length c = search needs
 
 returns : tie.Need-returns
-returns c = writes-same (omega arith) refl (writes-more (c .before .before .before .before .before .before .before .before .before .before .before .word .ensures) (writes-more (c .before .before .before .before .before .before .before .natural .ensures) (c .before .before .word2 .ensures)))
+returns c =
+    let at-natural = c .before .before .before .before .before .before .before in let at-word = at-natural .before .before .before .before in
+    writes-same (omega arith) refl (writes-more (at-word .word .ensures) (writes-more (at-natural .natural .ensures) (c .before .before .word2 .ensures)))
 
 pub counted-line-spec : {M : Type 1} → statement M
 counted-line-spec =

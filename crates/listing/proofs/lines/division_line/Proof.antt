@@ -37,8 +37,14 @@ same-length : tie.Need-same-length
 same-length c = search needs
 
 returns : tie.Need-returns
-returns c = writes-same (omega arith) (division-text (c .before .before .before .before .before .before .before .before .before .before .before .before .before .before .before .before .before .before .before .before .before .before .before .before .before .before .args .n) (c .before .before .before .before .before .before .before .before .before .before .before .before .before .before .before .before .before .u16-at .result) (c .before .before .before .before .before .before .before .before .before .before .before .before .u32-at .result) (c .before .before .before .before .before .before .before .before .before .before .before .before .before .before .before .before .before .before .before .before .before .before .before .before .before .before .args .t .now) (c .before .before .before .before .before .before .before .before .before .before .before .before .before .before .before .before .before .before .before .before .before .before .before .before .before .before .pre .1) (c .before .before .before .before .before .before .before .before .before .before .before .before .before .before .before .before .before .u16-at .ensures .0) (c .before .before .before .before .before .before .before .before .before .before .before .before .u32-at .ensures .0))
-    (writes-more (c .before .before .before .before .before .before .before .before .before .before .before .before .before .before .before .before .before .before .before .before .before .word .ensures) (writes-more (writes-more (c .before .before .before .before .before .before .before .before .before .before .before .before .before .before .before .before .natural .ensures) (writes-more (c .before .before .before .before .before .before .before .before .before .before .before .number .ensures) (c .before .before .before .before .before .before .before .coefficients .ensures))) (c .before .before .word2 .ensures)))
+returns c =
+    let at-coefficients = c .before .before .before .before .before .before .before in let at-number = at-coefficients .before .before .before .before in let at-u32-at = at-number .before in
+    let at-natural = at-u32-at .before .before .before .before in let at-u16-at = at-natural .before in let at-word = at-u16-at .before .before .before .before in
+    let st = at-word .before .before .before .before .before in
+    writes-same (omega arith)
+    (division-text (st .args .n) (at-u16-at .u16-at .result) (at-u32-at .u32-at .result) (st .args .t .now) (st .pre .1) (at-u16-at .u16-at .ensures .0) (at-u32-at .u32-at .ensures .0))
+    (writes-more (at-word .word .ensures)
+    (writes-more (writes-more (at-natural .natural .ensures) (writes-more (at-number .number .ensures) (at-coefficients .coefficients .ensures))) (c .before .before .word2 .ensures)))
 
 pub division-line-spec : {M : Type 1} → statement M
 division-line-spec =

@@ -38,7 +38,12 @@ same-length : tie.Need-same-length
 same-length c = search needs
 
 returns : tie.Need-returns
-returns c = writes-same (omega arith) (ap (λ (x : List ℕ). codes "set" ++ (number (pos (c .before .before .before .before .before .before .before .before .before .before .before .before .before .before .before .before .before .before .before .before .before .before .before .before .args .m)) ++ x)) (one-number (codes " has") (c .before .before .before .before .before .before .before .before .before .before .before .before .before .before .before .before .before .before .before .before .before .before .before .before .args .count))) (writes-more (c .before .before .before .before .before .before .before .before .before .before .before .before .before .before .before .before .before .before .before .before .word .ensures) (writes-more (c .before .before .before .before .before .before .before .before .before .before .before .before .before .before .before .before .natural .ensures) (writes-more (c .before .before .before .before .before .before .before .before .before .before .before .word2 .ensures) (writes-more (c .before .before .before .before .before .before .before .natural2 .ensures) (c .before .before .word3 .ensures)))))
+returns c =
+    let at-natural2 = c .before .before .before .before .before .before .before in let at-word2 = at-natural2 .before .before .before .before in
+    let at-natural = at-word2 .before .before .before .before .before in let at-word = at-natural .before .before .before .before in let st = at-word .before .before .before .before in
+    writes-same (omega arith) (ap (λ (x : List ℕ). codes "set" ++ (number (pos (st .args .m)) ++ x)) (one-number (codes " has") (st .args .count)))
+    (writes-more (at-word .word .ensures)
+    (writes-more (at-natural .natural .ensures) (writes-more (at-word2 .word2 .ensures) (writes-more (at-natural2 .natural2 .ensures) (c .before .before .word3 .ensures)))))
 
 pub header-spec : {M : Type 1} → statement M
 header-spec =

@@ -20,7 +20,9 @@ same-length : tie.Need-same-length
 same-length c = search needs
 
 returns : tie.Need-returns
-returns c = writes-same (omega arith) (ap (λ (x : Bool). codes (word (cond x equality inequality))) (sym (eq-eqb _ _ (c .before .before .before .before .before .if1 .taken)))) (c .before .before .word .ensures)
+returns c =
+    let at-if1 = c .before .before .before .before .before in
+    writes-same (omega arith) (ap (λ (x : Bool). codes (word (cond x equality inequality))) (sym (eq-eqb _ _ (at-if1 .if1 .taken)))) (c .before .before .word .ensures)
 
 slice-aggregate-word-2 : tie.Need-slice-aggregate-word-2
 slice-aggregate-word-2 c = search needs
@@ -32,7 +34,9 @@ same-length-2 : tie.Need-same-length-2
 same-length-2 c = search needs
 
 returns-2 : tie.Need-returns-2
-returns-2 c = writes-same (omega arith) (ap (λ (x : Bool). codes (word (cond x equality inequality))) (sym (ne-eqb _ _ (c .before .before .before .before .before .if1 .left)))) (c .before .before .word2 .ensures)
+returns-2 c =
+    let at-if1 = c .before .before .before .before .before in
+    writes-same (omega arith) (ap (λ (x : Bool). codes (word (cond x equality inequality))) (sym (ne-eqb _ _ (at-if1 .if1 .left)))) (c .before .before .word2 .ensures)
 
 pub kind-word-spec : {M : Type 1} → statement M
 kind-word-spec =

@@ -21,72 +21,59 @@ digits-at t = and 1 digits-kinds.ps (is 1 digits-kinds.ps μ-digits t) digits.Pr
 abbrev digits-below : ℕ → In 1 digits-kinds.ps
 digits-below t = and 1 digits-kinds.ps (falls 1 digits-kinds.ps _<_ μ-digits t) digits.Pre
 
--- src/text.rt:30:20
 digits-add-out :
     (t : ℕ) → digits-lts.Need-add-out (digits-below t, digits.Post) (digits-at t) digits.Post
 digits-add-out t c = search needs
 
--- src/text.rt:30:19
 digits-cast-out :
     (t : ℕ) → digits-lts.Need-cast-out (digits-below t, digits.Post) (digits-at t) digits.Post
 digits-cast-out t c = search needs
 
--- src/text.rt:30:9
 digits-slice-write-out :
     (t : ℕ) →
     digits-lts.Need-slice-write-out (digits-below t, digits.Post) (digits-at t) digits.Post
 digits-slice-write-out t c = search needs
 
--- src/text.rt:31:16
 digits-add-result :
     (t : ℕ) → digits-lts.Need-add-result (digits-below t, digits.Post) (digits-at t) digits.Post
 digits-add-result t c = search needs
 
--- src/text.rt:31:9
 digits-same-length :
     (t : ℕ) → digits-lts.Need-same-length (digits-below t, digits.Post) (digits-at t) digits.Post
 digits-same-length t c = simp length-set
 
--- src/text.rt:31:9
 digits-returns :
     (t : ℕ) → digits-lts.Need-returns (digits-below t, digits.Post) (digits-at t) digits.Post
 digits-returns t c = writes-same (omega arith) (sym (digits-small (c .before .before .args .n) (c .if1 .taken))) (writes-one (c .before .before .args .out .now) (c .before .before .args .at) (48 + c .before .before .args .n) (omega arith))
 
--- src/text.rt:33:9
 digits-digits-requires :
     (t : ℕ) →
     digits-lts.Need-digits-requires (digits-below t, digits.Post) (digits-at t) digits.Post
 digits-digits-requires t c κs = search needs
 
--- src/text.rt:34:15
 digits-add-out-2 :
     (t : ℕ) → digits-lts.Need-add-out-2 (digits-below t, digits.Post) (digits-at t) digits.Post
 digits-add-out-2 t c = search needs
 
--- src/text.rt:34:14
 digits-cast-out-2 :
     (t : ℕ) → digits-lts.Need-cast-out-2 (digits-below t, digits.Post) (digits-at t) digits.Post
 digits-cast-out-2 t c = search needs
 
--- src/text.rt:34:5
 digits-slice-write-out-2 : (t : ℕ) → digits-lts.Need-slice-write-out-2 (
   digits-below t,
   digits.Post,
 ) (digits-at t) digits.Post
 digits-slice-write-out-2 t c = omega (arith, digits-room (c .before .before .before .before .before .before .args .n) (c .before .before .before .before .before .before .fits .n .fits), c .before .before .digits .ensures .wrote .end-is, c .before .before .digits .kept .0)
 
--- src/text.rt:35:5
 digits-add-result-2 :
     (t : ℕ) → digits-lts.Need-add-result-2 (digits-below t, digits.Post) (digits-at t) digits.Post
 digits-add-result-2 t c = omega (arith, digits-room (c .before .before .before .before .before .before .args .n) (c .before .before .before .before .before .before .fits .n .fits), c .before .before .digits .ensures .wrote .end-is, c .before .before .digits .kept .0)
 
--- src/text.rt:25:1
 digits-same-length-2 :
     (t : ℕ) →
     digits-lts.Need-same-length-2 (digits-below t, digits.Post) (digits-at t) digits.Post
 digits-same-length-2 t c = length-set (c .before .before .digits .last .0) (c .before .before .digits .result) (48 + c .before .before .before .before .before .before .args .n % 10) ∙ c .before .before .digits .kept .0
 
--- src/text.rt:25:1
 digits-returns-2 :
     (t : ℕ) → digits-lts.Need-returns-2 (digits-below t, digits.Post) (digits-at t) digits.Post
 digits-returns-2 t c =

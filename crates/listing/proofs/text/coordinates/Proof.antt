@@ -19,46 +19,44 @@ Inv-loop out₀ at n p k₀ i₀ out k i = (i ≤ n) × (length p ≡ 8) × Writ
 abbrev μ-loop : tie.MeasureT-loop
 μ-loop out₀ at n p k₀ i₀ out k i = n - i
 
--- src/text.rt:99:5
 loop-holds : tie.Need-loop-holds Inv-loop μ-loop
 loop-holds c = (omega arith, search needs, writes-none (c .before .args .out .now) (c .before .args .at) (omega arith))
 
--- src/text.rt:100:29
 mul-integer : tie.Need-mul-integer Inv-loop μ-loop
 mul-integer c = search needs
 
--- src/text.rt:100:29
 array-copy-out-integer : tie.Need-array-copy-out-integer Inv-loop μ-loop
 array-copy-out-integer c = search needs
 
--- src/text.rt:100:9
 integer-requires : tie.Need-integer-requires Inv-loop μ-loop
 integer-requires c κs = let l = wrote-length (c .before .before .before .loop .inv .2 .wrote) in let s = c .before .before .before .loop .inv .2 .short in omega arith
 
--- src/text.rt:101:9
 add-i : tie.Need-add-i Inv-loop μ-loop
 add-i c = search needs
 
--- src/text.rt:99:5
 loop-less : tie.Need-loop-less Inv-loop μ-loop
 loop-less c = omega arith
 
--- src/text.rt:99:5
 loop-again : tie.Need-loop-again Inv-loop μ-loop
 loop-again c =
-    let st = c .before .before .before .before .before .before .before .before in let l = c .before .before .before .before .before .before .loop in
-    let z = toZ-ofZ {w = w64} {z = getD (st .args .t3) (l .i) (pos 0)} (record { sfits = c .before .before .before .integer-arg2 .given }) in
-    (omega arith, l .inv .1, integers-more (st .args .t3) (st .args .out .now) (l .out) (c .before .before .integer .last .0) (l .i) (st .args .at) (l .k) (c .before .before .integer .result) _ (omega arith) z (l .inv .2) (c .before .before .integer .ensures))
+    let at-integer = c .before .before in let at-integer-arg2 = at-integer .before in let in-loop = at-integer-arg2 .before .before .before in let at-p8 = in-loop .before .before in
+    let st = at-p8 in
+    let l = in-loop .loop in
+    let z = toZ-ofZ {w = w64} {z = getD (st .args .t3) (l .i) (pos 0)} (record { sfits = at-integer-arg2 .integer-arg2 .given }) in (
+      omega arith,
+      l .inv .1,
+      integers-more (st .args .t3) (st .args .out .now) (l .out) (at-integer .integer .last .0) (l .i) (st .args .at) (l .k) (at-integer .integer .result) _ (omega arith) z
+          (l .inv .2) (at-integer .integer .ensures),
+    )
 
--- src/text.rt:93:1
 same-length : tie.Need-same-length Inv-loop μ-loop
 same-length c = wrote-length (c .before .loop .inv .2 .wrote)
 
--- src/text.rt:93:1
 returns : tie.Need-returns Inv-loop μ-loop
 returns c =
-    let e : c .before .loop .i ≡ c .before .before .before .args .n = omega arith in
-    subst (λ (i : ℕ). Writes (22 * i) (concatMap number (take i (c .before .before .before .args .t3))) (c .before .before .before .args .out .now) (c .before .before .before .args .at) (c .before .loop .k) (c .before .loop .out)) e (c .before .loop .inv .2)
+    let st = c .before .before .before in
+    let e : c .before .loop .i ≡ st .args .n = omega arith in
+    subst (λ (i : ℕ). Writes (22 * i) (concatMap number (take i (st .args .t3))) (st .args .out .now) (st .args .at) (c .before .loop .k) (c .before .loop .out)) e (c .before .loop .inv .2)
 
 pub coordinates-spec : {M : Type 1} → statement M
 coordinates-spec =

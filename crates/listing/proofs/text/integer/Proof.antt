@@ -26,10 +26,12 @@ same-length c = search needs
 
 returns : tie.Need-returns
 returns c =
-    let m = c .before .before .before .before .before .before .before .before .before .before in let st = m .before .before in
+    let at-word = c .before .before .before .before .before .before in let at-if1 = at-word .before .before .before in let at-p10 = at-if1 .before in
+    let m = at-p10 in
+    let st = m .before .before in
     writes-same (omega arith)
-    (integer-below (st .args .z) (m .magnitude .result) (m .magnitude .ensures ∙ ap natAbs (toZ-ofZ (st .fits .z))) (is-lt (b-of (st .fits .z)) (b-lit w64 0 refl) (c .before .before .before .before .before .before .before .before .before .if1 .taken)))
-    (writes-more (c .before .before .before .before .before .before .word .ensures) (c .before .before .digits .ensures))
+    (integer-below (st .args .z) (m .magnitude .result) (m .magnitude .ensures ∙ ap natAbs (toZ-ofZ (st .fits .z))) (is-lt (b-of (st .fits .z)) (b-lit w64 0 refl) (at-if1 .if1 .taken)))
+    (writes-more (at-word .word .ensures) (c .before .before .digits .ensures))
 
 natural-requires : tie.Need-natural-requires
 natural-requires c κs = search needs
@@ -39,9 +41,11 @@ same-length-2 c = search needs
 
 returns-2 : tie.Need-returns-2
 returns-2 c =
-    let m = c .before .before .before .before .before in let st = m .before .before in
+    let at-if1 = c .before .before .before .before in let at-p5 = at-if1 .before in
+    let m = at-p5 in
+    let st = m .before .before in
     writes-same (omega arith)
-    (integer-from (st .args .z) (m .magnitude .result) (m .magnitude .ensures ∙ ap natAbs (toZ-ofZ (st .fits .z))) (is-ge (b-of (st .fits .z)) (b-lit w64 0 refl) (c .before .before .before .before .if1 .left)))
+    (integer-from (st .args .z) (m .magnitude .result) (m .magnitude .ensures ∙ ap natAbs (toZ-ofZ (st .fits .z))) (is-ge (b-of (st .fits .z)) (b-lit w64 0 refl) (at-if1 .if1 .left)))
     (c .before .before .natural .ensures)
 
 pub integer-spec : {M : Type 1} → statement M

@@ -15,7 +15,9 @@ same-length : tie.Need-same-length
 same-length c = search needs
 
 returns : tie.Need-returns
-returns c = writes-same (omega arith) (number-low (c .before .before .before .before .before .before .args .size) (c .before .before .before .before .before .before .args .v) (c .before .before .before .before .if1 .taken)) (c .before .before .natural .ensures)
+returns c =
+    let at-if1 = c .before .before .before .before in let st = at-if1 .before .before in
+    writes-same (omega arith) (number-low (st .args .size) (st .args .v) (at-if1 .if1 .taken)) (c .before .before .natural .ensures)
 
 slice-aggregate-word : tie.Need-slice-aggregate-word
 slice-aggregate-word c = search needs
@@ -33,7 +35,9 @@ same-length-2 : tie.Need-same-length-2
 same-length-2 c = search needs
 
 returns-2 : tie.Need-returns-2
-returns-2 c = writes-same (omega arith) (number-high (c .before .before .before .before .before .before .before .before .before .before .before .args .size) (c .before .before .before .before .before .before .before .before .before .before .before .args .v) (c .before .before .before .before .before .before .before .before .before .if1 .left) (c .before .before .before .before .before .before .before .before .before .before .before .pre .1)) (writes-more (c .before .before .before .before .before .before .word .ensures) (c .before .before .digits .ensures))
+returns-2 c =
+    let at-word = c .before .before .before .before .before .before in let at-if1 = at-word .before .before .before in let st = at-if1 .before .before in
+    writes-same (omega arith) (number-high (st .args .size) (st .args .v) (at-if1 .if1 .left) (st .pre .1)) (writes-more (at-word .word .ensures) (c .before .before .digits .ensures))
 
 pub number-spec : {M : Type 1} → statement M
 number-spec =

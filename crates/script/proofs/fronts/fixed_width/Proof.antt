@@ -34,7 +34,24 @@ returns-10 : tie.Need-returns-10
 returns-10 c = (rw (c .if10 .taken), omega arith)
 
 returns-11 : tie.Need-returns-11
-returns-11 c = (simp (ne-eqb _ _ (c .before .before .before .before .before .before .before .before .before .if1 .left), ne-eqb _ _ (c .before .before .before .before .before .before .before .before .if2 .left), ne-eqb _ _ (c .before .before .before .before .before .before .before .if3 .left), ne-eqb _ _ (c .before .before .before .before .before .before .if4 .left), ne-eqb _ _ (c .before .before .before .before .before .if5 .left), ne-eqb _ _ (c .before .before .before .before .if6 .left), ne-eqb _ _ (c .before .before .before .if7 .left), ne-eqb _ _ (c .before .before .if8 .left), ne-eqb _ _ (c .before .if9 .left), ne-eqb _ _ (c .if10 .left)), omega arith)
+returns-11 c =
+    let at-if7 = c .before .before .before in let at-if6 = at-if7 .before in let at-if5 = at-if6 .before in let at-if4 = at-if5 .before in let at-if3 = at-if4 .before in
+    let at-if2 = at-if3 .before in let at-if1 = at-if2 .before in (
+      simp (
+        ne-eqb _ _ (at-if1 .if1 .left),
+        ne-eqb _ _ (at-if2 .if2 .left),
+        ne-eqb _ _ (at-if3 .if3 .left),
+        ne-eqb _ _ (at-if4 .if4 .left),
+        ne-eqb _ _ (at-if5 .if5 .left),
+        ne-eqb _ _
+            (at-if6 .if6 .left),
+        ne-eqb _ _ (at-if7 .if7 .left),
+        ne-eqb _ _ (c .before .before .if8 .left),
+        ne-eqb _ _ (c .before .if9 .left),
+        ne-eqb _ _ (c .if10 .left),
+      ),
+      omega arith,
+    )
 
 pub fixed-width-spec : {M : Type 1} → statement M
 fixed-width-spec =

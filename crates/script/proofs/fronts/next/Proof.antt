@@ -21,19 +21,31 @@ fixed-width-requires : tie.Need-fixed-width-requires
 fixed-width-requires c κs = search needs
 
 returns-2 : tie.Need-returns-2
-returns-2 c = sym (front-unknown (c .before .before .before .before .before .args .axes) (c .before .before .before .before .before .args .ended) (c .before .before .before .before .before .args .s .now) (c .before .fixed-width .result) (c .before .before .before .if1 .left) (c .before .fixed-width .ensures .0) (c .if2 .taken))
+returns-2 c =
+    let at-if1 = c .before .before .before in let st = at-if1 .before .before in
+    sym (front-unknown (st .args .axes) (st .args .ended) (st .args .s .now) (c .before .fixed-width .result) (at-if1 .if1 .left) (c .before .fixed-width .ensures .0) (c .if2 .taken))
 
 in-place-requires : tie.Need-in-place-requires
 in-place-requires c κs = search needs
 
 returns-3 : tie.Need-returns-3
-returns-3 c = sym (front-place (c .before .before .before .before .before .before .before .args .axes) (c .before .before .before .before .before .before .before .args .ended) (c .before .before .before .before .before .before .before .args .s .now) (c .before .before .before .fixed-width .result) (c .before .before .before .before .before .if1 .left) (c .before .before .before .fixed-width .ensures .0) (c .before .before .if2 .left) (sym (c .before .in-place .ensures) ∙ not-true _ (c .if3 .taken)))
+returns-3 c =
+    let at-fixed-width = c .before .before .before in let at-if1 = at-fixed-width .before .before in let st = at-if1 .before .before in
+    sym
+    (front-place (st .args .axes) (st .args .ended) (st .args .s .now) (at-fixed-width .fixed-width .result) (at-if1 .if1 .left) (at-fixed-width .fixed-width .ensures .0)
+    (c .before .before .if2 .left) (sym (c .before .in-place .ensures) ∙ not-true _ (c .if3 .taken)))
 
 cut-off-requires-2 : tie.Need-cut-off-requires-2
 cut-off-requires-2 c κs = search needs
 
 returns-4 : tie.Need-returns-4
-returns-4 c = let l = width-least (c .before .before .before .before .before .before .before .before .before .args .s .now) (c .before .before .before .before .before .fixed-width .result) (c .before .before .before .before .before .before .before .if1 .left) (c .before .before .before .before .before .fixed-width .ensures .0) in c .cut-off2 .ensures ∙ sym (front-cut (c .before .before .before .before .before .before .before .before .before .args .axes) (c .before .before .before .before .before .before .before .before .before .args .ended) (c .before .before .before .before .before .before .before .before .before .args .s .now) (c .before .before .before .before .before .fixed-width .result) (c .before .before .before .before .before .before .before .if1 .left) (c .before .before .before .before .before .fixed-width .ensures .0) (c .before .before .before .before .if2 .left) (sym (c .before .before .before .in-place .ensures) ∙ not-false _ (c .before .before .if3 .left)) (omega arith))
+returns-4 c =
+    let at-in-place = c .before .before .before in let at-if2 = at-in-place .before in let at-fixed-width = at-if2 .before in let at-if1 = at-fixed-width .before .before in
+    let st = at-if1 .before .before in
+    let l = width-least (st .args .s .now) (at-fixed-width .fixed-width .result) (at-if1 .if1 .left) (at-fixed-width .fixed-width .ensures .0) in
+    c .cut-off2 .ensures ∙ sym
+    (front-cut (st .args .axes) (st .args .ended) (st .args .s .now) (at-fixed-width .fixed-width .result) (at-if1 .if1 .left) (at-fixed-width .fixed-width .ensures .0) (at-if2 .if2 .left)
+    (sym (at-in-place .in-place .ensures) ∙ not-false _ (c .before .before .if3 .left)) (omega arith))
 
 load-length-requires : tie.Need-load-length-requires
 load-length-requires c κs = λ e. load-there _ (c .before .before .before .before .fixed-width .result) _ (c .before .before .before .before .fixed-width .ensures .0) (c .if4 .left) e
@@ -45,10 +57,24 @@ cut-off-requires-3 : tie.Need-cut-off-requires-3
 cut-off-requires-3 c κs = search needs
 
 returns-5 : tie.Need-returns-5
-returns-5 c = let l = width-of (c .before .before .before .before .before .before .before .before .before .before .before .args .s .now) (c .before .before .before .before .before .before .before .fixed-width .result) (c .before .before .load-length .result) (c .before .before .before .before .before .before .before .before .before .if1 .left) (c .before .before .before .before .before .before .before .fixed-width .ensures .0) (c .before .before .load-length .ensures .0) in c .cut-off3 .ensures ∙ sym (front-cut (c .before .before .before .before .before .before .before .before .before .before .before .args .axes) (c .before .before .before .before .before .before .before .before .before .before .before .args .ended) (c .before .before .before .before .before .before .before .before .before .before .before .args .s .now) (c .before .before .before .before .before .before .before .fixed-width .result) (c .before .before .before .before .before .before .before .before .before .if1 .left) (c .before .before .before .before .before .before .before .fixed-width .ensures .0) (c .before .before .before .before .before .before .if2 .left) (sym (c .before .before .before .before .before .in-place .ensures) ∙ not-false _ (c .before .before .before .before .if3 .left)) (omega arith))
+returns-5 c =
+    let at-if3 = c .before .before .before .before in let at-in-place = at-if3 .before in let at-if2 = at-in-place .before in let at-fixed-width = at-if2 .before in
+    let at-if1 = at-fixed-width .before .before in let st = at-if1 .before .before in
+    let l = width-of (st .args .s .now) (at-fixed-width .fixed-width .result) (c .before .before .load-length .result) (at-if1 .if1 .left) (at-fixed-width .fixed-width .ensures .0)
+    (c .before .before .load-length .ensures .0) in
+    c .cut-off3 .ensures ∙ sym
+    (front-cut (st .args .axes) (st .args .ended) (st .args .s .now) (at-fixed-width .fixed-width .result) (at-if1 .if1 .left) (at-fixed-width .fixed-width .ensures .0) (at-if2 .if2 .left)
+    (sym (at-in-place .in-place .ensures) ∙ not-false _ (at-if3 .if3 .left)) (omega arith))
 
 returns-6 : tie.Need-returns-6
-returns-6 c = let l = width-of (c .before .before .before .before .before .before .before .before .before .before .args .s .now) (c .before .before .before .before .before .before .fixed-width .result) (c .before .load-length .result) (c .before .before .before .before .before .before .before .before .if1 .left) (c .before .before .before .before .before .before .fixed-width .ensures .0) (c .before .load-length .ensures .0) in ap Whole l ∙ sym (front-whole (c .before .before .before .before .before .before .before .before .before .before .args .axes) (c .before .before .before .before .before .before .before .before .before .before .args .ended) (c .before .before .before .before .before .before .before .before .before .before .args .s .now) (c .before .before .before .before .before .before .fixed-width .result) (c .before .before .before .before .before .before .before .before .if1 .left) (c .before .before .before .before .before .before .fixed-width .ensures .0) (c .before .before .before .before .before .if2 .left) (sym (c .before .before .before .before .in-place .ensures) ∙ not-false _ (c .before .before .before .if3 .left)) (omega arith))
+returns-6 c =
+    let at-if3 = c .before .before .before in let at-in-place = at-if3 .before in let at-if2 = at-in-place .before in let at-fixed-width = at-if2 .before in
+    let at-if1 = at-fixed-width .before .before in let st = at-if1 .before .before in
+    let l = width-of (st .args .s .now) (at-fixed-width .fixed-width .result) (c .before .load-length .result) (at-if1 .if1 .left) (at-fixed-width .fixed-width .ensures .0)
+    (c .before .load-length .ensures .0) in
+    ap Whole l ∙ sym
+    (front-whole (st .args .axes) (st .args .ended) (st .args .s .now) (at-fixed-width .fixed-width .result) (at-if1 .if1 .left) (at-fixed-width .fixed-width .ensures .0) (at-if2 .if2 .left)
+    (sym (at-in-place .in-place .ensures) ∙ not-false _ (at-if3 .if3 .left)) (omega arith))
 
 pub next-spec : {M : Type 1} → statement M
 next-spec =

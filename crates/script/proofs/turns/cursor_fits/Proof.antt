@@ -25,8 +25,11 @@ returns-3 c = simp (le-leb _ _ (c .before .before .before .before .if1 .left), l
 
 returns-4 : tie.Need-returns-4
 returns-4 c =
-    let k = c .before .before .before .before .before .before .args .c in
-    sym (ap₂ (λ (x y : Bool). x && (y && (leb (k .basics) room && leb (k .divisions) 8))) (le-leb _ _ (c .before .before .before .before .before .if1 .left)) (le-leb _ _ (c .before .before .before .if2 .left)) ∙ ap (λ (z : Bool). z && leb (k .divisions) 8) (le-leb _ _ (c .before .if3 .left)))
+    let at-if2 = c .before .before .before in let at-if1 = at-if2 .before .before in let st = at-if1 .before in
+    let k = st .args .c in
+    sym
+    (ap₂ (λ (x y : Bool). x && (y && (leb (k .basics) room && leb (k .divisions) 8))) (le-leb _ _ (at-if1 .if1 .left)) (le-leb _ _ (at-if2 .if2 .left)) ∙ ap
+    (λ (z : Bool). z && leb (k .divisions) 8) (le-leb _ _ (c .before .if3 .left)))
 
 pub cursor-fits-spec : {M : Type 1} → statement M
 cursor-fits-spec =

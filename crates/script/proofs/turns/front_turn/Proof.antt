@@ -27,22 +27,39 @@ enum-known-f-2 : tie.Need-enum-known-f-2
 enum-known-f-2 c = search needs
 
 slice-aggregate-command : tie.Need-slice-aggregate-command
-slice-aggregate-command c = sym (length-take-le _ (c .before .before .before .before .before .before .before .before .before .before .args .input .now) ((fronted (c .before .before .before .before .before .before .before .before .before .before .args .state .axes) (c .before .before .before .before .before .before .before .before .before .before .args .ended) (c .before .before .before .before .before .before .before .before .before .before .args .input .now) _ (sym (c .before .before .before .before .next .ensures) ∙ c .before .before .f2 .given .1)) .inside))
+slice-aggregate-command c =
+    let at-next = c .before .before .before .before in let st = at-next .before .before .before .before .before .before in
+    sym
+    (length-take-le _ (st .args .input .now)
+    ((fronted (st .args .state .axes) (st .args .ended) (st .args .input .now) _ (sym (at-next .next .ensures) ∙ c .before .before .f2 .given .1)) .inside))
 
 command-requires : tie.Need-command-requires
-command-requires c κs = ((fronted (c .before .before .before .before .before .before .before .before .before .before .before .before .before .before .args .state .axes) (c .before .before .before .before .before .before .before .before .before .before .before .before .before .before .args .ended) (c .before .before .before .before .before .before .before .before .before .before .before .before .before .before .args .input .now) _ (sym (c .before .before .before .before .before .before .before .before .next .ensures) ∙ c .before .before .before .before .before .before .f2 .given .1)) .single, c .before .before .before .before .before .before .before .before .before .before .before .before .before .before .pre)
+command-requires c κs =
+    let at-f2 = c .before .before .before .before .before .before in let at-next = at-f2 .before .before in let st = at-next .before .before .before .before .before .before in
+    ((fronted (st .args .state .axes) (st .args .ended) (st .args .input .now) _ (sym (at-next .next .ensures) ∙ at-f2 .f2 .given .1)) .single, st .pre)
 
 after-requires : tie.Need-after-requires
 after-requires c κs = search needs
 
 returns : tie.Need-returns
-returns c = turn-same (ap (frontTurn (c .before .before .before .before .before .before .before .before .before .args .state) (memory (c .before .before .before .before .before .before .before .before .before .args .tables .now) (c .before .before .before .before .before .before .before .before .before .args .lengths .now) (c .before .before .before .before .before .before .before .before .before .args .result .now)) (c .before .before .before .before .before .before .before .before .before .args .input .now)) (sym (sym (c .before .before .before .next .ensures) ∙ c .before .enum-told .given .1))) (quiet-turn (c .before .before .before .before .before .before .before .before .before .args .state) (memory (c .before .before .before .before .before .before .before .before .before .args .tables .now) (c .before .before .before .before .before .before .before .before .before .args .lengths .now) (c .before .before .before .before .before .before .before .before .before .args .result .now)) Reads (c .before .before .before .before .before .before .before .before .before .args .out .now) (c .silent .ensures))
+returns c =
+    let at-next = c .before .before .before in let st = at-next .before .before .before .before .before .before in
+    turn-same
+    (ap (frontTurn (st .args .state) (memory (st .args .tables .now) (st .args .lengths .now) (st .args .result .now)) (st .args .input .now))
+    (sym (sym (at-next .next .ensures) ∙ c .before .enum-told .given .1)))
+    (quiet-turn (st .args .state) (memory (st .args .tables .now) (st .args .lengths .now) (st .args .result .now)) Reads (st .args .out .now) (c .silent .ensures))
 
 same-length : tie.Need-same-length
 same-length c = search needs
 
 returns-2 : tie.Need-returns-2
-returns-2 c = turn-same (ap (frontTurn (c .before .before .before .before .before .before .before .before .before .before .before .before .before .args .state) (memory (c .before .before .before .before .before .before .before .before .before .before .before .before .before .args .tables .now) (c .before .before .before .before .before .before .before .before .before .before .before .before .before .args .lengths .now) (c .before .before .before .before .before .before .before .before .before .before .before .before .before .args .result .now)) (c .before .before .before .before .before .before .before .before .before .before .before .before .before .args .input .now)) (sym (sym (c .before .before .before .before .before .before .before .next .ensures) ∙ c .before .before .before .before .before .f .given .1))) (stop-turn (c .before .before .before .before .before .before .before .before .before .before .before .before .before .args .state) (memory (c .before .before .before .before .before .before .before .before .before .before .before .before .before .args .tables .now) (c .before .before .before .before .before .before .before .before .before .before .before .before .before .args .lengths .now) (c .before .before .before .before .before .before .before .before .before .before .before .before .before .args .result .now)) (c .before .before .before .before .before .before .before .before .before .before .before .before .before .args .input .now) (c .before .before .before .before .before .f .given .0 .0) (c .before .before .refused-line .ensures))
+returns-2 c =
+    let at-f = c .before .before .before .before .before in let at-next = at-f .before .before in let st = at-next .before .before .before .before .before .before in
+    turn-same
+    (ap (frontTurn (st .args .state) (memory (st .args .tables .now) (st .args .lengths .now) (st .args .result .now)) (st .args .input .now))
+    (sym (sym (at-next .next .ensures) ∙ at-f .f .given .1)))
+    (stop-turn (st .args .state) (memory (st .args .tables .now) (st .args .lengths .now) (st .args .result .now)) (st .args .input .now) (at-f .f .given .0 .0)
+    (c .before .before .refused-line .ensures))
 
 same-length-2 : tie.Need-same-length-2
 same-length-2 c = search needs
@@ -57,7 +74,15 @@ same-length-5 : tie.Need-same-length-5
 same-length-5 c = search needs
 
 returns-3 : tie.Need-returns-3
-returns-3 c = turn-same (ap (frontTurn (c .before .before .before .before .before .before .before .before .before .before .before .before .before .before .before .before .before .before .before .before .before .before .before .before .args .state) (memory (c .before .before .before .before .before .before .before .before .before .before .before .before .before .before .before .before .before .before .before .before .before .before .before .before .args .tables .now) (c .before .before .before .before .before .before .before .before .before .before .before .before .before .before .before .before .before .before .before .before .before .before .before .before .args .lengths .now) (c .before .before .before .before .before .before .before .before .before .before .before .before .before .before .before .before .before .before .before .before .before .before .before .before .args .result .now)) (c .before .before .before .before .before .before .before .before .before .before .before .before .before .before .before .before .before .before .before .before .before .before .before .before .args .input .now)) (sym (sym (c .before .before .before .before .before .before .before .before .before .before .before .before .before .before .before .before .before .before .next .ensures) ∙ c .before .before .before .before .before .before .before .before .before .before .before .before .before .before .before .before .f2 .given .1))) (command-turn (c .before .before .before .before .before .before .before .before .before .before .before .before .before .before .before .before .before .before .before .before .before .before .before .before .args .state) (memory (c .before .before .before .before .before .before .before .before .before .before .before .before .before .before .before .before .before .before .before .before .before .before .before .before .args .tables .now) (c .before .before .before .before .before .before .before .before .before .before .before .before .before .before .before .before .before .before .before .before .before .before .before .before .args .lengths .now) (c .before .before .before .before .before .before .before .before .before .before .before .before .before .before .before .before .before .before .before .before .before .before .before .before .args .result .now)) _ _ (sym (length-take-le _ (c .before .before .before .before .before .before .before .before .before .before .before .before .before .before .before .before .before .before .before .before .before .before .before .before .args .input .now) ((fronted (c .before .before .before .before .before .before .before .before .before .before .before .before .before .before .before .before .before .before .before .before .before .before .before .before .args .state .axes) (c .before .before .before .before .before .before .before .before .before .before .before .before .before .before .before .before .before .before .before .before .before .before .before .before .args .ended) (c .before .before .before .before .before .before .before .before .before .before .before .before .before .before .before .before .before .before .before .before .before .before .before .before .args .input .now) _ (sym (c .before .before .before .before .before .before .before .before .before .before .before .before .before .before .before .before .before .before .next .ensures) ∙ c .before .before .before .before .before .before .before .before .before .before .before .before .before .before .before .before .f2 .given .1)) .inside))) (c .after .ensures) (c .before .before .before .before .before .before .before .before .before .command .ensures .0) (c .before .before .before .before .before .before .before .before .before .command .ensures .1))
+returns-3 c =
+    let at-command = c .before .before .before .before .before .before .before .before .before in let at-f2 = at-command .before .before .before .before .before .before .before in
+    let at-next = at-f2 .before .before in let st = at-next .before .before .before .before .before .before in
+    turn-same
+    (ap (frontTurn (st .args .state) (memory (st .args .tables .now) (st .args .lengths .now) (st .args .result .now)) (st .args .input .now))
+    (sym (sym (at-next .next .ensures) ∙ at-f2 .f2 .given .1)))
+    (command-turn (st .args .state) (memory (st .args .tables .now) (st .args .lengths .now) (st .args .result .now)) _ _
+    (sym (length-take-le _ (st .args .input .now) ((fronted (st .args .state .axes) (st .args .ended) (st .args .input .now) _ (sym (at-next .next .ensures) ∙ at-f2 .f2 .given .1)) .inside)))
+    (c .after .ensures) (at-command .command .ensures .0) (at-command .command .ensures .1))
 
 pub front-turn-spec : {M : Type 1} → statement M
 front-turn-spec =

@@ -19,35 +19,38 @@ Inv-loop lengths i₀ i = (i ≤ length lengths) × (all (λ (l : ℕ). leb l ro
 abbrev μ-loop : tie.MeasureT-loop
 μ-loop lengths i₀ i = length lengths - i
 
--- src/turns.rt:216:5
 loop-holds : tie.Need-loop-holds Inv-loop μ-loop
 loop-holds c = (omega arith, refl)
 
--- src/turns.rt:217:19
 mul-if1 : tie.Need-mul-if1 Inv-loop μ-loop
 mul-if1 c = search needs
 
--- src/turns.rt:217:19
 shared-slice-read-if1 : tie.Need-shared-slice-read-if1 Inv-loop μ-loop
 shared-slice-read-if1 c = search needs
 
--- src/turns.rt:218:13
 returns : tie.Need-returns Inv-loop μ-loop
-returns c = sym (sym (c .before .before .before .loop .inv .1) ∙ all-from (c .before .before .before .loop .i) (c .before .before .before .before .args .lengths .now) (c .before .before .loop-test .taken) ∙ ap (λ (x : Bool). x && all (λ (l : ℕ). leb l room) (drop (c .before .before .before .loop .i + 1) (c .before .before .before .before .args .lengths .now))) (lt-leb _ _ (c .if1 .taken)))
+returns c =
+    let in-loop = c .before .before .before in let st = in-loop .before in
+    sym
+    (sym (in-loop .loop .inv .1) ∙ all-from (in-loop .loop .i) (st .args .lengths .now) (c .before .before .loop-test .taken) ∙ ap
+    (λ (x : Bool). x && all (λ (l : ℕ). leb l room) (drop (in-loop .loop .i + 1) (st .args .lengths .now))) (lt-leb _ _ (c .if1 .taken)))
 
--- src/turns.rt:220:9
 add-i : tie.Need-add-i Inv-loop μ-loop
 add-i c = search needs
 
--- src/turns.rt:216:5
 loop-less : tie.Need-loop-less Inv-loop μ-loop
 loop-less c = omega arith
 
--- src/turns.rt:216:5
 loop-again : tie.Need-loop-again Inv-loop μ-loop
-loop-again c = (omega arith, sym (all-from (c .before .before .before .loop .i) (c .before .before .before .before .args .lengths .now) (c .before .before .loop-test .taken) ∙ ap (λ (x : Bool). x && all (λ (l : ℕ). leb l room) (drop (c .before .before .before .loop .i + 1) (c .before .before .before .before .args .lengths .now))) (le-leb _ _ (c .if1 .left))) ∙ c .before .before .before .loop .inv .1)
+loop-again c =
+    let in-loop = c .before .before .before in let st = in-loop .before in (
+      omega arith,
+      sym
+          (all-from (in-loop .loop .i) (st .args .lengths .now) (c .before .before .loop-test .taken) ∙ ap
+          (λ (x : Bool). x && all (λ (l : ℕ). leb l room) (drop (in-loop .loop .i + 1) (st .args .lengths .now))) (le-leb _ _ (c .if1 .left)))
+          ∙ in-loop .loop .inv .1,
+    )
 
--- src/turns.rt:212:1
 returns-2 : tie.Need-returns-2 Inv-loop μ-loop
 returns-2 c = sym (sym (c .before .loop .inv .1) ∙ ap (all (λ (l : ℕ). leb l room)) (drop-of-length-le (c .before .before .args .lengths .now) (c .loop-test .left)))
 

@@ -20,25 +20,41 @@ same-length : tie.Need-same-length
 same-length c = search needs
 
 returns : tie.Need-returns
-returns c = writes-same (omega arith) (line-basic (c .before .before .before .before .before .before .before .before .args .axes) (c .before .before .before .before .before .before .before .before .args .c) (c .before .before .before .before .before .before .before .before .args .b) (c .before .before .before .before .before .before .before .before .args .t .now) (c .before .before .before .before .before .if1 .taken)) (c .before .before .counted-line .ensures)
+returns c =
+    let at-if1 = c .before .before .before .before .before in let st = at-if1 .before .before .before in
+    writes-same (omega arith) (line-basic (st .args .axes) (st .args .c) (st .args .b) (st .args .t .now) (at-if1 .if1 .taken)) (c .before .before .counted-line .ensures)
 
 division-line-requires : tie.Need-division-line-requires
-division-line-requires c κs = let w = width-division (c .before .before .before .before .before .args .b) (c .before .if2 .taken) in let h = c .before .before .before .before .before .pre .whole in (c .before .before .before .before .before .pre .line-long, c .before .before .before .before .before .pre .axes, omega arith)
+division-line-requires c κs =
+    let st = c .before .before .before .before .before in
+    let w = width-division (st .args .b) (c .before .if2 .taken) in
+    let h = st .pre .whole in
+    (st .pre .line-long, st .pre .axes, omega arith)
 
 same-length-2 : tie.Need-same-length-2
 same-length-2 c = search needs
 
 returns-2 : tie.Need-returns-2
-returns-2 c = writes-same (omega arith) (line-division (c .before .before .before .before .before .before .before .before .args .axes) (c .before .before .before .before .before .before .before .before .args .c) (c .before .before .before .before .before .before .before .before .args .b) (c .before .before .before .before .before .before .before .before .args .t .now) (c .before .before .before .before .if2 .taken)) (c .before .before .division-line .ensures)
+returns-2 c =
+    let at-if2 = c .before .before .before .before in let st = at-if2 .before .before .before .before in
+    writes-same (omega arith) (line-division (st .args .axes) (st .args .c) (st .args .b) (st .args .t .now) (at-if2 .if2 .taken)) (c .before .before .division-line .ensures)
 
 constraint-line-requires : tie.Need-constraint-line-requires
-constraint-line-requires c κs = let k = c .before .before .before .before .before .pre .known in let w = width-constraint (c .before .before .before .before .before .args .b) (c .before .before .if1 .left) (c .before .if2 .left) (λ z. omega arith) in let h = c .before .before .before .before .before .pre .whole in (c .before .before .before .before .before .pre .line-long, c .before .before .before .before .before .pre .axes, c .before .before .before .before .before .pre .few-divisions, omega arith)
+constraint-line-requires c κs =
+    let st = c .before .before .before .before .before in
+    let k = st .pre .known in
+    let w = width-constraint (st .args .b) (c .before .before .if1 .left) (c .before .if2 .left) (λ z. omega arith) in
+    let h = st .pre .whole in
+    (st .pre .line-long, st .pre .axes, st .pre .few-divisions, omega arith)
 
 same-length-3 : tie.Need-same-length-3
 same-length-3 c = search needs
 
 returns-3 : tie.Need-returns-3
-returns-3 c = writes-same (omega arith) (line-constraint (c .before .before .before .before .before .before .before .before .args .axes) (c .before .before .before .before .before .before .before .before .args .c) (c .before .before .before .before .before .before .before .before .args .b) (c .before .before .before .before .before .before .before .before .args .t .now) (c .before .before .before .before .before .if1 .left) (c .before .before .before .before .if2 .left)) (c .before .before .constraint-line .ensures)
+returns-3 c =
+    let at-if2 = c .before .before .before .before in let at-if1 = at-if2 .before in let st = at-if1 .before .before .before in
+    writes-same (omega arith) (line-constraint (st .args .axes) (st .args .c) (st .args .b) (st .args .t .now) (at-if1 .if1 .left) (at-if2 .if2 .left))
+    (c .before .before .constraint-line .ensures)
 
 pub line-spec : {M : Type 1} → statement M
 line-spec =

@@ -23,7 +23,12 @@ over-requires : tie.Need-over-requires
 over-requires c κs = search needs
 
 returns : tie.Need-returns
-returns c = says-same (sym (over-end (c .before .before .before .before .before .before .args .axes) (memory [] [] []) (c .before .before .before .before .before .before .args .c) _ (c .before .before .before .before .before .before .args .c .place) (c .before .if1 .taken)) ∙ ap (λ (l : List ℕ). lineTurn (c .before .before .before .before .before .before .args .axes) (memory [] [] []) (c .before .before .before .before .before .before .args .c) (drop (c .before .before .before .before .before .before .args .c .place) l)) (c .before .before .table .ensures)) (says-quiet (stateAt (c .before .before .before .before .before .before .args .axes) Nothing) (memory [] [] []) Goes (c .before .before .before .before .before .before .args .out .now) (c .over .ensures))
+returns c =
+    let st = c .before .before .before .before .before .before in
+    says-same
+    (sym (over-end (st .args .axes) (memory [] [] []) (st .args .c) _ (st .args .c .place) (c .before .if1 .taken)) ∙ ap
+    (λ (l : List ℕ). lineTurn (st .args .axes) (memory [] [] []) (st .args .c) (drop (st .args .c .place) l)) (c .before .before .table .ensures))
+    (says-quiet (stateAt (st .args .axes) Nothing) (memory [] [] []) Goes (st .args .out .now) (c .over .ensures))
 
 shared-slice-read-b : tie.Need-shared-slice-read-b
 shared-slice-read-b c = search needs
@@ -35,7 +40,14 @@ over-requires-2 : tie.Need-over-requires-2
 over-requires-2 c κs = search needs
 
 returns-2 : tie.Need-returns-2
-returns-2 c = says-same (sym (over-unknown (c .before .before .before .before .before .before .before .before .before .args .axes) (memory [] [] []) (c .before .before .before .before .before .before .before .before .before .args .c) _ (c .before .before .before .before .before .before .before .before .before .args .c .place) (c .before .before .before .before .if1 .left) (c .before .before .width .result) (c .before .before .width .ensures) (c .before .if2 .taken)) ∙ ap (λ (l : List ℕ). lineTurn (c .before .before .before .before .before .before .before .before .before .args .axes) (memory [] [] []) (c .before .before .before .before .before .before .before .before .before .args .c) (drop (c .before .before .before .before .before .before .before .before .before .args .c .place) l)) (c .before .before .before .before .before .table .ensures)) (says-quiet (stateAt (c .before .before .before .before .before .before .before .before .before .args .axes) Nothing) (memory [] [] []) Goes (c .before .before .before .before .before .before .before .before .before .args .out .now) (c .over2 .ensures))
+returns-2 c =
+    let at-if1 = c .before .before .before .before in let at-table = at-if1 .before in let st = at-table .before .before .before .before in
+    says-same
+    (sym
+    (over-unknown (st .args .axes) (memory [] [] []) (st .args .c) _ (st .args .c .place) (at-if1 .if1 .left) (c .before .before .width .result) (c .before .before .width .ensures)
+    (c .before .if2 .taken))
+    ∙ ap (λ (l : List ℕ). lineTurn (st .args .axes) (memory [] [] []) (st .args .c) (drop (st .args .c .place) l)) (at-table .table .ensures))
+    (says-quiet (stateAt (st .args .axes) Nothing) (memory [] [] []) Goes (st .args .out .now) (c .over2 .ensures))
 
 sub-if3 : tie.Need-sub-if3
 sub-if3 c = search needs
@@ -44,7 +56,14 @@ over-requires-3 : tie.Need-over-requires-3
 over-requires-3 c κs = search needs
 
 returns-3 : tie.Need-returns-3
-returns-3 c = says-same (sym (over-cut (c .before .before .before .before .before .before .before .before .before .before .args .axes) (memory [] [] []) (c .before .before .before .before .before .before .before .before .before .before .args .c) _ (c .before .before .before .before .before .before .before .before .before .before .args .c .place) (c .before .before .before .before .before .if1 .left) (c .before .before .before .width .result) (c .before .before .before .width .ensures) (c .before .before .if2 .left) (c .before .if3 .taken)) ∙ ap (λ (l : List ℕ). lineTurn (c .before .before .before .before .before .before .before .before .before .before .args .axes) (memory [] [] []) (c .before .before .before .before .before .before .before .before .before .before .args .c) (drop (c .before .before .before .before .before .before .before .before .before .before .args .c .place) l)) (c .before .before .before .before .before .before .table .ensures)) (says-quiet (stateAt (c .before .before .before .before .before .before .before .before .before .before .args .axes) Nothing) (memory [] [] []) Goes (c .before .before .before .before .before .before .before .before .before .before .args .out .now) (c .over3 .ensures))
+returns-3 c =
+    let at-width = c .before .before .before in let at-if1 = at-width .before .before in let at-table = at-if1 .before in let st = at-table .before .before .before .before in
+    says-same
+    (sym
+    (over-cut (st .args .axes) (memory [] [] []) (st .args .c) _ (st .args .c .place) (at-if1 .if1 .left) (at-width .width .result) (at-width .width .ensures) (c .before .before .if2 .left)
+    (c .before .if3 .taken))
+    ∙ ap (λ (l : List ℕ). lineTurn (st .args .axes) (memory [] [] []) (st .args .c) (drop (st .args .c .place) l)) (at-table .table .ensures))
+    (says-quiet (stateAt (st .args .axes) Nothing) (memory [] [] []) Goes (st .args .out .now) (c .over3 .ensures))
 
 add-tail : tie.Need-add-tail
 add-tail c = search needs
@@ -54,19 +73,31 @@ tail-requires c κs = search needs
 
 line-requires : tie.Need-line-requires
 line-requires c κs =
-    let e = c .before .before .before .before .width .ensures in let t = ap length (c .before .tail .ensures) in
-    record { axes = c .before .before .before .before .before .before .before .before .before .before .before .pre .2; line-long = c .before .before .before .before .before .before .before .before .before .before .before .pre .3; few-basics = c .before .before .before .before .before .before .before .before .before .before .before .pre .1 .few-basics; few-divisions = c .before .before .before .before .before .before .before .before .before .before .before .pre .1 .few-divisions; known = omega arith; whole = omega (arith, length-drop (c .before .before .before .before .before .before .before .before .before .before .before .args .c .place + 1) (c .before .before .before .before .before .before .before .table .result .now)) }
+    let at-width = c .before .before .before .before in let at-table = at-width .before .before .before in let st = at-table .before .before .before .before in
+    let e = at-width .width .ensures in
+    let t = ap length (c .before .tail .ensures) in
+    record { axes = st .pre .2; line-long = st .pre .3; few-basics = st .pre .1 .few-basics; few-divisions = st .pre .1 .few-divisions; known = omega arith; whole = omega (arith, length-drop (st .args .c .place + 1) (at-table .table .result .now)) }
 
 past-requires : tie.Need-past-requires
-past-requires c κs = let f = c .before .before .before .before .before .before .before .before .before .before .before .before .before .before .pre .0 .fit (c .before .before .before .before .before .before .before .before .before .before .before .before .before .before .args .c .set) in let i = c .before .before .before .before .before .before .before .before .before .before .before .before .before .before .pre .1 .place-in in (omega arith, c .before .before .before .before .before .before .before .before .before .before .before .before .before .before .pre .1 .few-basics, c .before .before .before .before .before .before .before .before .before .before .before .before .before .before .pre .1 .few-divisions)
+past-requires c κs =
+    let st = c .before .before .before .before .before .before .before .before .before .before .before .before .before .before in
+    let f = st .pre .0 .fit (st .args .c .set) in
+    let i = st .pre .1 .place-in in
+    (omega arith, st .pre .1 .few-basics, st .pre .1 .few-divisions)
 
 same-length : tie.Need-same-length
 same-length c = search needs
 
 returns-4 : tie.Need-returns-4
 returns-4 c =
-    says-same (sym (line-there (c .before .before .before .before .before .before .before .before .before .before .before .before .before .before .before .args .axes) (memory [] [] []) (c .before .before .before .before .before .before .before .before .before .before .before .before .before .before .before .args .c) _ (c .before .before .before .before .before .before .before .before .before .before .before .before .before .before .before .args .c .place) (c .before .before .before .before .before .before .before .before .before .before .if1 .left) (c .before .before .before .before .before .before .before .before .width .result) (c .before .before .before .before .before .before .before .before .width .ensures) (c .before .before .before .before .before .before .before .if2 .left) (c .before .before .before .before .before .before .if3 .left)) ∙ ap (λ (l : List ℕ). lineTurn (c .before .before .before .before .before .before .before .before .before .before .before .before .before .before .before .args .axes) (memory [] [] []) (c .before .before .before .before .before .before .before .before .before .before .before .before .before .before .before .args .c) (drop (c .before .before .before .before .before .before .before .before .before .before .before .before .before .before .before .args .c .place) l)) (c .before .before .before .before .before .before .before .before .before .before .before .table .ensures))
-    (record { text = subst (λ (l : List ℕ). Wrote (lineOf (c .before .before .before .before .before .before .before .before .before .before .before .before .before .before .before .args .axes) (c .before .before .before .before .before .before .before .before .before .before .before .before .before .before .before .args .c) (getD (c .before .before .before .before .before .before .before .before .before .before .before .table .result .now) (c .before .before .before .before .before .before .before .before .before .before .before .before .before .before .before .args .c .place) 0) l) (c .before .before .before .before .before .before .before .before .before .before .before .before .before .before .before .args .out .now) 0 (c .before .before .before .line .result) (c .before .before .before .line .last .1 .1 .1 .1 .0)) (c .before .before .before .before .before .tail .ensures) (c .before .before .before .line .ensures .wrote); used = refl; state = ap (λ (x : Cursor). stateAt (c .before .before .before .before .before .before .before .before .before .before .before .before .before .before .before .args .axes) (From x)) (c .past .ensures); next = refl })
+    let at-line = c .before .before .before in let at-tail = at-line .before .before in let at-if3 = at-tail .before in let at-if2 = at-if3 .before in let at-width = at-if2 .before in
+    let at-if1 = at-width .before .before in let at-table = at-if1 .before in let st = at-table .before .before .before .before in
+    says-same
+    (sym
+    (line-there (st .args .axes) (memory [] [] []) (st .args .c) _ (st .args .c .place) (at-if1 .if1 .left) (at-width .width .result) (at-width .width .ensures) (at-if2 .if2 .left)
+    (at-if3 .if3 .left))
+    ∙ ap (λ (l : List ℕ). lineTurn (st .args .axes) (memory [] [] []) (st .args .c) (drop (st .args .c .place) l)) (at-table .table .ensures))
+    (record { text = subst (λ (l : List ℕ). Wrote (lineOf (st .args .axes) (st .args .c) (getD (at-table .table .result .now) (st .args .c .place) 0) l) (st .args .out .now) 0 (at-line .line .result) (at-line .line .last .1 .1 .1 .1 .0)) (at-tail .tail .ensures) (at-line .line .ensures .wrote); used = refl; state = ap (λ (x : Cursor). stateAt (st .args .axes) (From x)) (c .past .ensures); next = refl })
 
 pub listing-turn-spec : {M : Type 1} → statement M
 listing-turn-spec =

@@ -19,16 +19,28 @@ add-t9 : tie.Need-add-t9
 add-t9 c = search needs
 
 returns : tie.Need-returns
-returns c = past-is (c .before .before .before .args .c) (c .before .before .before .args .b) _ _ _ (ap (λ (w : ℕ). c .before .before .before .args .c .place + w) (c .before .before .width .ensures)) (ap (λ (x : Bool). cond x (c .before .before .before .args .c .basics + 1) (c .before .before .before .args .c .basics)) (sym (eq-eqb _ _ (c .if1 .taken)))) (ap (λ (x : Bool). cond x 0 (cond (eqb (c .before .before .before .args .b) 0x12) (c .before .before .before .args .c .divisions + 1) (c .before .before .before .args .c .divisions))) (sym (eq-eqb _ _ (c .if1 .taken))))
+returns c =
+    let st = c .before .before .before in
+    past-is (st .args .c) (st .args .b) _ _ _ (ap (λ (w : ℕ). st .args .c .place + w) (c .before .before .width .ensures))
+    (ap (λ (x : Bool). cond x (st .args .c .basics + 1) (st .args .c .basics)) (sym (eq-eqb _ _ (c .if1 .taken))))
+    (ap (λ (x : Bool). cond x 0 (cond (eqb (st .args .b) 0x12) (st .args .c .divisions + 1) (st .args .c .divisions))) (sym (eq-eqb _ _ (c .if1 .taken))))
 
 add-t10 : tie.Need-add-t10
 add-t10 c = search needs
 
 returns-2 : tie.Need-returns-2
-returns-2 c = past-is (c .before .before .before .before .args .c) (c .before .before .before .before .args .b) _ _ _ (ap (λ (w : ℕ). c .before .before .before .before .args .c .place + w) (c .before .before .before .width .ensures)) (ap (λ (x : Bool). cond x (c .before .before .before .before .args .c .basics + 1) (c .before .before .before .before .args .c .basics)) (sym (ne-eqb _ _ (c .before .if1 .left)))) (ap₂ (λ (x y : Bool). cond x 0 (cond y (c .before .before .before .before .args .c .divisions + 1) (c .before .before .before .before .args .c .divisions))) (sym (ne-eqb _ _ (c .before .if1 .left))) (sym (eq-eqb _ _ (c .if2 .taken))))
+returns-2 c =
+    let at-width = c .before .before .before in let st = at-width .before in
+    past-is (st .args .c) (st .args .b) _ _ _ (ap (λ (w : ℕ). st .args .c .place + w) (at-width .width .ensures))
+    (ap (λ (x : Bool). cond x (st .args .c .basics + 1) (st .args .c .basics)) (sym (ne-eqb _ _ (c .before .if1 .left))))
+    (ap₂ (λ (x y : Bool). cond x 0 (cond y (st .args .c .divisions + 1) (st .args .c .divisions))) (sym (ne-eqb _ _ (c .before .if1 .left))) (sym (eq-eqb _ _ (c .if2 .taken))))
 
 returns-3 : tie.Need-returns-3
-returns-3 c = past-is (c .before .before .before .before .args .c) (c .before .before .before .before .args .b) _ _ _ (ap (λ (w : ℕ). c .before .before .before .before .args .c .place + w) (c .before .before .before .width .ensures)) (ap (λ (x : Bool). cond x (c .before .before .before .before .args .c .basics + 1) (c .before .before .before .before .args .c .basics)) (sym (ne-eqb _ _ (c .before .if1 .left)))) (ap₂ (λ (x y : Bool). cond x 0 (cond y (c .before .before .before .before .args .c .divisions + 1) (c .before .before .before .before .args .c .divisions))) (sym (ne-eqb _ _ (c .before .if1 .left))) (sym (ne-eqb _ _ (c .if2 .left))))
+returns-3 c =
+    let at-width = c .before .before .before in let st = at-width .before in
+    past-is (st .args .c) (st .args .b) _ _ _ (ap (λ (w : ℕ). st .args .c .place + w) (at-width .width .ensures))
+    (ap (λ (x : Bool). cond x (st .args .c .basics + 1) (st .args .c .basics)) (sym (ne-eqb _ _ (c .before .if1 .left))))
+    (ap₂ (λ (x y : Bool). cond x 0 (cond y (st .args .c .divisions + 1) (st .args .c .divisions))) (sym (ne-eqb _ _ (c .before .if1 .left))) (sym (ne-eqb _ _ (c .if2 .left))))
 
 pub past-spec : {M : Type 1} → statement M
 past-spec =
