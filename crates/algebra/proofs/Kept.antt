@@ -10,13 +10,13 @@ use lib.ListN.{length, getD}
 use Rattle.model.specs.Lists.{all}
 use Rattle.model.specs.Sets.{BasicSet, Set, inBasic, inSet, wellFormed}
 use Rattle.model.specs.Existential.{Exists}
-use Rattle.simplex.specs.Tableau.{Verdict, point, dropped, long, wide, test}
+use Rattle.feasibility.specs.Tableau.{Verdict, point, dropped, long, wide, test}
 use Rattle.algebra.specs.Cut.{isKept, keeps, cutAll, difference, intersection, complement}
 use Rattle.model.proofs.Count.{ind, count, and-left, alone}
 use Rattle.model.proofs.Values.{divides, fits}
 use Rattle.model.proofs.Existential.{member-exists, remainders-length, whole-meets}
 use Rattle.algebra.proofs.Cutting.{cutAll-count, difference-in, intersection-in, complement-in}
-use Rattle.simplex.proofs.Start.{dropped-sound}
+use Rattle.feasibility.proofs.Start.{dropped-sound}
 
 -- a point of a basic set is, with its divisions, a rational point over 1, and so the test does not drop it
 pub keeps-sound : (x : List ℤ) → length x ≤ 8 → (b : BasicSet) → T (wellFormed b) → T (inBasic x b) → T (keeps b)

@@ -9,7 +9,7 @@ use lib.Dec.{leb, eqb}
 use lib.ListN.{length, replicate}
 use Rattle.model.specs.Lists.{all, any, concatMap, filter, isNil}
 use Rattle.model.specs.Sets.{Division, Kind, equality, inequality, Constraint, BasicSet, Set, isZero}
-use Rattle.simplex.specs.Tableau.{Verdict, point, dropped, long, wide, test}
+use Rattle.feasibility.specs.Tableau.{Verdict, point, dropped, long, wide, test}
 
 -- ---- opposites: "The opposite of e ≥ 0 is −e − 1 ≥ 0. An equality e = 0 has two opposites, first e − 1 ≥ 0, then −e − 1 ≥ 0."
 

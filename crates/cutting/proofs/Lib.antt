@@ -1,3 +1,4 @@
 pub mod Placing
 pub mod Steps
 pub mod Turns
+pub mod Catching

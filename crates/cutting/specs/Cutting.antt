@@ -16,8 +16,11 @@ use Rattle.model.specs.declared.BasicSet.{BasicSet as Stored}
 use Rattle.codec.specs.Bytes.{coefficient, constantFits}
 use Rattle.codec.proofs.Valid.{All, ValidConstraint, Valid}
 use Rattle.algebra.specs.Cut.{above, below, seek, join, keeps, cut, cutFits, both, bothFits}
+use Rattle.model.specs.Sets.{conditions}
+use Rattle.sharing.specs.declared.history.Standing.{Standing}
+use Rattle.sharing.specs.Working.{Stands}
 use Rattle.cutting.specs.declared.divisions.Joined.{Joined}
-use Rattle.cutting.specs.declared.pieces.Survivors.{Survivors}
+use Rattle.cutting.specs.declared.candidates.Survivors.{Survivors}
 use Rattle.cutting.specs.declared.pieces.CutSteps.{CutSteps}
 use Rattle.cutting.specs.declared.pieces.Pairing.{Pairing}
 
@@ -59,6 +62,11 @@ pub record Tables (rows : List (List ℤ)) (place kinds : List ℕ) : Type 0 whe
   pub long : length place ≡ 80
   pub wide : length kinds ≡ 80
 
+-- and those that only a cut needs: the kept pivots, and a tableau for a candidate
+pub record Spares (past spare : List (List ℤ)) : Type 0 where
+  pub many : length past ≡ 200
+  pub high : length spare ≡ 64
+
 -- a value that is a valid basic set, over some number of axes
 pub record Sound (b : Stored) : Type 0 where
   pub n : ℕ
@@ -93,6 +101,38 @@ isEquality inequality = false
 pub record Keeping (b : BasicSet) (r : Constraint) (k : Survivors) : Type 0 where
   pub above : k .above ≡ isEquality (r .kind) && keeps (candidate b (above r))
   pub below : k .below ≡ keeps (candidate b (below r))
+
+-- a constraint whose opposites fit
+pub record Opposed (r : StoredConstraint) : Type 0 where
+  pub below : Below (constraintOf r)
+  pub above : constraintOf r .kind ≡ equality → Above (constraintOf r)
+
+-- the tables hold the test of b
+pub record Holds (k : ℕ) (b : BasicSet) (h : Standing) (rows : List (List ℤ)) (place kinds : List ℕ) (past : List (List ℤ)) (columns : List ℕ) : Type 0 where
+  pub divs : length (b .divisions) ≡ k
+  pub stands : Stands k (conditions b) h rows place kinds past columns
+
+pub record Survives (k : ℕ) (o : StoredConstraint) (h : Standing) (rows : List (List ℤ)) (place kinds : List ℕ) (past : List (List ℤ)) (columns : List ℕ) (x : Bool) : Type 0 where
+  pub is : (b : BasicSet) → Holds k b h rows place kinds past columns → x ≡ keeps (candidate b (constraintOf o))
+
+pub record KeptOf (k : ℕ) (r : StoredConstraint) (h : Standing) (rows : List (List ℤ)) (place kinds : List ℕ) (past : List (List ℤ)) (columns : List ℕ) (x : Survivors) : Type 0 where
+  pub is : (b : BasicSet) → Holds k b h rows place kinds past columns → Keeping b (constraintOf r) x
+
+-- the tables hold the test of the first constraints of w
+pub record Behind (w : Stored) (h : Standing) (rows : List (List ℤ)) (place kinds : List ℕ) (past : List (List ℤ)) (columns : List ℕ) : Type 0 where
+  pub divs : w .divs ≤ 8
+  pub cons : w .cons ≤ 48
+  pub count : length (basicSetOf w .divisions) ≡ w .divs
+  pub size : length (conditions (basicSetOf w)) ≡ 2 * w .divs + w .cons
+  pub from : 2 * w .divs ≤ h .rows
+  pub upto : h .rows ≤ 2 * w .divs + w .cons
+  pub stands : Stands (w .divs) (take (h .rows) (conditions (basicSetOf w))) h rows place kinds past columns
+
+-- of all
+pub record Caught (w : Stored) (h : Standing) (rows : List (List ℤ)) (place kinds : List ℕ) (past : List (List ℤ)) (columns : List ℕ) : Type 0 where
+  pub count : length (basicSetOf w .divisions) ≡ w .divs
+  pub size : length (conditions (basicSetOf w)) ≡ 2 * w .divs + w .cons
+  pub stands : Stands (w .divs) (conditions (basicSetOf w)) h rows place kinds past columns
 
 -- a constraint that no list has
 abbrev pub noRule : Constraint

@@ -1,8 +1,10 @@
 // One cut: divisions joined, opposites, kept candidates (document 01, "Cutting rules").
+mod candidates;
 mod divisions;
 mod opposites;
 mod pieces;
 
+pub use candidates::Survivors;
 pub use divisions::Joined;
 pub use divisions::join;
 pub use divisions::moved;
@@ -10,7 +12,6 @@ pub use opposites::above;
 pub use opposites::below;
 pub use pieces::CutSteps;
 pub use pieces::Pairing;
-pub use pieces::Survivors;
 pub use pieces::both;
 pub use pieces::cut;
 pub use pieces::keeps;

@@ -4,7 +4,10 @@ ghost use mathlib.Core.Bool.{Bool, true, false, _||_, cond};
 ghost use Prim.Native.Nat.{ℕ, _+_, _≤_, _<_};
 ghost use Rattle.model.specs.Values.{constraintOf, basicSetOf};
 ghost use Rattle.algebra.specs.Cut as C;
-ghost use Rattle.cutting.specs.Cutting.{Begun, Tables, Sound, Extending, Putting, Keeping, Turning, Turned, Pair, CutIs, Piece, PieceIs, BothIs};
+ghost use Rattle.cutting.specs.Cutting.{Begun, Tables, Spares, Sound, Putting, Keeping, Turning, Turned, Pair, CutIs, Piece, PieceIs, BothIs};
+use crate::candidates::Survivors;
+use crate::candidates::catch_up;
+use crate::candidates::kept;
 use crate::divisions::join;
 use crate::divisions::moved;
 use crate::opposites::above;
@@ -13,12 +16,6 @@ use model::BasicSet;
 use model::Constraint;
 use simplex::Verdict;
 use simplex::test_basic;
-
-// Which opposites of a constraint give a kept candidate.
-pub struct Survivors {
-    pub above: bool,
-    pub below: bool,
-}
 
 // The pieces of a cut: `working` has all constraints that joined it, and step v of the first `count` stands for the piece whose last
 // constraint is the opposite of the working constraint v / 2, above it where v is odd and below it where v is even.
@@ -55,36 +52,6 @@ fn put(w: BasicSet, at: usize, r: Constraint) -> BasicSet
     q
 }
 
-fn kept(
-    w: BasicSet,
-    r: Constraint,
-    rows: &mut [[i64; 18]],
-    place: &mut [usize],
-    kinds: &mut [u8],
-) -> Survivors
-    requires { ⌜ Extending w r × Tables (now rows) (now place) (now kinds) ⌝ }
-    ensures { λ k. ⌜ Keeping (basicSetOf w) (constraintOf r) k ⌝ }
-{
-    let at = w.cons;
-    let equality = r.equality;
-    let o = below(r);
-    let b = put(w, at, o);
-    let lower = keeps(b, rows, place, kinds);
-    if equality {
-        let p = above(r);
-        let a = put(w, at, p);
-        let upper = keeps(a, rows, place, kinds);
-        return Survivors {
-            above: upper,
-            below: lower,
-        };
-    }
-    Survivors {
-        above: false,
-        below: lower,
-    }
-}
-
 fn one(b: bool) -> usize
     ensures { λ r. ⌜ r ≡ cond b 1 0 ⌝ }
 {
@@ -111,31 +78,24 @@ fn step(at: usize, up: usize) -> u8
     (at + at + up) as u8
 }
 
-// One constraint of the cutter: its kept candidates, and itself joined unless both were dropped.
-fn turn(
-    s: CutSteps,
-    r: Constraint,
-    rows: &mut [[i64; 18]],
-    place: &mut [usize],
-    kinds: &mut [u8],
-) -> CutSteps
-    requires { ⌜ Turning s r × Tables (now rows) (now place) (now kinds) ⌝ }
+// One constraint of the cutter: the steps of its kept candidates, and itself joined unless both were dropped.
+fn turn(s: CutSteps, r: Constraint, k: Survivors) -> CutSteps
+    requires { ⌜ Turning s r ⌝ }
+    requires { ⌜ Keeping (basicSetOf (s .working)) (constraintOf r) k ⌝ }
     ensures { λ x. ⌜ Turned s r x ⌝ }
 {
-    let w = s.working;
+    let mut w = s.working;
     let at = w.cons;
-    let k = kept(w, r, rows, place, kinds);
     let mut steps = s.steps;
     let n = s.count;
     let m = n + one(k.above);
     steps[n] = step(at, 1);
     steps[m] = step(at, 0);
     let count = m + one(k.below);
-    let mut q = w;
-    q.constraints[at] = r;
-    q.cons = at + one(either(k));
+    w.constraints[at] = r;
+    w.cons = at + one(either(k));
     CutSteps {
-        working: q,
+        working: w,
         steps,
         count,
         fits: true,
@@ -163,8 +123,10 @@ pub fn cut(
     rows: &mut [[i64; 18]],
     place: &mut [usize],
     kinds: &mut [u8],
+    past: &mut [[i64; 18]],
+    spare: &mut [[i64; 18]],
 ) -> CutSteps
-    requires { ⌜ Pair a c × Tables (now rows) (now place) (now kinds) ⌝ }
+    requires { ⌜ Pair a c × Tables (now rows) (now place) (now kinds) × Spares (now past) (now spare) ⌝ }
     ensures { λ r. ⌜ CutIs a c r ⌝ }
 {
     let ds = a.divisions;
@@ -179,6 +141,8 @@ pub fn cut(
     if !fits {
         return s;
     }
+    let mut columns = [0usize; 200];
+    let mut h = sharing::begin(s.working, rows, place, kinds, past, &mut columns);
     let cons = c.cons;
     let mut k = 0;
     while k < cons {
@@ -188,7 +152,19 @@ pub fn cut(
         }
         let e = c.constraints[k];
         let r = moved(e, places, m);
-        s = turn(s, r, rows, place, kinds);
+        h = catch_up(h, s.working, rows, place, kinds, past, &mut columns);
+        let x = kept(
+            h,
+            s.working.divs,
+            r,
+            rows,
+            place,
+            kinds,
+            past,
+            &columns,
+            spare,
+        );
+        s = turn(s, r, x);
         k += 1;
     }
     s

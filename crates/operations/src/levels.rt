@@ -2,7 +2,7 @@
 ghost use Rattle.model.specs.Values.{basicSetOf};
 ghost use Rattle.codec.specs.Places.{setFrom};
 ghost use Rattle.algebra.specs.Cut.{keeps, cutAll, cutAllFits, difference, differenceFits};
-ghost use Rattle.cutting.specs.Cutting.{Tables};
+ghost use Rattle.cutting.specs.Cutting.{Tables, Spares};
 ghost use Rattle.operations.specs.Results.{Ready, Emits, Made, Sets, Level};
 use crate::counts::count;
 use crate::results::Done;
@@ -23,8 +23,10 @@ pub fn cut_all(
     rows: &mut [[i64; 18]],
     place: &mut [usize],
     kinds: &mut [u8],
+    past: &mut [[i64; 18]],
+    spare: &mut [[i64; 18]],
 ) -> Done
-    requires { ⌜ Level left p (now b) pos × Ready s × Tables (now rows) (now place) (now kinds) ⌝ }
+    requires { ⌜ Level left p (now b) pos × Ready s × Tables (now rows) (now place) (now kinds) × Spares (now past) (now spare) ⌝ }
     ensures { λ r. ⌜ Emits (cutAll keeps (setFrom (now (b .entry)) pos) (basicSetOf p)) (cutAllFits keeps (setFrom (now (b .entry)) pos) (basicSetOf p)) (now (out .entry)) s r (now (out .exit)) ⌝ }
 {
     if left == 0 {
@@ -32,7 +34,7 @@ pub fn cut_all(
     }
     let v = decode_basic(b, pos + 1);
     let next = pos + 1 + 23 * v.divs + 37 * v.cons;
-    let c = cut(p, v, rows, place, kinds);
+    let c = cut(p, v, rows, place, kinds, past, spare);
     let fits = c.fits;
     if !fits {
         return Done {
@@ -48,7 +50,19 @@ pub fn cut_all(
     while i < n {
         let v = c.steps[i];
         let q = piece(w, v);
-        t = cut_all(left - 1, q, b, next, out, t, rows, place, kinds);
+        t = cut_all(
+            left - 1,
+            q,
+            b,
+            next,
+            out,
+            t,
+            rows,
+            place,
+            kinds,
+            past,
+            spare,
+        );
         let on = t.fits;
         if !on {
             return t;
@@ -67,6 +81,8 @@ pub fn subtract(a: &[u8], b: &[u8], out: &mut [u8]) -> Done
     let mut rows = [[0i64; 18]; 64];
     let mut place = [0usize; 80];
     let mut kinds = [0u8; 80];
+    let mut past = [[0i64; 18]; 200];
+    let mut spare = [[0i64; 18]; 64];
     let mut t = Done {
         at: 0,
         count: 0,
@@ -75,7 +91,19 @@ pub fn subtract(a: &[u8], b: &[u8], out: &mut [u8]) -> Done
     let mut pos = 0;
     while pos < a.len() {
         let p = decode_basic(a, pos + 1);
-        t = cut_all(left, p, b, 0, out, t, &mut rows, &mut place, &mut kinds);
+        t = cut_all(
+            left,
+            p,
+            b,
+            0,
+            out,
+            t,
+            &mut rows,
+            &mut place,
+            &mut kinds,
+            &mut past,
+            &mut spare,
+        );
         let on = t.fits;
         if !on {
             return t;

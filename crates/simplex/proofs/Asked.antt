@@ -13,7 +13,7 @@ use Rattle.codec.specs.Bytes.{Answer, refused, gives, decode, number}
 use Rattle.codec.specs.Places.{setFrom, Accepted, Opened, Decoded}
 use Rattle.codec.specs.Parts.{Started}
 use Rattle.codec.proofs.Boundaries.{decode-is, boundary-end, boundary-opened, turn}
-use Rattle.simplex.specs.Tableau as T
+use Rattle.feasibility.specs.Tableau as T
 use Rattle.simplex.specs.declared.Ended.{Ended}
 use Rattle.simplex.specs.declared.Tested.the-variants.{Refused, NoSuchSet, Answers}
 use Rattle.simplex.specs.Answers.{Tests, foremost, numbered, tested, testIn, testBytes, testedOf}

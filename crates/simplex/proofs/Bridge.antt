@@ -18,18 +18,18 @@ use Rattle.integers.specs.Part.{lt-or-le}
 use Rattle.model.specs.Sets.{Kind, equality, inequality, isZero}
 use Rattle.model.specs.Lists.{all}
 use Rattle.model.proofs.Count.{from-T, to-T}
-use Rattle.simplex.specs.Tableau as T
-use Rattle.simplex.specs.Tableau.{Row, Tableau, bound, constantOf, violates, helps, lowest, violatedRows, helpfulCols, exchange, look, row, column, run, pivots, noneViolated, noneHelps, pivot, solved, replaced, noRow}
+use Rattle.feasibility.specs.Tableau as T
+use Rattle.feasibility.specs.Tableau.{Row, Tableau, bound, constantOf, violates, helps, lowest, violatedRows, helpfulCols, exchange, look, row, column, run, pivots, noneViolated, noneHelps, pivot, solved, replaced, noRow}
 use Rattle.simplex.specs.declared.Verdict.{Verdict}
 use Rattle.simplex.specs.declared.Verdict.the-variants.{Point, Dropped, Long, Wide}
 use Rattle.simplex.specs.declared.Move.the-variants.{Stop, Pivot}
 use Rattle.simplex.specs.Answers.{verdictOf}
 use Rattle.tableau.specs.Rows.{den, solveRow, rebuildRow, exchangeRows, exchangeBy, narrowRows, first, violatedBy, violatedAt, violated, helpsBy, helpsAt, helping}
 use Rattle.simplex.specs.Table.{columnOf, standing, numberAt, layout, kindNumber, moveOf, pivotRows, pivotPlace, Ending, runTable}
-use Rattle.simplex.proofs.Exchange as X
-use Rattle.simplex.proofs.Exchange.{Shape, Shaped, shape-at, exchange-shaped}
-use Rattle.simplex.proofs.Points.{replaced-at, calm-at}
-use Rattle.simplex.proofs.Verdicts.{rowVar, colVar, Violated, lowest-some, lowest-none, lowest-least, found-row, listed-row, found-col, listed-col, helps-nonzero, zero-calm, tail-entry}
+use Rattle.feasibility.proofs.Exchange as X
+use Rattle.feasibility.proofs.Exchange.{Shape, Shaped, shape-at, exchange-shaped}
+use Rattle.feasibility.proofs.Points.{replaced-at, calm-at}
+use Rattle.feasibility.proofs.Verdicts.{rowVar, colVar, Violated, lowest-some, lowest-none, lowest-least, found-row, listed-row, found-col, listed-col, helps-nonzero, zero-calm, tail-entry}
 use Rattle.simplex.proofs.Shown.{standing-column, lay-at, lay-entry, solve-shows, rebuild-shows, narrow-shows}
 use Rattle.simplex.proofs.Moves.{choose-point, choose-dropped, choose-long, choose-last, run-stop, run-more, pivot-length}
 

@@ -12,9 +12,9 @@ use Rattle.integers.specs.Lin.{lt, eq, lin, lia-eq, lia-no}
 use Rattle.integers.specs.Order.{mul-zero}
 use Rattle.integers.specs.Size.{natAbs-mul, natAbs-zero}
 use Rattle.integers.specs.Gcd.{gcd, gcd-is, gcd-unique, gcdAll, Divides, gcdAll-divides, gcdAll-most}
-use Rattle.simplex.specs.Tableau.{Row, commonDivisor}
+use Rattle.feasibility.specs.Tableau.{Row, commonDivisor}
 use Rattle.tableau.specs.Rows.{divisorFrom}
-use Rattle.simplex.proofs.Reduce.{euclid-is}
+use Rattle.feasibility.proofs.Reduce.{euclid-is}
 
 -- c times each number
 abbrev pub scale : ℤ → List ℤ → List ℤ

@@ -19,17 +19,17 @@ use Rattle.model.specs.Sets.{bounds, Kind, inequality, conditions}
 use Rattle.model.specs.Values.{divisionOf, constraintOf, basicSetOf}
 use Rattle.model.specs.declared.Constraint.{Constraint}
 use Rattle.model.specs.declared.BasicSet.{BasicSet}
-use Rattle.simplex.specs.Tableau as T
-use Rattle.simplex.specs.Tableau.{Tableau, firstRows, start, begin, sorts, noRow, testAt, pivotsAt}
+use Rattle.feasibility.specs.Tableau as T
+use Rattle.feasibility.specs.Tableau.{Tableau, firstRows, start, begin, sorts, noRow, testAt, pivotsAt}
 use Rattle.simplex.specs.declared.Ended.{Ended}
 use Rattle.simplex.specs.Answers.{verdictOf, Tests}
 use Rattle.tableau.specs.Rows.{den, Line}
 use Rattle.simplex.specs.Table.{columnOf, standing, numberAt, layout, startRow, placeAt, kindNumber, Fine, Valid, Bounded, Ruled, Ran}
 use Rattle.simplex.specs.Table as Table
-use Rattle.simplex.proofs.Exchange.{Shape, Shaped, shape-at}
-use Rattle.simplex.proofs.Start.{length-from, start-shaped}
-use Rattle.simplex.proofs.Points.{from-at, rows-from}
-use Rattle.simplex.proofs.Verdicts.{rowVar, colVar}
+use Rattle.feasibility.proofs.Exchange.{Shape, Shaped, shape-at}
+use Rattle.feasibility.proofs.Start.{length-from, start-shaped}
+use Rattle.feasibility.proofs.Points.{from-at, rows-from}
+use Rattle.feasibility.proofs.Verdicts.{rowVar, colVar}
 use Rattle.simplex.proofs.Shown.{lay-at, lay-length, column-in, column-low, column-mid, standing-high}
 use Rattle.simplex.proofs.Fills.{past-end, map-append, map-get}
 use Rattle.simplex.proofs.Bridge.{Named, in-row, in-col, Shows, map-at, run-shows}

@@ -26,8 +26,8 @@ use Rattle.model.specs.Values.{divisionOf, constraintOf}
 use Rattle.model.specs.declared.Division.{Division}
 use Rattle.model.specs.declared.Constraint.{Constraint}
 use Rattle.model.specs.declared.BasicSet.{BasicSet}
-use Rattle.simplex.specs.Tableau as T
-use Rattle.simplex.specs.Tableau.{pad}
+use Rattle.feasibility.specs.Tableau as T
+use Rattle.feasibility.specs.Tableau.{pad}
 use Rattle.simplex.specs.Table.{numberAt, startRow, placeAt, kindNumber, Copied, Started, Named, Bounded, Ruled}
 use Rattle.tableau.proofs.Lines.{zeros, zeros-at, map-zero, within-minus}
 use Rattle.simplex.proofs.Shown.{standing-low, standing-mid, standing-high, lay-is}

@@ -1,14 +1,7 @@
-pub mod Rows
-pub mod Reduce
-pub mod Exchange
-pub mod Start
-pub mod Points
-pub mod Verdicts
 pub mod Moves
 pub mod Canonical
 pub mod Shown
 pub mod Bridge
 pub mod Fills
 pub mod Filled
-pub mod Far
 pub mod Asked

@@ -21,13 +21,13 @@ use Rattle.integers.specs.Gcd.{gcdAll, Divides, gcdAll-divides, gcdAll-most}
 use Rattle.model.specs.Sets.{isZero, floorDiv}
 use Rattle.model.specs.Lists.{all}
 use Rattle.model.proofs.Count.{from-T, to-T, and-left, and-right}
-use Rattle.simplex.specs.Tableau as T
-use Rattle.simplex.specs.Tableau.{Row, bound, reduced, positive, solved, replaced, commonDivisor, combine}
+use Rattle.feasibility.specs.Tableau as T
+use Rattle.feasibility.specs.Tableau.{Row, bound, reduced, positive, solved, replaced, commonDivisor, combine}
 use Rattle.tableau.specs.Rows.{den, entry, divisorFrom, reduceRow, divideRow, turnRow, turnBy, solveRow, replaceRow, rebuildRow, combineRows, minusRow, small, narrowRow}
 use Rattle.simplex.specs.Table.{tabulate, columnOf, standing, numberAt, layout}
-use Rattle.simplex.proofs.Rows.{getD-combine, length-combine, length-neg}
-use Rattle.simplex.proofs.Reduce.{evenly, exactly, common-divides, reduced-like}
-use Rattle.simplex.proofs.Exchange.{Shape}
+use Rattle.feasibility.proofs.Rows.{getD-combine, length-combine, length-neg}
+use Rattle.feasibility.proofs.Reduce.{evenly, exactly, common-divides, reduced-like}
+use Rattle.feasibility.proofs.Exchange.{Shape}
 use Rattle.simplex.proofs.Canonical.{scale, common-is, divisor-is, divides-at, divides-of, lowest-terms, canonical, abs-over}
 use Rattle.tableau.proofs.Lines.{map-zero, combine-at, combine-length, row-divisor}
 use Rattle.tableau.proofs.Lines as Lines

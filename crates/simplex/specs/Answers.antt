@@ -6,7 +6,7 @@ use Prim.Native.Nat.{ℕ, zero, suc}
 use lib.ListN.{drop}
 use Rattle.model.specs.Sets.{BasicSet, Set}
 use Rattle.codec.specs.Bytes.{Answer, refused, gives, decode}
-use Rattle.simplex.specs.Tableau as T
+use Rattle.feasibility.specs.Tableau as T
 use Rattle.simplex.specs.declared.Ended.{Ended}
 use Rattle.simplex.specs.declared.Tested.{Tested}
 use Rattle.simplex.specs.declared.Tested.the-variants.{Refused, NoSuchSet, Answers}

@@ -1,3 +1,2 @@
-pub mod Tableau
 pub mod Table
 pub mod Answers

@@ -15,7 +15,7 @@ use Rattle.model.specs.Sets.{Kind, equality, inequality, bounds}
 use Rattle.model.specs.Values.{divisionOf, constraintOf}
 use Rattle.model.specs.declared.Division.{Division}
 use Rattle.model.specs.declared.BasicSet.{BasicSet}
-use Rattle.simplex.specs.Tableau as T
+use Rattle.feasibility.specs.Tableau as T
 use Rattle.simplex.specs.declared.Verdict.{Verdict}
 use Rattle.simplex.specs.declared.Verdict.the-variants.{Point, Dropped, Long, Wide}
 use Rattle.simplex.specs.declared.Ended.{Ended}

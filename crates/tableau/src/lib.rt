@@ -4,6 +4,9 @@ mod row;
 mod search;
 
 pub use pivot::exchange;
+pub use row::replace;
 pub use search::helping;
+pub use search::is_violated;
 pub use search::narrow;
+pub use search::small;
 pub use search::violated;

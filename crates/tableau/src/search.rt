@@ -8,7 +8,7 @@ ghost use lib.IntN.{natAbs};
 ghost use Rattle.integers.specs.Size.{bound};
 ghost use Rattle.tableau.specs.Rows.{violatedBy, violatedAt, violated as violatedOf, helpsBy, helpsAt, helping as helpingOf, small as smallOf, narrowRows, narrowRow, Line};
 
-fn is_violated(kind: u8, x: i64) -> bool
+pub fn is_violated(kind: u8, x: i64) -> bool
     ensures { λ b. ⌜ b ≡ violatedBy kind x ⌝ }
 {
     if kind == 1 {
@@ -45,7 +45,7 @@ fn is_small(x: i64) -> bool
     x <= 2147483647
 }
 
-fn small(r: &[i64; 18], n: usize) -> bool
+pub fn small(r: &[i64; 18], n: usize) -> bool
     requires { ⌜ Line n (now r) ⌝ }
     ensures { λ b. ⌜ b ≡ smallOf (now (r .entry)) ⌝ }
 {

@@ -20,35 +20,35 @@ use Rattle.operations.proofs.results.emit.Reads as emit-reads
 use Rattle.operations.proofs.levels.+cut_all.{statement}
 use Rattle.operations.proofs.levels.+cut_all.Tie.{close}
 
-abbrev μ-cut-all : Measures 5 cut-all-kinds.ps ℕ
+abbrev μ-cut-all : Measures 7 cut-all-kinds.ps ℕ
 μ-cut-all κs a = a .0
 
-abbrev at : ℕ → In 5 cut-all-kinds.ps
-at t = and 5 cut-all-kinds.ps (is 5 cut-all-kinds.ps μ-cut-all t) cut-all.Pre
+abbrev at : ℕ → In 7 cut-all-kinds.ps
+at t = and 7 cut-all-kinds.ps (is 7 cut-all-kinds.ps μ-cut-all t) cut-all.Pre
 
-abbrev below : ℕ → In 5 cut-all-kinds.ps
-below t = and 5 cut-all-kinds.ps (falls 5 cut-all-kinds.ps _<_ μ-cut-all t) cut-all.Pre
+abbrev below : ℕ → In 7 cut-all-kinds.ps
+below t = and 7 cut-all-kinds.ps (falls 7 cut-all-kinds.ps _<_ μ-cut-all t) cut-all.Pre
 
 abbrev callees : ℕ → lts.Claims
 callees t = (emit-reads.Asked, emit-reads.Learnt, decode-basic-reads.Asked, decode-basic-reads.Learnt, cut-reads.Asked, cut-reads.Learnt, piece-reads.Asked, piece-reads.Learnt, below t, cut-all.Post)
 
 abbrev Inv-loop : lts.InvT-loop
-Inv-loop left b pos out₀ rows₀ place₀ kinds₀ next c fits w n t₀ i₀ out rows place kinds t i =
-    (length out ≡ length out₀) × (length rows ≡ length rows₀) × (length place ≡ length place₀) × (length kinds ≡ length kinds₀)
+Inv-loop left b pos out₀ rows₀ place₀ kinds₀ past₀ spare₀ next c fits w n t₀ i₀ out rows place kinds past spare t i =
+    (length out ≡ length out₀) × (length rows ≡ length rows₀) × (length place ≡ length place₀) × (length kinds ≡ length kinds₀) × (length past ≡ length past₀) × (length spare ≡ length spare₀)
     × Onward (cutAll keeps (setFrom b next)) (cutAllFits keeps (setFrom b next)) (piecesOf c) (drop i (piecesOf c)) out₀ t₀ out t
 
 abbrev μ-loop : lts.MeasureT-loop
-μ-loop left b pos out₀ rows₀ place₀ kinds₀ next c fits w n t₀ i₀ out rows place kinds t i = n - i
+μ-loop left b pos out₀ rows₀ place₀ kinds₀ past₀ spare₀ next c fits w n t₀ i₀ out rows place kinds past spare t i = n - i
 
 -- the cut, where it fits
 pieced : (t : ℕ) (c : lts.After-w (callees t) (at t) cut-all.Post Inv-loop μ-loop)
-    → Pieced (c .before .before .before .before .before .before .before .before .before .before .before .before .before .before .before .before .before .before .before .args .left) (c .before .before .before .before .before .before .before .before .before .before .before .before .before .before .before .before .before .before .before .args .p) (c .before .before .before .before .before .before .before .before .before .before .before .before .before .before .before .before .before .before .before .args .b .now) (c .before .before .before .before .before .before .before .before .before .before .before .before .before .before .before .before .before .before .before .args .pos) (c .before .before .before .before .before .before .before .before .before .before .before .before .before .decode-basic .result) (c .before .before .before .before .before .before .before .cut .result)
+    → Pieced (c .before .before .before .before .before .before .before .before .before .before .before .before .before .before .before .before .before .before .before .before .before .before .before .args .left) (c .before .before .before .before .before .before .before .before .before .before .before .before .before .before .before .before .before .before .before .before .before .before .before .args .p) (c .before .before .before .before .before .before .before .before .before .before .before .before .before .before .before .before .before .before .before .before .before .before .before .args .b .now) (c .before .before .before .before .before .before .before .before .before .before .before .before .before .before .before .before .before .before .before .before .before .before .before .args .pos) (c .before .before .before .before .before .before .before .before .before .before .before .before .before .before .before .before .before .decode-basic .result) (c .before .before .before .before .before .before .before .before .before .cut .result)
 pieced t c =
-    let k = c .before .before .before .before .before .before .before .cut in
+    let k = c .before .before .before .before .before .before .before .before .before .cut in
     record {
-      level = c .before .before .before .before .before .before .before .before .before .before .before .before .before .before .before .before .before .before .before .pre .1 .0;
-      some = c .before .before .before .before .before .before .before .before .before .before .before .before .before .before .if1 .left;
-      decoded = c .before .before .before .before .before .before .before .before .before .before .before .before .before .decode-basic .ensures;
+      level = c .before .before .before .before .before .before .before .before .before .before .before .before .before .before .before .before .before .before .before .before .before .before .before .pre .1 .0;
+      some = c .before .before .before .before .before .before .before .before .before .before .before .before .before .before .before .before .before .before .if1 .left;
+      decoded = c .before .before .before .before .before .before .before .before .before .before .before .before .before .before .before .before .before .decode-basic .ensures;
       cut = k .ensures;
       fits = not-false (k .result .fits) (c .before .if2 .left);
       long = simp length-map at (k .ok .1 .1 .1 .0 .1 .0 .1);
@@ -85,22 +85,28 @@ add-next-3 : (t : ℕ) → lts.Need-add-next-3 (callees t) (at t) cut-all.Post I
 add-next-3 t c = let h = level-turn (c .before .before .before .before .before .before .before .before .pre .1 .0) (c .before .before .before .if1 .left) (c .before .before .decode-basic .ensures) .there .here .inside in omega arith
 
 cut-requires : (t : ℕ) → lts.Need-cut-requires (callees t) (at t) cut-all.Post Inv-loop μ-loop
-cut-requires t c κs = (level-pair (c .before .before .before .before .before .before .before .before .before .before .before .pre .1 .0) (c .before .before .before .before .before .before .if1 .left) (c .before .before .before .before .before .decode-basic .ensures), c .before .before .before .before .before .before .before .before .before .before .before .pre .1 .2)
+cut-requires t c κs = (level-pair (c .before .before .before .before .before .before .before .before .before .before .before .before .before .pre .1 .0) (c .before .before .before .before .before .before .before .before .if1 .left) (c .before .before .before .before .before .before .before .decode-basic .ensures), c .before .before .before .before .before .before .before .before .before .before .before .before .before .pre .1 .2, c .before .before .before .before .before .before .before .before .before .before .before .before .before .pre .1 .3)
 
 same-length-2 : (t : ℕ) → lts.Need-same-length-2 (callees t) (at t) cut-all.Post Inv-loop μ-loop
-same-length-2 t c = c .before .before .before .before .before .before .cut .kept .1 .1 .0
+same-length-2 t c = c .before .before .before .before .before .before .before .before .cut .kept .1 .1 .0
 
 same-length-3 : (t : ℕ) → lts.Need-same-length-3 (callees t) (at t) cut-all.Post Inv-loop μ-loop
-same-length-3 t c = c .before .before .before .before .before .before .cut .kept .1 .1 .1 .0
+same-length-3 t c = c .before .before .before .before .before .before .before .before .cut .kept .1 .1 .1 .0
 
 same-length-4 : (t : ℕ) → lts.Need-same-length-4 (callees t) (at t) cut-all.Post Inv-loop μ-loop
-same-length-4 t c = c .before .before .before .before .before .before .cut .kept .1 .1 .1 .1 .0
+same-length-4 t c = c .before .before .before .before .before .before .before .before .cut .kept .1 .1 .1 .1 .0
+
+same-length-5 : (t : ℕ) → lts.Need-same-length-5 (callees t) (at t) cut-all.Post Inv-loop μ-loop
+same-length-5 t c = c .before .before .before .before .before .before .before .before .cut .kept .1 .1 .1 .1 .1 .0
+
+same-length-6 : (t : ℕ) → lts.Need-same-length-6 (callees t) (at t) cut-all.Post Inv-loop μ-loop
+same-length-6 t c = c .before .before .before .before .before .before .before .before .cut .kept .1 .1 .1 .1 .1 .1 .0
 
 returns-2 : (t : ℕ) → lts.Need-returns-2 (callees t) (at t) cut-all.Post Inv-loop μ-loop
-returns-2 t c = level-over (c .before .before .before .before .before .before .before .before .before .before .before .before .before .before .before .before .before .before .pre .1 .0) (c .before .before .before .before .before .before .before .before .before .before .before .before .before .if1 .left) (c .before .before .before .before .before .before .before .before .before .before .before .before .decode-basic .ensures) (c .before .before .before .before .before .before .cut .ensures) (not-true (c .before .before .before .before .before .before .cut .result .fits) (c .if2 .taken)) (c .before .before .before .before .before .before .before .before .before .before .before .before .before .before .before .before .before .before .args .out .now) (c .before .before .before .before .before .before .before .before .before .before .before .before .before .before .before .before .before .before .args .out .now) (c .before .before .before .before .before .before .before .before .before .before .before .before .before .before .before .before .before .before .args .s) _ _
+returns-2 t c = level-over (c .before .before .before .before .before .before .before .before .before .before .before .before .before .before .before .before .before .before .before .before .before .before .pre .1 .0) (c .before .before .before .before .before .before .before .before .before .before .before .before .before .before .before .before .before .if1 .left) (c .before .before .before .before .before .before .before .before .before .before .before .before .before .before .before .before .decode-basic .ensures) (c .before .before .before .before .before .before .before .before .cut .ensures) (not-true (c .before .before .before .before .before .before .before .before .cut .result .fits) (c .if2 .taken)) (c .before .before .before .before .before .before .before .before .before .before .before .before .before .before .before .before .before .before .before .before .before .before .args .out .now) (c .before .before .before .before .before .before .before .before .before .before .before .before .before .before .before .before .before .before .before .before .before .before .args .out .now) (c .before .before .before .before .before .before .before .before .before .before .before .before .before .before .before .before .before .before .before .before .before .before .args .s) _ _
 
 loop-holds : (t : ℕ) → lts.Need-loop-holds (callees t) (at t) cut-all.Post Inv-loop μ-loop
-loop-holds t c = (refl, refl, refl, refl, onward-start (c .before .before .before .before .before .before .before .before .before .before .before .before .before .before .before .before .before .before .before .pre .1 .1))
+loop-holds t c = (refl, refl, refl, refl, refl, refl, onward-start (c .before .before .before .before .before .before .before .before .before .before .before .before .before .before .before .before .before .before .before .before .before .before .before .pre .1 .1))
 
 element-copy-out-v : (t : ℕ) → lts.Need-element-copy-out-v (callees t) (at t) cut-all.Post Inv-loop μ-loop
 element-copy-out-v t c = let x = pieced t (c .before .before) in let h = x .cut .count (x .fits) in omega (arith, c .loop-test .taken)
@@ -109,63 +115,77 @@ piece-requires : (t : ℕ) → lts.Need-piece-requires (callees t) (at t) cut-al
 piece-requires t c κs = pieced-step (pieced t (c .before .before .before)) (c .before .loop-test .taken)
 
 sub-cut-all : (t : ℕ) → lts.Need-sub-cut-all (callees t) (at t) cut-all.Post Inv-loop μ-loop
-sub-cut-all t c = let some = c .before .before .before .before .before .before .before .before .before .before .before .before .before .before .before .before .before .before .if1 .left in omega arith
+sub-cut-all t c = let some = c .before .before .before .before .before .before .before .before .before .before .before .before .before .before .before .before .before .before .before .before .before .before .if1 .left in omega arith
 
 cut-all-requires : (t : ℕ) → lts.Need-cut-all-requires (callees t) (at t) cut-all.Post Inv-loop μ-loop
 cut-all-requires t c κs =
-    let k = c .before .before .before .before .before .before .before .before .before .before .before .before .before .before .before .cut in let lo = c .before .before .before .before .before .before .before .loop in let m = c .before .before .before .before .before .before .before .before .before .before .before .before .before .before .before .before .before .before .before .before .before .before .before .before .before .before .before .pre .0 in let some = c .before .before .before .before .before .before .before .before .before .before .before .before .before .before .before .before .before .before .before .before .before .before .if1 .left in
-    (omega arith, (pieced-level (pieced t (c .before .before .before .before .before .before .before .before)) (c .before .before .before .before .before .before .loop-test .taken) (c .before .before .before .before .piece .ensures), lo .inv .4 .ready, tables-kept (c .before .before .before .before .before .before .before .before .before .before .before .before .before .before .before .before .before .before .before .before .before .before .before .before .before .before .before .pre .1 .2) (lo .inv .1 ∙ k .kept .1 .1 .0) (lo .inv .2 ∙ k .kept .1 .1 .1 .0) (lo .inv .3 ∙ k .kept .1 .1 .1 .1 .0)))
-
-same-length-5 : (t : ℕ) → lts.Need-same-length-5 (callees t) (at t) cut-all.Post Inv-loop μ-loop
-same-length-5 t c = c .before .before .before .before .before .before .before .before .cut-all .kept .1 .1 .1 .1 .0 ∙ c .before .before .before .before .before .before .before .before .before .before .before .before .before .before .before .before .loop .inv .0
-
-same-length-6 : (t : ℕ) → lts.Need-same-length-6 (callees t) (at t) cut-all.Post Inv-loop μ-loop
-same-length-6 t c = c .before .before .before .before .before .before .before .before .cut-all .kept .1 .1 .1 .1 .1 .1 .0 ∙ c .before .before .before .before .before .before .before .before .before .before .before .before .before .before .before .before .loop .inv .1 ∙ c .before .before .before .before .before .before .before .before .before .before .before .before .before .before .before .before .before .before .before .before .before .before .before .before .cut .kept .1 .1 .0
+    let k = c .before .before .before .before .before .before .before .before .before .before .before .before .before .before .before .before .before .before .before .cut in let lo = c .before .before .before .before .before .before .before .before .before .loop in let m = c .before .before .before .before .before .before .before .before .before .before .before .before .before .before .before .before .before .before .before .before .before .before .before .before .before .before .before .before .before .before .before .before .before .pre .0 in let some = c .before .before .before .before .before .before .before .before .before .before .before .before .before .before .before .before .before .before .before .before .before .before .before .before .before .before .before .before .if1 .left in
+    (omega arith, (pieced-level (pieced t (c .before .before .before .before .before .before .before .before .before .before)) (c .before .before .before .before .before .before .before .before .loop-test .taken) (c .before .before .before .before .before .before .piece .ensures), lo .inv .6 .ready, tables-kept (c .before .before .before .before .before .before .before .before .before .before .before .before .before .before .before .before .before .before .before .before .before .before .before .before .before .before .before .before .before .before .before .before .before .pre .1 .2) (lo .inv .1 ∙ k .kept .1 .1 .0) (lo .inv .2 ∙ k .kept .1 .1 .1 .0) (lo .inv .3 ∙ k .kept .1 .1 .1 .1 .0), record { many = lo .inv .4 ∙ k .kept .1 .1 .1 .1 .1 .0 ∙ c .before .before .before .before .before .before .before .before .before .before .before .before .before .before .before .before .before .before .before .before .before .before .before .before .before .before .before .before .before .before .before .before .before .pre .1 .3 .many; high = lo .inv .5 ∙ k .kept .1 .1 .1 .1 .1 .1 .0 ∙ c .before .before .before .before .before .before .before .before .before .before .before .before .before .before .before .before .before .before .before .before .before .before .before .before .before .before .before .before .before .before .before .before .before .pre .1 .3 .high }))
 
 same-length-7 : (t : ℕ) → lts.Need-same-length-7 (callees t) (at t) cut-all.Post Inv-loop μ-loop
-same-length-7 t c = c .before .before .before .before .before .before .before .before .cut-all .kept .1 .1 .1 .1 .1 .1 .1 .0 ∙ c .before .before .before .before .before .before .before .before .before .before .before .before .before .before .before .before .loop .inv .2 ∙ c .before .before .before .before .before .before .before .before .before .before .before .before .before .before .before .before .before .before .before .before .before .before .before .before .cut .kept .1 .1 .1 .0
+same-length-7 t c = c .before .before .before .before .before .before .before .before .before .before .cut-all .kept .1 .1 .1 .1 .0 ∙ c .before .before .before .before .before .before .before .before .before .before .before .before .before .before .before .before .before .before .before .before .loop .inv .0
 
 same-length-8 : (t : ℕ) → lts.Need-same-length-8 (callees t) (at t) cut-all.Post Inv-loop μ-loop
-same-length-8 t c = c .before .before .before .before .before .before .before .before .cut-all .kept .1 .1 .1 .1 .1 .1 .1 .1 .0 ∙ c .before .before .before .before .before .before .before .before .before .before .before .before .before .before .before .before .loop .inv .3 ∙ c .before .before .before .before .before .before .before .before .before .before .before .before .before .before .before .before .before .before .before .before .before .before .before .before .cut .kept .1 .1 .1 .1 .0
+same-length-8 t c = c .before .before .before .before .before .before .before .before .before .before .cut-all .kept .1 .1 .1 .1 .1 .1 .0 ∙ c .before .before .before .before .before .before .before .before .before .before .before .before .before .before .before .before .before .before .before .before .loop .inv .1 ∙ c .before .before .before .before .before .before .before .before .before .before .before .before .before .before .before .before .before .before .before .before .before .before .before .before .before .before .before .before .before .before .cut .kept .1 .1 .0
+
+same-length-9 : (t : ℕ) → lts.Need-same-length-9 (callees t) (at t) cut-all.Post Inv-loop μ-loop
+same-length-9 t c = c .before .before .before .before .before .before .before .before .before .before .cut-all .kept .1 .1 .1 .1 .1 .1 .1 .0 ∙ c .before .before .before .before .before .before .before .before .before .before .before .before .before .before .before .before .before .before .before .before .loop .inv .2 ∙ c .before .before .before .before .before .before .before .before .before .before .before .before .before .before .before .before .before .before .before .before .before .before .before .before .before .before .before .before .before .before .cut .kept .1 .1 .1 .0
+
+same-length-10 : (t : ℕ) → lts.Need-same-length-10 (callees t) (at t) cut-all.Post Inv-loop μ-loop
+same-length-10 t c = c .before .before .before .before .before .before .before .before .before .before .cut-all .kept .1 .1 .1 .1 .1 .1 .1 .1 .0 ∙ c .before .before .before .before .before .before .before .before .before .before .before .before .before .before .before .before .before .before .before .before .loop .inv .3 ∙ c .before .before .before .before .before .before .before .before .before .before .before .before .before .before .before .before .before .before .before .before .before .before .before .before .before .before .before .before .before .before .cut .kept .1 .1 .1 .1 .0
+
+same-length-11 : (t : ℕ) → lts.Need-same-length-11 (callees t) (at t) cut-all.Post Inv-loop μ-loop
+same-length-11 t c = c .before .before .before .before .before .before .before .before .before .before .cut-all .kept .1 .1 .1 .1 .1 .1 .1 .1 .1 .0 ∙ c .before .before .before .before .before .before .before .before .before .before .before .before .before .before .before .before .before .before .before .before .loop .inv .4 ∙ c .before .before .before .before .before .before .before .before .before .before .before .before .before .before .before .before .before .before .before .before .before .before .before .before .before .before .before .before .before .before .cut .kept .1 .1 .1 .1 .1 .0
+
+same-length-12 : (t : ℕ) → lts.Need-same-length-12 (callees t) (at t) cut-all.Post Inv-loop μ-loop
+same-length-12 t c = c .before .before .before .before .before .before .before .before .before .before .cut-all .kept .1 .1 .1 .1 .1 .1 .1 .1 .1 .1 .0 ∙ c .before .before .before .before .before .before .before .before .before .before .before .before .before .before .before .before .before .before .before .before .loop .inv .5 ∙ c .before .before .before .before .before .before .before .before .before .before .before .before .before .before .before .before .before .before .before .before .before .before .before .before .before .before .before .before .before .before .cut .kept .1 .1 .1 .1 .1 .1 .0
 
 returns-3 : (t : ℕ) → lts.Need-returns-3 (callees t) (at t) cut-all.Post Inv-loop μ-loop
 returns-3 t c =
-    let x = pieced t (c .before .before .before .before .before .before .before .before .before .before .before .before .before .before .before .before .before) in
-    pieced-whole x (onward-stop (pieced-next x (c .before .before .before .before .before .before .before .before .before .before .before .before .before .before .before .loop-test .taken) (c .before .before .before .before .before .before .before .before .before .before .before .before .before .piece .ensures)) (c .before .before .before .before .before .before .before .before .before .before .before .before .before .before .before .before .loop .inv .4) (c .before .before .before .before .before .before .before .before .cut-all .ensures) (not-true (c .before .before .before .before .before .before .before .before .cut-all .result .fits) (c .if3 .taken)))
+    let x = pieced t (c .before .before .before .before .before .before .before .before .before .before .before .before .before .before .before .before .before .before .before .before .before) in
+    pieced-whole x (onward-stop (pieced-next x (c .before .before .before .before .before .before .before .before .before .before .before .before .before .before .before .before .before .before .before .loop-test .taken) (c .before .before .before .before .before .before .before .before .before .before .before .before .before .before .before .before .before .piece .ensures)) (c .before .before .before .before .before .before .before .before .before .before .before .before .before .before .before .before .before .before .before .before .loop .inv .6) (c .before .before .before .before .before .before .before .before .before .before .cut-all .ensures) (not-true (c .before .before .before .before .before .before .before .before .before .before .cut-all .result .fits) (c .if3 .taken)))
 
 add-i : (t : ℕ) → lts.Need-add-i (callees t) (at t) cut-all.Post Inv-loop μ-loop
-add-i t c = let x = pieced t (c .before .before .before .before .before .before .before .before .before .before .before .before .before .before .before .before .before) in let h = x .cut .count (x .fits) in omega (arith, c .before .before .before .before .before .before .before .before .before .before .before .before .before .before .before .loop-test .taken)
+add-i t c = let x = pieced t (c .before .before .before .before .before .before .before .before .before .before .before .before .before .before .before .before .before .before .before .before .before) in let h = x .cut .count (x .fits) in omega (arith, c .before .before .before .before .before .before .before .before .before .before .before .before .before .before .before .before .before .before .before .loop-test .taken)
 
 loop-less : (t : ℕ) → lts.Need-loop-less (callees t) (at t) cut-all.Post Inv-loop μ-loop
-loop-less t c = omega (arith, c .before .before .before .before .before .before .before .before .before .before .before .before .before .before .before .loop-test .taken)
+loop-less t c = omega (arith, c .before .before .before .before .before .before .before .before .before .before .before .before .before .before .before .before .before .before .before .loop-test .taken)
 
 loop-again : (t : ℕ) → lts.Need-loop-again (callees t) (at t) cut-all.Post Inv-loop μ-loop
 loop-again t c =
-    let x = pieced t (c .before .before .before .before .before .before .before .before .before .before .before .before .before .before .before .before .before) in let v = c .before .before .before .before .before .before .before .before .before .before .before .before .before .before .before .before .loop .inv in let r = c .before .before .before .before .before .before .before .before .cut-all in (
+    let x = pieced t (c .before .before .before .before .before .before .before .before .before .before .before .before .before .before .before .before .before .before .before .before .before) in let v = c .before .before .before .before .before .before .before .before .before .before .before .before .before .before .before .before .before .before .before .before .loop .inv in let r = c .before .before .before .before .before .before .before .before .before .before .cut-all in (
       r .kept .1 .1 .1 .1 .0 ∙ v .0,
       r .kept .1 .1 .1 .1 .1 .1 .0 ∙ v .1,
       r .kept .1 .1 .1 .1 .1 .1 .1 .0 ∙ v .2,
       r .kept .1 .1 .1 .1 .1 .1 .1 .1 .0 ∙ v .3,
-      onward-next (pieced-next x (c .before .before .before .before .before .before .before .before .before .before .before .before .before .before .before .loop-test .taken) (c .before .before .before .before .before .before .before .before .before .before .before .before .before .piece .ensures)) (c .before .before .before .before .before .before .before .before .before .before .before .before .before .before .before .before .loop .inv .4) (c .before .before .before .before .before .before .before .before .cut-all .ensures) (not-false (r .result .fits) (c .if3 .left)),
+      r .kept .1 .1 .1 .1 .1 .1 .1 .1 .1 .0 ∙ v .4,
+      r .kept .1 .1 .1 .1 .1 .1 .1 .1 .1 .1 .0 ∙ v .5,
+      onward-next (pieced-next x (c .before .before .before .before .before .before .before .before .before .before .before .before .before .before .before .before .before .before .before .loop-test .taken) (c .before .before .before .before .before .before .before .before .before .before .before .before .before .before .before .before .before .piece .ensures)) (c .before .before .before .before .before .before .before .before .before .before .before .before .before .before .before .before .before .before .before .before .loop .inv .6) (c .before .before .before .before .before .before .before .before .before .before .cut-all .ensures) (not-false (r .result .fits) (c .if3 .left)),
     )
 
-same-length-9 : (t : ℕ) → lts.Need-same-length-9 (callees t) (at t) cut-all.Post Inv-loop μ-loop
-same-length-9 t c = c .before .loop .inv .0
+same-length-13 : (t : ℕ) → lts.Need-same-length-13 (callees t) (at t) cut-all.Post Inv-loop μ-loop
+same-length-13 t c = c .before .loop .inv .0
 
-same-length-10 : (t : ℕ) → lts.Need-same-length-10 (callees t) (at t) cut-all.Post Inv-loop μ-loop
-same-length-10 t c = c .before .loop .inv .1 ∙ c .before .before .before .before .before .before .before .before .before .cut .kept .1 .1 .0
+same-length-14 : (t : ℕ) → lts.Need-same-length-14 (callees t) (at t) cut-all.Post Inv-loop μ-loop
+same-length-14 t c = c .before .loop .inv .1 ∙ c .before .before .before .before .before .before .before .before .before .before .before .cut .kept .1 .1 .0
 
-same-length-11 : (t : ℕ) → lts.Need-same-length-11 (callees t) (at t) cut-all.Post Inv-loop μ-loop
-same-length-11 t c = c .before .loop .inv .2 ∙ c .before .before .before .before .before .before .before .before .before .cut .kept .1 .1 .1 .0
+same-length-15 : (t : ℕ) → lts.Need-same-length-15 (callees t) (at t) cut-all.Post Inv-loop μ-loop
+same-length-15 t c = c .before .loop .inv .2 ∙ c .before .before .before .before .before .before .before .before .before .before .before .cut .kept .1 .1 .1 .0
 
-same-length-12 : (t : ℕ) → lts.Need-same-length-12 (callees t) (at t) cut-all.Post Inv-loop μ-loop
-same-length-12 t c = c .before .loop .inv .3 ∙ c .before .before .before .before .before .before .before .before .before .cut .kept .1 .1 .1 .1 .0
+same-length-16 : (t : ℕ) → lts.Need-same-length-16 (callees t) (at t) cut-all.Post Inv-loop μ-loop
+same-length-16 t c = c .before .loop .inv .3 ∙ c .before .before .before .before .before .before .before .before .before .before .before .cut .kept .1 .1 .1 .1 .0
+
+same-length-17 : (t : ℕ) → lts.Need-same-length-17 (callees t) (at t) cut-all.Post Inv-loop μ-loop
+same-length-17 t c = c .before .loop .inv .4 ∙ c .before .before .before .before .before .before .before .before .before .before .before .cut .kept .1 .1 .1 .1 .1 .0
+
+same-length-18 : (t : ℕ) → lts.Need-same-length-18 (callees t) (at t) cut-all.Post Inv-loop μ-loop
+same-length-18 t c = c .before .loop .inv .5 ∙ c .before .before .before .before .before .before .before .before .before .before .before .cut .kept .1 .1 .1 .1 .1 .1 .0
 
 returns-4 : (t : ℕ) → lts.Need-returns-4 (callees t) (at t) cut-all.Post Inv-loop μ-loop
-returns-4 t c = let x = pieced t (c .before .before) in pieced-whole x (onward-end (pieced-end x (c .before .loop .i) (c .loop-test .left)) (c .before .loop .inv .4))
+returns-4 t c = let x = pieced t (c .before .before) in pieced-whole x (onward-end (pieced-end x (c .before .loop .i) (c .loop-test .left)) (c .before .loop .inv .6))
 
 pub +cut-all-spec : {M : Type 1} → statement M
 +cut-all-spec =
     close μ-cut-all
     (λ t.
-    lts.spec (callees t) (at t) cut-all.Post Inv-loop μ-loop (emit-requires t) (same-length t) (returns t) (add-decode-basic t) (decode-basic-requires t) (add-next t) (mul-next t) (add-next-2 t) (mul-next-2 t) (add-next-3 t) (cut-requires t) (same-length-2 t) (same-length-3 t) (same-length-4 t) (returns-2 t) (loop-holds t) (element-copy-out-v t) (piece-requires t) (sub-cut-all t) (cut-all-requires t) (same-length-5 t) (same-length-6 t) (same-length-7 t) (same-length-8 t) (returns-3 t) (add-i t) (loop-less t) (loop-again t) (same-length-9 t) (same-length-10 t) (same-length-11 t) (same-length-12 t) (returns-4 t))
+    lts.spec (callees t) (at t) cut-all.Post Inv-loop μ-loop (emit-requires t) (same-length t) (returns t) (add-decode-basic t) (decode-basic-requires t) (add-next t) (mul-next t) (add-next-2 t) (mul-next-2 t) (add-next-3 t) (cut-requires t) (same-length-2 t) (same-length-3 t) (same-length-4 t) (same-length-5 t) (same-length-6 t) (returns-2 t) (loop-holds t) (element-copy-out-v t) (piece-requires t) (sub-cut-all t) (cut-all-requires t) (same-length-7 t) (same-length-8 t) (same-length-9 t) (same-length-10 t) (same-length-11 t) (same-length-12 t) (returns-3 t) (add-i t) (loop-less t) (loop-again t) (same-length-13 t) (same-length-14 t) (same-length-15 t) (same-length-16 t) (same-length-17 t) (same-length-18 t) (returns-4 t))

@@ -7,6 +7,7 @@ use lib.ListN.{length}
 use Rattle.codec.specs.Places.{setFrom}
 use Rattle.codec.proofs.Boundaries.{boundary-start}
 use Rattle.codec.proofs.Valid.{bytes-of}
+use Rattle.cutting.specs.Cutting.{Spares}
 use Rattle.algebra.specs.Cut.{keeps, cutAll, cutAllFits}
 use Rattle.operations.proofs.Along.{Along, along-start, along-end, along-opened, along-inside, along-valid, along-stop, along-next, nothing-ready, Decodes, level-start, difference-made}
 use Rattle.operations.proofs.levels.subtract.Statement.{statement}
@@ -18,10 +19,10 @@ use Rattle.operations.proofs.counts.count.Reads as count-reads
 use Rattle.operations.proofs.levels.cut_all.Reads as cut-all-reads
 
 abbrev Inv-loop : tie.InvT-loop
-Inv-loop a b out₀ left rows₀ place₀ kinds₀ t₀ pos₀ out rows place kinds t pos = Along (Decodes b) (cutAll keeps (setFrom b 0)) (cutAllFits keeps (setFrom b 0)) a out₀ t₀ rows place kinds out t pos
+Inv-loop a b out₀ left rows₀ place₀ kinds₀ past₀ spare₀ t₀ pos₀ out rows place kinds past spare t pos = Along (Decodes b) (cutAll keeps (setFrom b 0)) (cutAllFits keeps (setFrom b 0)) a out₀ t₀ rows place kinds out t pos × Spares past spare
 
 abbrev μ-loop : tie.MeasureT-loop
-μ-loop a b out₀ left rows₀ place₀ kinds₀ t₀ pos₀ out rows place kinds t pos = length a - pos
+μ-loop a b out₀ left rows₀ place₀ kinds₀ past₀ spare₀ t₀ pos₀ out rows place kinds past spare t pos = length a - pos
 
 count-requires : tie.Need-count-requires Inv-loop μ-loop
 count-requires c κs = search needs
@@ -29,65 +30,71 @@ count-requires c κs = search needs
 loop-holds : tie.Need-loop-holds Inv-loop μ-loop
 loop-holds c =
     let st = c .before .before .before .before in
-    along-start (record { zero = st .pre .second }) (boundary-start (st .pre .n) (st .args .a .now) (st .pre .first)) (record { high = refl; long = refl; wide = refl }) nothing-ready
+    (along-start (record { zero = st .pre .second }) (boundary-start (st .pre .n) (st .args .a .now) (st .pre .first)) (record { high = refl; long = refl; wide = refl }) nothing-ready, record { many = refl; high = refl })
 
 add-decode-basic : tie.Need-add-decode-basic Inv-loop μ-loop
 add-decode-basic c = omega (arith, c .loop-test .taken)
 
 decode-basic-requires : tie.Need-decode-basic-requires Inv-loop μ-loop
-decode-basic-requires c κs = along-opened (c .before .loop .inv) (c .loop-test .taken)
+decode-basic-requires c κs = along-opened (c .before .loop .inv .0) (c .loop-test .taken)
 
 slice-aggregate-cut-all : tie.Need-slice-aggregate-cut-all Inv-loop μ-loop
-slice-aggregate-cut-all c = sym (c .before .before .before .before .loop .inv .tables .high)
+slice-aggregate-cut-all c = sym (c .before .before .before .before .loop .inv .0 .tables .high)
 
 slice-aggregate-cut-all-2 : tie.Need-slice-aggregate-cut-all-2 Inv-loop μ-loop
-slice-aggregate-cut-all-2 c = sym (c .before .before .before .before .before .loop .inv .tables .long)
+slice-aggregate-cut-all-2 c = sym (c .before .before .before .before .before .loop .inv .0 .tables .long)
 
 slice-aggregate-cut-all-3 : tie.Need-slice-aggregate-cut-all-3 Inv-loop μ-loop
-slice-aggregate-cut-all-3 c = sym (c .before .before .before .before .before .before .loop .inv .tables .wide)
+slice-aggregate-cut-all-3 c = sym (c .before .before .before .before .before .before .loop .inv .0 .tables .wide)
+
+slice-aggregate-cut-all-4 : tie.Need-slice-aggregate-cut-all-4 Inv-loop μ-loop
+slice-aggregate-cut-all-4 c = sym (c .before .before .before .before .before .before .before .loop .inv .1 .many)
+
+slice-aggregate-cut-all-5 : tie.Need-slice-aggregate-cut-all-5 Inv-loop μ-loop
+slice-aggregate-cut-all-5 c = sym (c .before .before .before .before .before .before .before .before .loop .inv .1 .high)
 
 cut-all-requires : tie.Need-cut-all-requires Inv-loop μ-loop
 cut-all-requires c κs =
-    let a = c .before .before .before .before .before .before .before .before .before .before .before .args in
-    let x = c .before .before .before .before .before .before .loop .inv in
-    let d = c .before .before .before .before .decode-basic .ensures in
-    let v = along-valid x (c .before .before .before .before .before .loop-test .taken) d (bytes-of (a .a .now) (λ i. c .before .before .before .before .before .before .before .before .before .before .shared-slice-known .given i .fits)) in
-    (level-start (bytes-of (a .b .now) (λ i. c .before .before .before .before .before .before .before .before .before .shared-slice-known2 .given i .fits)) (x .known) v (d .divs) (d .cons) (c .before .before .before .before .before .before .before .count .ensures), x .onward .ready, x .tables)
+    let a = c .before .before .before .before .before .before .before .before .before .before .before .before .before .args in
+    let x = c .before .before .before .before .before .before .before .before .loop .inv .0 in
+    let d = c .before .before .before .before .before .before .decode-basic .ensures in
+    let v = along-valid x (c .before .before .before .before .before .before .before .loop-test .taken) d (bytes-of (a .a .now) (λ i. c .before .before .before .before .before .before .before .before .before .before .before .before .shared-slice-known .given i .fits)) in
+    (level-start (bytes-of (a .b .now) (λ i. c .before .before .before .before .before .before .before .before .before .before .before .shared-slice-known2 .given i .fits)) (x .known) v (d .divs) (d .cons) (c .before .before .before .before .before .before .before .before .before .count .ensures), x .onward .ready, x .tables, c .before .before .before .before .before .before .before .before .loop .inv .1)
 
 same-length : tie.Need-same-length Inv-loop μ-loop
-same-length c = c .before .before .before .before .before .before .cut-all .kept .1 .1 .1 .1 .0 ∙ c .before .before .before .before .before .before .before .before .before .before .before .before .before .loop .inv .same
+same-length c = c .before .before .before .before .before .before .before .before .cut-all .kept .1 .1 .1 .1 .0 ∙ c .before .before .before .before .before .before .before .before .before .before .before .before .before .before .before .before .before .loop .inv .0 .same
 
 returns : tie.Need-returns Inv-loop μ-loop
-returns c = let m = c .before .before .before .before .before .before .cut-all in let a = c .before .before .before .before .before .before .before .before .before .before .before .before .before .before .before .before .before .before .args in difference-made (setFrom (a .a .now) 0) (setFrom (a .b .now) 0) (along-stop (c .before .before .before .before .before .before .before .before .before .before .before .before .before .loop .inv) (c .before .before .before .before .before .before .before .before .before .before .before .before .loop-test .taken) (c .before .before .before .before .before .before .before .before .before .before .before .decode-basic .ensures) (m .ensures) (not-true (m .result .fits) (c .if1 .taken)))
+returns c = let m = c .before .before .before .before .before .before .before .before .cut-all in let a = c .before .before .before .before .before .before .before .before .before .before .before .before .before .before .before .before .before .before .before .before .before .before .args in difference-made (setFrom (a .a .now) 0) (setFrom (a .b .now) 0) (along-stop (c .before .before .before .before .before .before .before .before .before .before .before .before .before .before .before .before .before .loop .inv .0) (c .before .before .before .before .before .before .before .before .before .before .before .before .before .before .before .before .loop-test .taken) (c .before .before .before .before .before .before .before .before .before .before .before .before .before .before .before .decode-basic .ensures) (m .ensures) (not-true (m .result .fits) (c .if1 .taken)))
 
 add-pos : tie.Need-add-pos Inv-loop μ-loop
-add-pos c = let g = c .before .before .before .before .before .before .before .before .before .before .before .before .before .before .before .before .before .before .good .0 in let i = along-inside (c .before .before .before .before .before .before .before .before .before .before .before .before .before .loop .inv) (c .before .before .before .before .before .before .before .before .before .before .before .before .loop-test .taken) (c .before .before .before .before .before .before .before .before .before .before .before .decode-basic .ensures) in omega arith
+add-pos c = let g = c .before .before .before .before .before .before .before .before .before .before .before .before .before .before .before .before .before .before .before .before .before .before .good .0 in let i = along-inside (c .before .before .before .before .before .before .before .before .before .before .before .before .before .before .before .before .before .loop .inv .0) (c .before .before .before .before .before .before .before .before .before .before .before .before .before .before .before .before .loop-test .taken) (c .before .before .before .before .before .before .before .before .before .before .before .before .before .before .before .decode-basic .ensures) in omega arith
 
 mul-pos : tie.Need-mul-pos Inv-loop μ-loop
-mul-pos c = let d = c .before .before .before .before .before .before .before .before .before .before .before .before .decode-basic .ensures .divs in omega arith
+mul-pos c = let d = c .before .before .before .before .before .before .before .before .before .before .before .before .before .before .before .before .decode-basic .ensures .divs in omega arith
 
 add-pos-2 : tie.Need-add-pos-2 Inv-loop μ-loop
-add-pos-2 c = let g = c .before .before .before .before .before .before .before .before .before .before .before .before .before .before .before .before .before .before .before .good .0 in let i = along-inside (c .before .before .before .before .before .before .before .before .before .before .before .before .before .before .loop .inv) (c .before .before .before .before .before .before .before .before .before .before .before .before .before .loop-test .taken) (c .before .before .before .before .before .before .before .before .before .before .before .before .decode-basic .ensures) in omega arith
+add-pos-2 c = let g = c .before .before .before .before .before .before .before .before .before .before .before .before .before .before .before .before .before .before .before .before .before .before .before .good .0 in let i = along-inside (c .before .before .before .before .before .before .before .before .before .before .before .before .before .before .before .before .before .before .loop .inv .0) (c .before .before .before .before .before .before .before .before .before .before .before .before .before .before .before .before .before .loop-test .taken) (c .before .before .before .before .before .before .before .before .before .before .before .before .before .before .before .before .decode-basic .ensures) in omega arith
 
 mul-pos-2 : tie.Need-mul-pos-2 Inv-loop μ-loop
-mul-pos-2 c = let d = c .before .before .before .before .before .before .before .before .before .before .before .before .before .decode-basic .ensures .cons in omega arith
+mul-pos-2 c = let d = c .before .before .before .before .before .before .before .before .before .before .before .before .before .before .before .before .before .decode-basic .ensures .cons in omega arith
 
 add-pos-3 : tie.Need-add-pos-3 Inv-loop μ-loop
-add-pos-3 c = let g = c .before .before .before .before .before .before .before .before .before .before .before .before .before .before .before .before .before .before .before .before .good .0 in let i = along-inside (c .before .before .before .before .before .before .before .before .before .before .before .before .before .before .before .loop .inv) (c .before .before .before .before .before .before .before .before .before .before .before .before .before .before .loop-test .taken) (c .before .before .before .before .before .before .before .before .before .before .before .before .before .decode-basic .ensures) in omega arith
+add-pos-3 c = let g = c .before .before .before .before .before .before .before .before .before .before .before .before .before .before .before .before .before .before .before .before .before .before .before .before .good .0 in let i = along-inside (c .before .before .before .before .before .before .before .before .before .before .before .before .before .before .before .before .before .before .before .loop .inv .0) (c .before .before .before .before .before .before .before .before .before .before .before .before .before .before .before .before .before .before .loop-test .taken) (c .before .before .before .before .before .before .before .before .before .before .before .before .before .before .before .before .before .decode-basic .ensures) in omega arith
 
 loop-less : tie.Need-loop-less Inv-loop μ-loop
-loop-less c = let h = c .before .before .before .before .before .before .before .before .before .before .before .before .before .before .loop-test .taken in omega arith
+loop-less c = let h = c .before .before .before .before .before .before .before .before .before .before .before .before .before .before .before .before .before .before .loop-test .taken in omega arith
 
 loop-again : tie.Need-loop-again Inv-loop μ-loop
 loop-again c =
-    let m = c .before .before .before .before .before .before .before .before .cut-all in
-    along-next (c .before .before .before .before .before .before .before .before .before .before .before .before .before .before .before .loop .inv) (c .before .before .before .before .before .before .before .before .before .before .before .before .before .before .loop-test .taken) (c .before .before .before .before .before .before .before .before .before .before .before .before .before .decode-basic .ensures) (m .ensures) (m .kept .1 .1 .1 .1 .0) (m .kept .1 .1 .1 .1 .1 .1 .0) (m .kept .1 .1 .1 .1 .1 .1 .1 .0) (m .kept .1 .1 .1 .1 .1 .1 .1 .1 .0) (not-false (m .result .fits) (c .before .before .if1 .left))
+    let m = c .before .before .before .before .before .before .before .before .before .before .cut-all in
+    (along-next (c .before .before .before .before .before .before .before .before .before .before .before .before .before .before .before .before .before .before .before .loop .inv .0) (c .before .before .before .before .before .before .before .before .before .before .before .before .before .before .before .before .before .before .loop-test .taken) (c .before .before .before .before .before .before .before .before .before .before .before .before .before .before .before .before .before .decode-basic .ensures) (m .ensures) (m .kept .1 .1 .1 .1 .0) (m .kept .1 .1 .1 .1 .1 .1 .0) (m .kept .1 .1 .1 .1 .1 .1 .1 .0) (m .kept .1 .1 .1 .1 .1 .1 .1 .1 .0) (not-false (m .result .fits) (c .before .before .if1 .left)), record { many = m .kept .1 .1 .1 .1 .1 .1 .1 .1 .1 .0 ∙ c .before .before .before .before .before .before .before .before .before .before .before .before .before .before .before .before .before .before .before .loop .inv .1 .many; high = m .kept .1 .1 .1 .1 .1 .1 .1 .1 .1 .1 .0 ∙ c .before .before .before .before .before .before .before .before .before .before .before .before .before .before .before .before .before .before .before .loop .inv .1 .high })
 
 same-length-2 : tie.Need-same-length-2 Inv-loop μ-loop
-same-length-2 c = c .before .loop .inv .same
+same-length-2 c = c .before .loop .inv .0 .same
 
 returns-2 : tie.Need-returns-2 Inv-loop μ-loop
-returns-2 c = let a = c .before .before .before .before .before .before .args in difference-made (setFrom (a .a .now) 0) (setFrom (a .b .now) 0) (along-end (c .before .loop .inv) (c .loop-test .left))
+returns-2 c = let a = c .before .before .before .before .before .before .args in difference-made (setFrom (a .a .now) 0) (setFrom (a .b .now) 0) (along-end (c .before .loop .inv .0) (c .loop-test .left))
 
 pub subtract-spec : {M : Type 1} → statement M
 subtract-spec =
@@ -102,6 +109,8 @@ subtract-spec =
     slice-aggregate-cut-all
     slice-aggregate-cut-all-2
     slice-aggregate-cut-all-3
+    slice-aggregate-cut-all-4
+    slice-aggregate-cut-all-5
     cut-all-requires
     same-length
     returns

@@ -7,7 +7,7 @@ use lib.IntN.{ℤ, pos, negℤ, _+ℤ_, _-ℤ_, _*ℤ_}
 use lib.ListN.{length, getD, set}
 use Rattle.integers.specs.Ring.{ring, quote}
 use Rattle.model.specs.Sets.{dot}
-use Rattle.simplex.specs.Tableau.{combine}
+use Rattle.feasibility.specs.Tableau.{combine}
 use Rattle.model.proofs.Values.{dot-neg}
 use Rattle.model.proofs.Count.{suc-inj, no-suc}
 

@@ -17,12 +17,12 @@ use Rattle.integers.specs.Order.{mul-nonneg, mul-pos-pos, <ℤ-≤ℤ}
 use Rattle.integers.specs.Size.{natAbs-nonneg}
 use Rattle.model.specs.Lists.{all}
 use Rattle.model.specs.Sets.{dot, Kind, equality, inequality, Constraint, BasicSet, isZero, meets, value, holds, conditions, RationalPoint, meetsBasic}
-use Rattle.simplex.specs.Tableau.{point, dropped, long, wide, Row, Tableau, entry, constantOf, sortOf, violates, lowest, violatedRows, solved, replaced, reduced, exchange, narrow, noRow, Look, noneViolated, noneHelps, pivot, look, run, pad, from, firstRows, start, test, testAt, bound, sorts, begin}
+use Rattle.feasibility.specs.Tableau.{point, dropped, long, wide, Row, Tableau, entry, constantOf, sortOf, violates, lowest, violatedRows, solved, replaced, reduced, exchange, narrow, noRow, Look, noneViolated, noneHelps, pivot, look, run, pad, from, firstRows, start, test, testAt, bound, sorts, begin}
 use Rattle.model.proofs.Count.{and-make, from-T, no-suc, suc-inj}
 use Rattle.model.proofs.Values.{isZero→, nn}
-use Rattle.simplex.proofs.Exchange.{Holds, Solves, Shaped, shape-at, Pivot, exchange-shaped, exchange-back}
-use Rattle.simplex.proofs.Verdicts.{Meets, Found, calm, turns, looked, when-none, to-not}
-use Rattle.simplex.proofs.Start.{length-from, free, row-value, start-shaped}
+use Rattle.feasibility.proofs.Exchange.{Holds, Solves, Shaped, shape-at, Pivot, exchange-shaped, exchange-back}
+use Rattle.feasibility.proofs.Verdicts.{Meets, Found, calm, turns, looked, when-none, to-not}
+use Rattle.feasibility.proofs.Start.{length-from, free, row-value, start-shaped}
 
 -- ---- where each variable stands
 
@@ -58,7 +58,7 @@ moved-not a v p f n = at (eqb v a) refl
 replaced-var : (r : Row) (j : ℕ) (s : Row) → replaced r j s .var ≡ s .var
 replaced-var r j s = at (isZero (entry s j))
   where
-    at : (b : Bool) → (cond b s (reduced (record { var = s .var; den = entry r j *ℤ s .den; nums = set (Rattle.simplex.specs.Tableau.combine (entry r j) (entry s j) (s .nums) (r .nums)) (suc j) (entry s j *ℤ r .den) }))) .var ≡ s .var
+    at : (b : Bool) → (cond b s (reduced (record { var = s .var; den = entry r j *ℤ s .den; nums = set (Rattle.feasibility.specs.Tableau.combine (entry r j) (entry s j) (s .nums) (r .nums)) (suc j) (entry s j *ℤ r .den) }))) .var ≡ s .var
     at true = refl
     at false = refl
 

@@ -12,11 +12,11 @@ use lib.ListN.{length, getD, length-append, length-map}
 use Rattle.integers.specs.Ring.{ring, quote}
 use Rattle.model.specs.Lists.{all}
 use Rattle.model.specs.Sets.{dot, Constraint, BasicSet, value, holds, conditions, RationalPoint, meetsBasic}
-use Rattle.simplex.specs.Tableau.{dropped, Tableau, sortOf, violates, run, pad, from, firstRows, start, test, testAt, narrow, bound, sorts, begin}
+use Rattle.feasibility.specs.Tableau.{dropped, Tableau, sortOf, violates, run, pad, from, firstRows, start, test, testAt, narrow, bound, sorts, begin}
 use Rattle.model.proofs.Count.{and-left, and-right, suc-inj, no-suc}
 use Rattle.model.proofs.Values.{dot-nil}
-use Rattle.simplex.proofs.Exchange.{Solves, Shaped}
-use Rattle.simplex.proofs.Verdicts.{Meets, run-dropped}
+use Rattle.feasibility.proofs.Exchange.{Solves, Shaped}
+use Rattle.feasibility.proofs.Verdicts.{Meets, run-dropped}
 
 -- ---- lists
 

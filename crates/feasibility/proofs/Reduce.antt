@@ -14,9 +14,9 @@ use Rattle.integers.specs.Div.{floor-unique, floorZ-is, exact}
 use Rattle.integers.specs.Size.{natAbs-neg, natAbs-mul, natAbs-zero}
 use Rattle.integers.specs.Gcd.{IsGcd, step-is, Divides, divides-trans}
 use Rattle.model.specs.Sets.{dot, floorDiv}
-use Rattle.simplex.specs.Tableau.{Row, positive, reduced, commonDivisor, gcd, gcdFuel}
+use Rattle.feasibility.specs.Tableau.{Row, positive, reduced, commonDivisor, gcd, gcdFuel}
 use Rattle.model.proofs.Values.{dot-neg}
-use Rattle.simplex.proofs.Rows.{rest}
+use Rattle.feasibility.proofs.Rows.{rest}
 
 -- ---- the common divisor divides
 

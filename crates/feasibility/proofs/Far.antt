@@ -4,7 +4,7 @@ use mathlib.Core.Path.{_≡_, refl}
 use mathlib.Core.List.{List, [], _∷_}
 use lib.IntN.{ℤ, pos, negsuc}
 use Rattle.model.specs.Sets.{inequality, Constraint, BasicSet}
-use Rattle.simplex.specs.Tableau.{point, dropped, wide, bound, testAt, test, run, look, exchange}
+use Rattle.feasibility.specs.Tableau.{point, dropped, wide, bound, testAt, test, run, look, exchange}
 
 -- c + a·x ≥ 0
 abbrev ge : ℤ → ℤ → Constraint

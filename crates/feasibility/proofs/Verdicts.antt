@@ -13,11 +13,11 @@ use lib.ListN.{length, getD}
 use Rattle.integers.specs.Lin.{le, lt, eq, lin, lia-le, lia-no}
 use Rattle.integers.specs.Order.{mul-nonneg, mul-pos-pos, mul-nonpos, <ℤ-≤ℤ}
 use Rattle.model.specs.Sets.{dot, Kind, equality, inequality, isZero}
-use Rattle.simplex.specs.Tableau.{point, dropped, long, wide, Row, Tableau, entry, constantOf, violates, helps, lower, lowest, when, violatedRows, helpfulCols, exchange, noRow, Look, noneViolated, noneHelps, pivot, column, row, look, run}
+use Rattle.feasibility.specs.Tableau.{point, dropped, long, wide, Row, Tableau, entry, constantOf, violates, helps, lower, lowest, when, violatedRows, helpfulCols, exchange, noRow, Look, noneViolated, noneHelps, pivot, column, row, look, run}
 use Rattle.model.proofs.Values.{isZero→, nn}
-use Rattle.simplex.proofs.Rows.{rest}
+use Rattle.feasibility.proofs.Rows.{rest}
 use Rattle.model.proofs.Count.{no-suc}
-use Rattle.simplex.proofs.Exchange.{Holds, Solves, Shape, Shaped, shape-at, solves-at, Pivot, exchange-shaped, exchange-on}
+use Rattle.feasibility.proofs.Exchange.{Holds, Solves, Shape, Shaped, shape-at, solves-at, Pivot, exchange-shaped, exchange-on}
 
 pub true-false : {X : Type 0} → true ≡ false → X
 true-false e = absurd (subst T e tt)

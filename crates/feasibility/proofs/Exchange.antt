@@ -12,10 +12,10 @@ use lib.ListN.{length, getD, set, length-set, length-map}
 use lib.Seq.{set-getD}
 use Rattle.integers.specs.Ring.{ring, quote}
 use Rattle.model.specs.Sets.{dot, isZero}
-use Rattle.simplex.specs.Tableau.{Row, Tableau, entry, combine, reduced, solved, replaced, exchange, noRow}
+use Rattle.feasibility.specs.Tableau.{Row, Tableau, entry, combine, reduced, solved, replaced, exchange, noRow}
 use Rattle.model.proofs.Values.{isZero→}
-use Rattle.simplex.proofs.Rows.{rest, dot-set, solved-rest, replaced-rest, length-combine, length-neg}
-use Rattle.simplex.proofs.Reduce.{Like, reduced-like, cancel-zero}
+use Rattle.feasibility.proofs.Rows.{rest, dot-set, solved-rest, replaced-rest, length-combine, length-neg}
+use Rattle.feasibility.proofs.Reduce.{Like, reduced-like, cancel-zero}
 
 -- ---- solutions: w gives each variable its numerator over the denominator D
 
