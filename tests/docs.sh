@@ -1,5 +1,5 @@
 #!/usr/bin/env bash
-# Every file, theorem and must-fail edit that docs/REVIEW.md and docs/CONTRACTS.md name exists; the last line is 'N passed, M failed'.
+# Every file, theorem and must-fail edit that docs/REVIEW.md and docs/CONTRACTS.md name exists, and every law is used or named there; the last line is 'N passed, M failed'.
 cd "$(dirname "$0")/.." || exit 2
 passed=0
 failed=0
@@ -25,5 +25,13 @@ done < <(grep -hoE '\b[a-z]+/(specs|proofs|src|must-fail)/[A-Za-z_.]+|\b(docs|te
 while read -r name; do
   if grep -qxF -- "$name" "$names"; then seen yes "$name"; else seen no "$name"; fi
 done < <(grep -hoE '`[a-z][a-zA-Z]*(-[a-z0-9-]+|[A-Z][A-Za-z]*)`' docs/REVIEW.md docs/CONTRACTS.md | tr -d '`' | sort -u)
+
+# every other law and definition is used
+while read -r line; do
+  case $line in
+    *' passed, '*) passed=$((passed + ${line%% *})) ;;
+    *) seen no "use of $line" ;;
+  esac
+done < <(python3 tools/unused.py)
 echo "$passed passed, $failed failed"
 [ "$failed" -eq 0 ]

@@ -1,21 +1,21 @@
 -- Results are valid sets again: what an operation gives within its limits decodes to itself.
-use mathlib.Core.Path.{_≡_, refl, sym, ap, ap₂, _∙_, subst}
+use mathlib.Core.Path.{_≡_, refl, sym, ap, _∙_, subst}
 use mathlib.Core.Bool.{Bool, true, false, not, _&&_, _||_, cond}
-use mathlib.Core.List.{List, [], _∷_, _++_, map, append-assoc, append-nil}
+use mathlib.Core.List.{List, [], _∷_, _++_, map}
 use mathlib.Core.Logic.{_⊎_, inl, inr}
 use mathlib.Core.Option.{Option, none, some}
-use Prim.Native.Nat.{ℕ, zero, suc, _+_, _*_, _-_, _≤_, _<_, zero-le, suc-le-suc}
-use native.Mathlib.Nat.{le-of-suc-le-suc, not-suc-le-zero, zero-lt-suc, le-refl, zero-add, add-zero, add-suc, suc-add}
+use Prim.Native.Nat.{ℕ, zero, suc, _+_, _-_, _≤_, _<_}
+use native.Mathlib.Nat.{le-of-suc-le-suc, not-suc-le-zero, zero-lt-suc, le-refl, zero-add}
 use native.Mathlib.Omega.{arith}
-use lib.Dec.{T, leb, ltb, eqb, leb→le, le→leb, lt→ltb, ltb→lt, eqb→eq, eqb-refl}
+use lib.Dec.{T, leb, ltb, eqb, leb→le, le→leb, ltb→lt, eqb-refl}
 use lib.IntN.{ℤ, pos, negsuc, negℤ, _+ℤ_, _-ℤ_, -ℤ-one, predℤ, +ℤ-idr}
 use lib.Signed.{leZ}
-use lib.ListN.{length, drop, getD, replicate, length-append}
+use lib.ListN.{length, getD, replicate, length-append}
 use Rattle.model.specs.Lists.{all, any, concatMap, consIf, filter, isNil}
 use Rattle.model.specs.Sets.{Division, Kind, equality, inequality, Constraint, BasicSet, Set, absent}
 use Rattle.algebra.specs.Cut.{below, opposites, oppositesAt, sameDivision, seek, Joined, joinFrom, join, addAt, move, moveConstraint, joinedDivisions, movedConstraints, both, kept, cutBy, cut, cutAll, difference, intersection, complement, joinFits, candidatesFit, cutFits, cutAllFits, differenceFits, bothFits, intersectionFits}
-use Rattle.codec.specs.Bytes.{gives, Command, opens, division, constraint, commands, encode, Counts, within, coefficient, constantFits, testsOf, firstFailing, counted, axesFit, decode}
-use Rattle.model.proofs.Count.{and-left, and-right, and-make, from-T}
+use Rattle.codec.specs.Bytes.{gives, encode, coefficient, constantFits, axesFit, decode}
+use Rattle.model.proofs.Count.{and-left, and-right, and-make}
 use Rattle.algebra.proofs.Joined.{Good, joined}
 use Rattle.algebra.proofs.Cutting.{absent-neg, absent-more, absent-move}
 use Rattle.codec.proofs.Encoded.{Fits}
@@ -114,9 +114,6 @@ seek-free e taken k (f ∷ ds) i p = choose (sameDivision e f) (any (eqb k) take
         (subst (λ (m : ℕ). T (not (any (eqb m) taken))) same (subst (λ (b : Bool). T (not b)) (sym q) tt), subst (λ (m : ℕ). m < k + suc (length ds)) same (omega arith))
     choose true true q p r = later (r p)
     choose false b q p r = later (r p)
-
-not-there : (i : ℕ) (l : List ℕ) → T (not (any (eqb i) l)) → (j : ℕ) → T (any (eqb j) l) → i ≡ j → ⊥
-not-there i l t j u e = lib.Dec.T-not (any (eqb i) l) t (subst (λ (m : ℕ). T (any (eqb m) l)) (sym e) u)
 
 -- a place that is free for the divisions still to come
 abbrev pub Free : List Division → List ℕ → List Division → ℕ → Type 0

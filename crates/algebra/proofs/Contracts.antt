@@ -1,21 +1,18 @@
 -- The operations on bytes: what they give decodes to the set that the definition says, and that set has the points that it should.
-use mathlib.Core.Path.{_≡_, refl, sym, ap, ap₂, _∙_, subst}
+use mathlib.Core.Path.{_≡_, refl, subst}
 use mathlib.Core.Bool.{Bool, true, false, not, _&&_, _||_, cond}
-use mathlib.Core.List.{List, [], _∷_, _++_, map}
-use Prim.Native.Nat.{ℕ, zero, suc, _+_, _*_, _-_, _^_, _≤_, _<_, zero-le, suc-le-suc}
-use native.Mathlib.Nat.{le-of-suc-le-suc, not-suc-le-zero, zero-lt-suc, le-refl, zero-add, add-zero}
-use native.Mathlib.Omega.{arith}
-use lib.Dec.{T, leb, ltb, eqb, leb→le, le→leb, lt→ltb, ltb→lt, eqb→eq, nltb→le}
-use lib.IntN.{ℤ, pos, negsuc}
-use lib.ListN.{length, take, drop}
-use Rattle.integers.specs.LittleEndian.{bytes-drop}
+use mathlib.Core.List.{List, [], _∷_}
+use Prim.Native.Nat.{ℕ, _-_, _≤_, zero-le}
+use lib.Dec.{T, leb, leb→le}
+use lib.IntN.{ℤ}
+use lib.ListN.{length}
 use Rattle.model.specs.Lists.{all}
-use Rattle.model.specs.Sets.{equality, inequality, BasicSet, Set, inSet, wellFormed, absent}
+use Rattle.model.specs.Sets.{BasicSet, Set, inSet, wellFormed}
 use Rattle.algebra.specs.Cut.{keeps, union, unionFits, bothFits, intersection, intersectionFits, cutAllFits, difference, differenceFits, complement, complementFits}
-use Rattle.codec.specs.Bytes.{Answer, refused, gives, valueOf, signed, signedList, Command, opens, division, constraint, encode, readDivision, readConstraint, readCommand, widthOf, Counts, within, coefficient, constantFits, refusal, testsOf, counted, Built, build, axesFit, decode}
+use Rattle.codec.specs.Bytes.{Answer, refused, gives, encode, axesFit, decode}
 use Rattle.algebra.specs.Operations.{result, onOne, onTwo, unionBytes, intersectionBytes, differenceBytes, complementBytes}
-use Rattle.model.proofs.Count.{and-left, and-right, to-T}
-use Rattle.codec.proofs.Decoded.{Parsed, done, next, Bytes, decoded, decode-formed, all-passed, no-way}
+use Rattle.model.proofs.Count.{and-right}
+use Rattle.codec.proofs.Decoded.{Bytes, decode-formed, no-way}
 use Rattle.codec.proofs.Valid.{All, all-app, Valid, valid-decodes, decode-valid}
 use Rattle.algebra.proofs.Closed.{difference-valid, difference-decodes, intersection-valid}
 use Rattle.algebra.proofs.Kept.{difference-points, intersection-points, complement-points}

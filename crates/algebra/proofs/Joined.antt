@@ -1,17 +1,15 @@
 -- Values of rules at a point: opposites, and rules moved to joined divisions.
 use mathlib.Core.Path.{_≡_, refl, sym, ap, ap₂, _∙_, subst}
-use mathlib.Core.Bool.{Bool, true, false, not, _&&_, _||_, cond}
+use mathlib.Core.Bool.{Bool, true, false, not, _&&_, cond}
 use mathlib.Core.List.{List, [], _∷_, _++_, map, append-assoc, append-nil}
-use mathlib.Core.Logic.{_⊎_, inl, inr}
 use mathlib.Core.Option.{Option, none, some}
-use Prim.Native.Nat.{ℕ, zero, suc, _+_, _≤_, _<_, zero-le, suc-le-suc}
+use Prim.Native.Nat.{ℕ, zero, suc, _+_, _<_, zero-le, suc-le-suc}
 use native.Mathlib.Nat.{add-zero, zero-add, add-suc, suc-add}
 use native.Mathlib.Omega.{arith}
 use lib.Dec.{T, ltb, lt→ltb, eqb, eqb→eq, eqb·suc-zero}
-use lib.IntN.{ℤ, pos, negsuc, negℤ, _+ℤ_, _-ℤ_, _*ℤ_, -ℤ-one, predℤ, +ℤ-idl, +ℤ-idr, -ℤ-+ℤ-cancel, *ℤ-zero}
+use lib.IntN.{ℤ, pos, negsuc, negℤ, _+ℤ_, _-ℤ_, _*ℤ_, -ℤ-one, predℤ, +ℤ-idl, -ℤ-+ℤ-cancel}
 use lib.Signed.{nonNeg}
-use lib.ListN.{length, getD, replicate, drop, length-append, length-map}
-use lib.Seq.{getD-append-seam}
+use lib.ListN.{length, getD, replicate, length-append}
 use Rattle.integers.specs.Ring.{ring, quote}
 use Rattle.model.specs.Lists.{all, any}
 use Rattle.model.specs.Sets.{dot, floorDiv, Division, Kind, equality, inequality, Constraint, isZero, meets, value, holds, quotient, quotients}

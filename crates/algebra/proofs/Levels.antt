@@ -11,7 +11,7 @@ use Rattle.model.specs.Lists.{all, concatMap}
 use Rattle.model.specs.Sets.{BasicSet, Set, inBasic, wellFormed}
 use Rattle.algebra.specs.Cut.{keeps, cut, cutAll, cutFits, cutAllFits, sizeFits, difference, differenceFits}
 use Rattle.algebra.specs.Levels.{cutEach, cutLevels, cutLevelsFit, differenceByLevels, differenceByLevelsFits}
-use Rattle.model.proofs.Count.{and-left, and-right, and-make, and-assoc, all-append}
+use Rattle.model.proofs.Count.{and-left, and-right, and-make, all-append}
 use Rattle.algebra.proofs.Kept.{pieces-disjoint}
 
 module _ {A B : Type 0} where

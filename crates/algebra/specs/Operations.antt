@@ -1,12 +1,10 @@
 -- The four operations on the bytes of sets, n axes and a result table of `room` bytes (document 01, "Cutting rules", "Refused").
 -- Order of the refusals: 1; those of the first set; those of the second; 10; 11.
-use mathlib.Core.Bool.{Bool, true, false, not, _&&_, _||_, cond}
-use mathlib.Core.List.{List, [], _∷_, _++_, map}
-use Prim.Native.Nat.{ℕ, zero, suc, _+_, _-_, _*_, _/_, _%_, _^_}
-use lib.IntN.{ℤ, pos, negsuc}
-use lib.Dec.{leb, ltb, eqb}
-use lib.Signed.{leZ}
-use lib.ListN.{length, take, drop}
+use mathlib.Core.Bool.{Bool, cond}
+use mathlib.Core.List.{List}
+use Prim.Native.Nat.{ℕ}
+use lib.Dec.{leb}
+use lib.ListN.{length}
 use Rattle.model.specs.Sets.{Set}
 use Rattle.codec.specs.Bytes.{Answer, refused, gives, encode, decode}
 use Rattle.algebra.specs.Cut.{keeps, union, unionFits, intersection, intersectionFits, difference, differenceFits, complement, complementFits}

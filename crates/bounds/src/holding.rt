@@ -1,9 +1,9 @@
 // Whether the basic set of a row can hold over a box that the row has been settled to but for one axis.
 ghost use mathlib.Core.Path.{_≡_};
-ghost use Prim.Native.Nat.{ℕ, _+_, _*_, _≤_, _<_};
-ghost use lib.ListN.{length, drop};
+ghost use Prim.Native.Nat.{_+_, _*_, _<_};
+ghost use lib.ListN.{length};
 ghost use Rattle.model.specs.Lists.{all};
-ghost use Rattle.codec.specs.Places.{built, basicAt};
+ghost use Rattle.codec.specs.Places.{basicAt};
 ghost use Rattle.bounds.specs.Intervals.{boxOf};
 ghost use Rattle.bounds.specs.Ends.{AllWithin, Ends, Bounded, Past, canStand};
 ghost use Rattle.bounds.specs.Rows.{startOf, Row, Settled, Told};

@@ -1,20 +1,19 @@
 -- A search over a difference, on bytes: none exactly when every point of the first set in the box is in the second.
-use mathlib.Core.Path.{_≡_, refl, sym, ap, _∙_, subst}
-use mathlib.Core.Bool.{Bool, not, _&&_}
-use mathlib.Core.List.{List, [], _∷_}
-use Prim.Native.Nat.{ℕ, zero, suc, _≤_, _<_}
+use mathlib.Core.Path.{_≡_, sym, ap, _∙_, subst}
+use mathlib.Core.Bool.{not, _&&_}
+use mathlib.Core.List.{List, _∷_}
+use Prim.Native.Nat.{ℕ, _≤_, _<_}
 use native.Mathlib.Omega.{arith}
 use lib.Dec.{T}
 use lib.IntN.{ℤ}
 use lib.ListN.{length, take, length-take}
-use Rattle.model.specs.Sets.{Set, inSet, wellFormed}
-use Rattle.model.specs.Lists.{all}
+use Rattle.model.specs.Sets.{Set, inSet}
 use Rattle.codec.specs.Bytes.{Answer, gives, decode}
 use Rattle.codec.proofs.Decoded.{Bytes}
 use Rattle.algebra.specs.Cut.{keeps, difference}
 use Rattle.algebra.specs.Operations.{differenceBytes}
 use Rattle.algebra.proofs.Contracts.{Operation, difference-bytes}
-use Rattle.query.specs.Search.{Interval, Found, nothing, spent, Tallied, firstPoint, boxOf, searchBytes}
+use Rattle.query.specs.Search.{Interval, nothing, spent, Tallied, firstPoint, boxOf, searchBytes}
 use Rattle.query.proofs.Walks.{In}
 use Rattle.query.proofs.Searched.{Searched, searched, sides, few-axes, none-covered, covered-none}
 

@@ -2,7 +2,7 @@
 use mathlib.Core.Path.{_≡_, refl, sym, ap, ap₂, _∙_, subst}
 use mathlib.Core.Bool.{Bool, true, false, cond}
 use mathlib.Core.List.{List, [], _∷_}
-use Prim.Native.Nat.{ℕ, zero, suc, _+_, _-_, _*_, _≤_, _<_}
+use Prim.Native.Nat.{ℕ, zero, suc, _+_, _-_, _≤_, _<_}
 use native.Mathlib.Omega.{arith}
 use lib.Dec.{ltb, eqb}
 use lib.ListN.{length, drop, getD}
@@ -11,11 +11,11 @@ use Rattle.model.specs.Sets as S
 use Rattle.model.specs.Sets.{Set}
 use Rattle.model.specs.Values.{basicSetOf}
 use Rattle.model.specs.declared.BasicSet.{BasicSet}
-use Rattle.codec.specs.Bytes.{Answer, refused, gives, Command, opens, division, constraint, Counts, counted, widthOf, readCommand, readDivision, readConstraint, kindOf, Built, build, parse, setOf, axesFit, decode, number}
+use Rattle.codec.specs.Bytes.{refused, gives, Command, division, constraint, Counts, counted, widthOf, readCommand, readDivision, readConstraint, kindOf, Built, build, axesFit, decode, number}
 use Rattle.codec.specs.Places.{commandsOf, built, basicAt, setFrom, endOf, Checked, opened, Opened, after, Decoded, Boundary}
 use Rattle.codec.proofs.Parsing.{start, read-opens, read-division, read-constraint, width-division, width-constraint, decode-bad, decode-good}
-use Rattle.codec.proofs.Split.{unless, refusalOf, decode′, decode-split, parse-split}
-use Rattle.codec.proofs.Decoded.{Unrefused, clean-start}
+use Rattle.codec.proofs.Split.{unless, refusalOf, decode′, decode-split}
+use Rattle.codec.proofs.Decoded.{clean-start}
 use Rattle.codec.proofs.Walking.{added, Head, head, built-end, checked-unrefused}
 
 -- ---- the whole

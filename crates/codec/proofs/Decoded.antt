@@ -1,20 +1,18 @@
 -- What a decoded set has: every command accepted, well-formed basic sets, and the bytes it came from as its encoding.
 use mathlib.Core.Path.{_≡_, refl, sym, ap, ap₂, _∙_, subst}
-use mathlib.Core.Bool.{Bool, true, false, not, _&&_, _||_, cond}
-use mathlib.Core.List.{List, [], _∷_, _++_, map, append-assoc, append-nil}
-use Prim.Native.Nat.{ℕ, zero, suc, _+_, _*_, _-_, _/_, _%_, _^_, _≤_, _<_, zero-le, suc-le-suc}
-use native.Mathlib.Nat.{le-of-suc-le-suc, not-suc-le-zero, zero-lt-suc, le-refl}
+use mathlib.Core.Bool.{Bool, true, false, _||_, cond}
+use mathlib.Core.List.{List, [], _∷_, _++_, map, append-assoc}
+use Prim.Native.Nat.{ℕ, zero, suc, _+_, _-_, _^_, _≤_, _<_, zero-le, suc-le-suc}
+use native.Mathlib.Nat.{le-of-suc-le-suc, not-suc-le-zero, le-refl}
 use native.Mathlib.Omega.{arith}
-use lib.Dec.{T, leb, ltb, eqb, leb→le, le→leb, ltb→lt, lt→ltb, eqb→eq, not-T, T-not}
-use lib.IntN.{ℤ, pos, negsuc, natAbs}
-use lib.Signed.{leZ}
+use lib.Dec.{T, leb, ltb, eqb, leb→le, ltb→lt, eqb→eq}
 use lib.ListN.{length, take, drop, take-append-drop}
 use lib.Seq.{length-take-le}
 pub use Rattle.integers.specs.LittleEndian.{Bytes}
 use Rattle.integers.specs.LittleEndian.{bytes-value, value-small, unsigned-signed, bytes-take, bytes-drop}
 use Rattle.model.specs.Lists.{all, concatMap}
 use Rattle.model.specs.Sets.{Division, Kind, equality, inequality, Constraint, Set, absent, wellFormed}
-use Rattle.codec.specs.Bytes.{Answer, refused, gives, bytesOf, valueOf, unsigned, signed, signedBytes, Command, opens, division, constraint, opcode, encodeCommand, commands, encode, signedList, readDivision, readConstraint, Counts, firstFailing, testsOf, refusal, counted, widthOf, readCommand, Built, build, after, parse, setOf, axesFit, decode, headRefusal}
+use Rattle.codec.specs.Bytes.{Answer, refused, gives, bytesOf, valueOf, signed, signedBytes, Command, opens, division, constraint, opcode, encodeCommand, commands, encode, signedList, readDivision, readConstraint, Counts, firstFailing, testsOf, refusal, counted, widthOf, readCommand, Built, build, after, parse, setOf, axesFit, decode, headRefusal}
 use Rattle.codec.proofs.Parsing.{parse-next, parse-stop}
 use Rattle.model.proofs.Count.{and-left, and-right, and-make, to-T, no-suc}
 use Rattle.model.proofs.Values.{divides, fits}

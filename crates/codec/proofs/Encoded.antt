@@ -1,18 +1,18 @@
 -- What is encoded decodes to itself.
 use mathlib.Core.Path.{_≡_, refl, sym, ap, ap₂, _∙_, subst}
-use mathlib.Core.Bool.{Bool, true, false, not, _&&_, _||_, cond}
-use mathlib.Core.List.{List, [], _∷_, _++_, map, append-assoc, append-nil}
-use Prim.Native.Nat.{ℕ, zero, suc, _+_, _*_, _-_, _/_, _%_, _^_, _≤_, _<_, zero-le, suc-le-suc}
-use native.Mathlib.Nat.{le-of-suc-le-suc, not-suc-le-zero, zero-lt-suc, le-refl}
+use mathlib.Core.Bool.{Bool, true, cond}
+use mathlib.Core.List.{List, [], _∷_, _++_, map, append-assoc}
+use Prim.Native.Nat.{ℕ, zero, suc, _+_, _*_, _-_, _≤_, _<_}
+use native.Mathlib.Nat.{le-refl}
 use native.Mathlib.Omega.{arith}
-use lib.Dec.{T, leb, ltb, eqb, leb→le, le→leb, ltb→lt, lt→ltb, eqb→eq, not-T, T-not}
-use lib.IntN.{ℤ, pos, negsuc, natAbs}
-use lib.Signed.{leZ, mag}
-use lib.ListN.{length, take, drop}
+use lib.Dec.{T, leb, ltb, eqb, leb→le, le→leb}
+use lib.IntN.{ℤ, pos, negsuc}
+use lib.Signed.{mag}
+use lib.ListN.{length, drop}
 use Rattle.integers.specs.LittleEndian.{value-bytes, signed-bytes}
 use Rattle.model.specs.Lists.{all, concatMap}
 use Rattle.model.specs.Sets.{Division, Kind, equality, inequality, Constraint, Set}
-use Rattle.codec.specs.Bytes.{refused, gives, bytesOf, valueOf, unsigned, signed, signedBytes, Command, opens, division, constraint, opcode, encodeCommand, commands, encode, signedList, readDivision, readConstraint, Counts, coefficient, firstFailing, refusal, counted, widthOf, readCommand, Built, build, after, parse, setOf, axesFit, decode, headRefusal}
+use Rattle.codec.specs.Bytes.{refused, gives, bytesOf, valueOf, signed, signedBytes, Command, opens, division, constraint, opcode, encodeCommand, commands, encode, signedList, readDivision, readConstraint, Counts, coefficient, firstFailing, refusal, counted, widthOf, readCommand, Built, build, after, parse, setOf, axesFit, decode, headRefusal}
 use Rattle.codec.proofs.Parsing.{parse-next}
 use Rattle.model.proofs.Count.{and-left, and-right, from-T, suc-inj, no-suc}
 

@@ -1,5 +1,5 @@
 -- Eight numbers looked at with a flag, as the check does, and the table that says where there may be one.
-use mathlib.Core.Path.{_≡_, refl, sym, ap, ap₂, _∙_, subst}
+use mathlib.Core.Path.{_≡_, refl, sym, ap, ap₂, _∙_}
 use mathlib.Core.Bool.{Bool, true, false, _&&_}
 use mathlib.Core.List.{List}
 use mathlib.Core.Logic.{⊎-elim}
@@ -9,10 +9,10 @@ use lib.IntN.{ℤ}
 use lib.ListN.{take, drop, getD}
 use Rattle.integers.specs.Part.{lt-or-le}
 use Rattle.model.specs.Lists.{all}
-use Rattle.model.specs.Sets.{isZero, absent}
+use Rattle.model.specs.Sets.{isZero}
 use Rattle.codec.specs.Bytes.{valueOf, signed, signedList}
 use Rattle.codec.specs.Checking.{bitsAllowed}
-use Rattle.codec.proofs.Parsing.{all-more, absent-of, zero-yes, zero-not}
+use Rattle.codec.proofs.Parsing.{all-more, zero-yes, zero-not}
 
 and-no : (b : Bool) → (b && false) ≡ false
 and-no true = refl

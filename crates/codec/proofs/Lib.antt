@@ -4,9 +4,8 @@ pub mod Split
 pub mod Encoded
 pub mod Decoded
 pub mod Walking
-mod Filling
 pub mod Boundaries
 pub mod Valid
-pub mod Emitting
+pub mod Commands
 pub mod RoundTrips
 pub mod Located

@@ -1,25 +1,25 @@
 -- Where the basic sets of checked bytes stand.
-use mathlib.Core.Path.{_≡_, refl, sym, ap, ap₂, _∙_, subst}
+use mathlib.Core.Path.{_≡_, refl, sym, ap, ap₂, _∙_}
 use mathlib.Core.Bool.{Bool, true, false, cond}
 use mathlib.Core.List.{List, [], _∷_, _++_}
-use Prim.Native.Nat.{ℕ, zero, suc, _+_, _-_, _*_, _≤_, _<_}
+use Prim.Native.Nat.{ℕ, _+_, _-_, _≤_, _<_}
 use native.Mathlib.Numerals.{add-one}
 use native.Mathlib.Omega.{arith}
 use lib.Dec.{ltb}
-use lib.ListN.{length, take, drop, getD, length-append, length-drop, take-append-drop, drop-of-length-le}
-use lib.Seq.{take-all, drop-drop, drop-cons, take-suc, length-take-le}
+use lib.ListN.{length, take, drop, getD, length-append, length-drop, drop-of-length-le}
+use lib.Seq.{take-all, drop-cons, take-suc}
 use borrow.Author.Tests.{lt-ltb, le-ltb, ltb-true, ltb-false, eqb-true, eqb-false}
 use lib.Dec.{eqb}
 use Rattle.model.specs.Sets.{BasicSet, Set}
-use Rattle.codec.specs.Bytes.{Answer, refused, gives, Command, division, constraint, Counts, counted, readCommand, readDivision, readConstraint, kindOf, widthOf, Built, encode, decode, number}
+use Rattle.codec.specs.Bytes.{Answer, refused, gives, Command, Counts, counted, readCommand, widthOf, Built, encode, decode, number}
 use Rattle.codec.specs.Places.{built, basicAt, setFrom, endOf, Checked, Accepted, Opened, opened, Boundary}
-use Rattle.codec.specs.Parts.{Part, nowhere, partAt, partIn, partOf, held, Started}
+use Rattle.codec.specs.Parts.{nowhere, partAt, partIn, partOf, Started}
 use Rattle.codec.proofs.Parsing.{read-opens, read-division, read-constraint, width-division, width-constraint}
 use Rattle.codec.proofs.Decoded.{Bytes}
 use Rattle.codec.proofs.Walking.{added, Head, head, inside-of, built-end}
-use Rattle.codec.proofs.Boundaries.{boundary-start, boundary-end, boundary-opened, boundary-next, boundary-set, decode-is}
-use Rattle.codec.proofs.RoundTrips.{boundary-encode, basic-size, basic-bytes}
-use Rattle.codec.proofs.Emitting.{encode-more}
+use Rattle.codec.proofs.Boundaries.{boundary-start, boundary-end, boundary-next, boundary-set, decode-is}
+use Rattle.codec.proofs.RoundTrips.{basic-size}
+use Rattle.codec.proofs.Commands.{encode-more}
 
 -- ---- to the end of a basic set, command by command
 pub record Ending (s : List ℕ) (first at : ℕ) : Type 0 where

@@ -1,13 +1,13 @@
 -- Laws of the readers, of the tests of numbers, and of the parse from a place on.
-use mathlib.Core.Path.{_≡_, refl, sym, ap, ap₂, _∙_, subst}
+use mathlib.Core.Path.{_≡_, refl, sym, ap, ap₂, _∙_}
 use mathlib.Core.Bool.{Bool, true, false, not, _&&_, cond}
 use mathlib.Core.List.{List, [], _∷_}
-use Prim.Native.Nat.{ℕ, zero, suc, _+_, _-_, _*_, _^_, _≤_, _<_}
+use Prim.Native.Nat.{ℕ, zero, suc, _+_, _-_, _*_, _≤_, _<_}
 use native.Mathlib.Numerals.{add-one}
 use native.Mathlib.Omega.{arith}
-use borrow.Author.Tests.{ltb-true, ltb-false, lt-ltb, le-ltb, le-leb, lt-leb, eq-eqb, ne-eqb, leb-true, eqb-true}
+use borrow.Author.Tests.{ltb-true, lt-ltb, le-ltb, le-leb, lt-leb, ne-eqb, leb-true, eqb-true}
 use lib.Dec.{T, ltb, leb, eqb}
-use lib.IntN.{ℤ, pos, negsuc, _-ℤ_}
+use lib.IntN.{ℤ, pos, negsuc}
 use lib.Signed.{leZ}
 use lib.ListN.{length, take, drop, getD, drop-of-length-le, length-drop}
 use lib.Seq.{drop-cons, drop-drop}
@@ -36,21 +36,6 @@ absent-of n p s h = let e : 8 ≡ n + (8 - n) = omega arith in ap (λ (i : ℕ).
 by : (P : Bool → Type 0) (b : Bool) → (b ≡ true → P true) → (b ≡ false → P false) → P b
 by P true f g = f refl
 by P false f g = g refl
-
-pub eight : (t : List ℕ) (p : ℕ) → (f : ℕ → ℤ) → ((q : ℕ) → f q ≡ signed 2 (valueOf (take 2 (drop q t))))
-    → f p ∷ f (p + 2) ∷ f (p + 4) ∷ f (p + 6) ∷ f (p + 8) ∷ f (p + 10) ∷ f (p + 12) ∷ f (p + 14) ∷ [] ≡ signedList 8 (drop p t)
-eight t p f h =
-    let a : p + 4 ≡ p + 2 + 2 = omega arith in let b : p + 6 ≡ p + 2 + 2 + 2 = omega arith in let c : p + 8 ≡ p + 2 + 2 + 2 + 2 = omega arith in
-    let d : p + 10 ≡ p + 2 + 2 + 2 + 2 + 2 = omega arith in let g : p + 12 ≡ p + 2 + 2 + 2 + 2 + 2 + 2 = omega arith in let k : p + 14 ≡ p + 2 + 2 + 2 + 2 + 2 + 2 + 2 = omega arith in
-    (λ i. f p ∷ f (p + 2) ∷ f (a i) ∷ f (b i) ∷ f (c i) ∷ f (d i) ∷ f (g i) ∷ f (k i) ∷ []) ∙ more 8 p (drop p t) refl
-  where
-    listed : ℕ → ℕ → List ℤ
-    listed zero q = []
-    listed (suc m) q = f q ∷ listed m (q + 2)
-
-    more : (m q : ℕ) (l : List ℕ) → l ≡ drop q t → listed m q ≡ signedList m l
-    more zero q l e = refl
-    more (suc m) q l e = ap₂ (λ (z : ℤ) (r : List ℤ). z ∷ r) (h q ∙ ap (λ (r : List ℕ). signed 2 (valueOf (take 2 r))) (sym e)) (more m (q + 2) (drop 2 l) (ap (drop 2) e ∙ drop-drop 2 q t))
 
 same-and-true : (b : Bool) → (b && true) ≡ b
 same-and-true true = refl

@@ -1,24 +1,21 @@
 -- What is decoded from checked bytes encodes to those bytes, and what is encoded decodes to what it was: for each basic set.
-use mathlib.Core.Path.{_≡_, refl, sym, ap, ap₂, _∙_, subst}
-use mathlib.Core.List.{List, [], _∷_, _++_, map, append-assoc, append-nil}
-use Prim.Native.Nat.{ℕ, zero, suc, _+_, _-_, _*_, _≤_, _<_}
+use mathlib.Core.Path.{_≡_, sym, ap, ap₂, _∙_, subst}
+use mathlib.Core.List.{List, [], _∷_, _++_, map, append-nil}
+use Prim.Native.Nat.{ℕ, _+_, _-_, _*_, _≤_, _<_}
 use native.Mathlib.Omega.{arith}
 use lib.Dec.{T}
-use lib.ListN.{length, take, drop, length-append, length-drop}
+use lib.ListN.{length, take, drop, length-append}
 use lib.Seq.{take-at}
 use Rattle.integers.specs.LittleEndian.{bytes-drop}
 use Rattle.model.specs.Lists.{concatMap}
 use Rattle.model.specs.Sets.{Division, Constraint, BasicSet, Set}
-use Rattle.model.specs.Values.{basicSetOf}
-use Rattle.model.specs.declared.BasicSet.{BasicSet as Value}
-use Rattle.codec.specs.Bytes.{gives, Command, division, constraint, encodeCommand, commands, encode, signedBytes, Built, axesFit, decode, number}
-use Rattle.codec.specs.Places.{commandsOf, built, basicAt, setFrom, endOf, after, Decoded, Boundary}
-use Rattle.codec.specs.Writing.{put, Emitted}
+use Rattle.codec.specs.Bytes.{gives, Command, division, constraint, encodeCommand, commands, encode, signedBytes, axesFit, decode, number}
+use Rattle.codec.specs.Places.{commandsOf, built, basicAt, setFrom, endOf, Boundary}
 use Rattle.codec.proofs.Decoded.{Bytes, bytes-back, commands-back, encode-decode}
 use Rattle.codec.proofs.Walking.{accepted-parsed, checked-unrefused}
-use Rattle.codec.proofs.Boundaries.{boundary-start, boundary-opened, boundary-next, boundary-set, decode-is}
+use Rattle.codec.proofs.Boundaries.{boundary-start, boundary-set, decode-is}
 use Rattle.codec.proofs.Valid.{All, ValidDivision, ValidConstraint, Valid, valid-decodes, decode-valid, boundary-valid}
-use Rattle.codec.proofs.Emitting.{coefficients-length, concat-map, concat-more, encode-more}
+use Rattle.codec.proofs.Commands.{coefficients-length, concat-map, concat-more, encode-more}
 
 -- ---- how long a basic set is
 concat-size : {A : Type 0} (f : A → List ℕ) (P : A → Type 0) (w : ℕ) → ((a : A) → P a → length (f a) ≡ w) → (l : List A) → All P l → length (concatMap f l) ≡ w * length l
@@ -69,11 +66,6 @@ module _ (n : ℕ) (s : List ℕ) (at : ℕ) (p : Bytes s) (b : Boundary n s at)
         let e : drop at s ≡ encode (basicAt s (at + 1) ∷ []) ++ encode (setFrom s (endOf s (at + 1))) = sym boundary-encode ∙ ap encode (boundary-set n s at b h) ∙ encode-more (basicAt s (at + 1) ∷ []) (setFrom s (endOf s (at + 1))) in
         ap (take (endOf s (at + 1) - at)) e ∙ take-at (encode (basicAt s (at + 1) ∷ [])) (encode (setFrom s (endOf s (at + 1)))) (endOf s (at + 1) - at) basic-size
 
-    -- by the two functions: what `encode_basic` writes of what `decode_basic` gave are the bytes that were read
-    pub decoded-encoded : (v : Value) (o o′ : List ℕ) (to end : ℕ) → Decoded s (at + 1) v → Emitted (encode (basicSetOf v ∷ [])) o to end o′ → o′ ≡ put to (take (after (at + 1) v - at) (drop at s)) o
-    decoded-encoded v o o′ to end d w =
-        w .bytes ∙ ap (λ (l : List ℕ). put to l o) (ap (λ (x : BasicSet). encode (x ∷ [])) (d .basic) ∙ sym basic-bytes ∙ ap (λ (e : ℕ). take (e - at) (drop at s)) (sym (d .next)))
-
 -- ---- encoded, then decoded: the same basic set
 pub encoded-decoded : (n : ℕ) (b : BasicSet) → T (axesFit n) → Valid n b → basicAt (encode (b ∷ [])) 1 ≡ b
 encoded-decoded n b a v =
@@ -85,12 +77,6 @@ encoded-decoded n b a v =
     let l : 0 < length s = let y = valid-size n b v in omega arith in
     let k = boundary-set n s 0 (boundary-start n s z) l in
     cc
-
--- by the two functions: what `decode_basic` gives of what `encode_basic` wrote into a table of its own is the basic set
-pub emitted-decoded : (n : ℕ) (v w : Value) (o o′ : List ℕ) (end : ℕ) → T (axesFit n) → Valid n (basicSetOf v) → Emitted (encode (basicSetOf v ∷ [])) o 0 end o′ → length o ≡ end → Decoded o′ 1 w → basicSetOf w ≡ basicSetOf v
-emitted-decoded n v w o o′ end a h e l d =
-    let q : o′ ≡ encode (basicSetOf v ∷ []) = e .bytes ∙ Rattle.codec.proofs.Emitting.put-fresh (encode (basicSetOf v ∷ [])) o (let x = e .ends in omega arith) in
-    d .basic ∙ ap (λ (x : List ℕ). basicAt x 1) q ∙ encoded-decoded n (basicSetOf v) a h
 
 -- ---- how long checked bytes can be: 32 basic sets of 8 divisions and 48 constraints
 encode-length : (n : ℕ) (s : Set) → All (Valid n) s → length (encode s) ≤ 1961 * length s

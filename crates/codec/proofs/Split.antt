@@ -1,8 +1,8 @@
 -- Another shape of the definition: the refusal and the commands apart. `decode` is the two together.
-use mathlib.Core.Path.{_≡_, refl, sym, ap, ap₂, _∙_}
-use mathlib.Core.Bool.{Bool, true, false, cond}
+use mathlib.Core.Path.{_≡_, refl, sym, ap, _∙_}
+use mathlib.Core.Bool.{cond}
 use mathlib.Core.List.{List, [], _∷_}
-use Prim.Native.Nat.{ℕ, zero, suc, _+_, _-_, _≤_, _<_}
+use Prim.Native.Nat.{ℕ, zero, suc, _-_, _≤_}
 use native.Mathlib.Omega.{arith}
 use lib.ListN.{length, drop, length-drop}
 use Rattle.model.specs.Sets.{Set}
@@ -78,6 +78,3 @@ commands-fuel (suc f) (suc g) (b ∷ s) h k =
 given : (m : ℕ) (cs ds : List Command) → unless m cs ≡ gives ds → ds ≡ cs
 given zero cs ds e = cc
 given (suc m) cs ds e = let z : _≡_ {A = ℕ} 0 1 = cc in absurd (omega arith)
-
-pub parse-commands : (n f : ℕ) (k : Counts) (s : List ℕ) (cs : List Command) → length s ≤ f → parse n f k s ≡ gives cs → cs ≡ commandsOf (length s) s
-parse-commands n f k s cs h e = given (refusalOf n f k s) (commandsOf f s) cs (sym (parse-split n f k s) ∙ e) ∙ commands-fuel f (length s) s h (omega arith)

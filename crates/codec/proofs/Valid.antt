@@ -1,19 +1,19 @@
 -- What a decoded set is: valid basic sets over n axes, at most 32; and what is valid decodes from its encoding.
-use mathlib.Core.Path.{_≡_, refl, sym, ap, ap₂, _∙_, subst}
-use mathlib.Core.Bool.{Bool, true, false, not, _&&_, cond}
+use mathlib.Core.Path.{_≡_, refl, sym, ap, _∙_, subst}
+use mathlib.Core.Bool.{Bool, true, false, _&&_, cond}
 use mathlib.Core.List.{List, [], _∷_, _++_, map, append-assoc}
-use Prim.Native.Nat.{ℕ, zero, suc, _+_, _*_, _-_, _≤_, _<_, zero-le}
+use Prim.Native.Nat.{ℕ, zero, suc, _+_, _-_, _≤_, _<_, zero-le}
 use native.Mathlib.Nat.{zero-add, add-zero}
 use native.Mathlib.Omega.{arith}
-use lib.Dec.{T, leb, ltb, eqb, leb→le, le→leb, lt→ltb, ltb→lt, eqb→eq, nltb→le}
+use lib.Dec.{T, leb, ltb, eqb, leb→le, lt→ltb, ltb→lt, eqb→eq}
 use lib.IntN.{ℤ, pos, negsuc}
 use lib.ListN.{length, take, drop, getD}
 use Rattle.integers.specs.LittleEndian.{bytes-drop, signed-mag}
 use Rattle.model.specs.Lists.{all}
 use Rattle.model.specs.Sets.{Division, equality, inequality, Constraint, BasicSet, Set, absent}
-use Rattle.codec.specs.Bytes.{gives, valueOf, signed, signedList, Command, opens, division, constraint, commands, encode, readDivision, readConstraint, readCommand, widthOf, Counts, within, coefficient, constantFits, testsOf, firstFailing, refusal, counted, Built, build, axesFit, decode, number}
+use Rattle.codec.specs.Bytes.{gives, valueOf, signedList, Command, opens, division, constraint, commands, encode, readDivision, readConstraint, readCommand, widthOf, Counts, within, coefficient, constantFits, testsOf, firstFailing, refusal, counted, Built, build, axesFit, decode}
 use Rattle.codec.specs.Places.{commandsOf, built, setFrom, Boundary}
-use Rattle.model.proofs.Count.{and-left, and-right, and-make, from-T, to-T}
+use Rattle.model.proofs.Count.{and-left, and-right, and-make, from-T}
 use Rattle.codec.proofs.Encoded.{Fits, DivisionFits, ConstraintFits, Accepted, decode-encode}
 use Rattle.codec.proofs.Decoded.{Parsed, done, next, Bytes, decoded, all-passed}
 use Rattle.codec.proofs.Walking.{accepted-parsed}
@@ -88,9 +88,6 @@ Passes (t ∷ ts) = T (t .0) × Passes ts
 unfailing : (ts : List (Bool × ℕ)) → Passes ts → firstFailing ts ≡ 0
 unfailing [] p = refl
 unfailing (t ∷ ts) p = ap (λ (b : Bool). cond b (firstFailing ts) (t .1)) (from-T (t .0) (p .0)) ∙ unfailing ts (p .1)
-
-count-of : ℕ → ℕ → ℕ → Counts
-count-of b d r = record { basics = b; divisions = d; constraints = r }
 
 module _ (n : ℕ) where
   accept-constraints : (b d r : ℕ) (rs : List Constraint) (cs : List Command) → 0 < b → r + length rs ≤ 48 → All (ValidConstraint n d) rs

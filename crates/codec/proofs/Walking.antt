@@ -1,15 +1,15 @@
 -- Checked bytes, command by command: what is known at a place, and what it builds.
 use mathlib.Core.Path.{_≡_, refl, sym, ap, ap₂, _∙_, subst}
-use mathlib.Core.Bool.{Bool, true, false, _||_}
+use mathlib.Core.Bool.{Bool, true, false}
 use mathlib.Core.List.{List, [], _∷_}
 use Prim.Native.Nat.{ℕ, zero, suc, _+_, _-_, _≤_, _<_}
 use native.Mathlib.Numerals.{add-one}
 use native.Mathlib.Omega.{arith}
-use lib.Dec.{T, ltb, leb, eqb, ltb→lt, leb→le, eqb→eq}
+use lib.Dec.{T, ltb, leb, ltb→lt, leb→le}
 use lib.ListN.{length, drop, getD, drop-of-length-le, length-drop, List·getD-eq-default}
 use lib.Seq.{drop-cons, drop-drop}
-use borrow.Author.Tests.{ne-eqb, eqb-true, eqb-false, ltb-true, ltb-false}
-use Rattle.codec.specs.Bytes.{Answer, refused, gives, Command, opens, division, constraint, Counts, testsOf, refusal, counted, widthOf, readCommand, readDivision, readConstraint, kindOf, headRefusal, Built, build, after, parse, number}
+use borrow.Author.Tests.{ltb-true, ltb-false}
+use Rattle.codec.specs.Bytes.{Answer, refused, gives, Command, opens, division, constraint, Counts, refusal, counted, widthOf, readCommand, headRefusal, Built, build, after, parse, number}
 use Rattle.codec.specs.Places.{commandsOf, built, Checked}
 use Rattle.codec.proofs.Parsing.{parse-next}
 use Rattle.codec.proofs.Split.{unless, refusalOf, parse-split, commands-fuel}

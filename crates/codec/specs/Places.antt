@@ -1,7 +1,7 @@
 -- The bytes of a set from a place on: what the commands there build, and the records by which code goes through checked bytes.
 use mathlib.Core.Path.{_≡_}
 use mathlib.Core.List.{List, [], _∷_}
-use Prim.Native.Nat.{ℕ, zero, suc, _+_, _-_, _*_, _≤_, _<_}
+use Prim.Native.Nat.{ℕ, zero, suc, _+_, _-_, _*_, _≤_}
 use lib.ListN.{length, drop}
 use Rattle.model.specs.Sets as S
 use Rattle.model.specs.Sets.{Set}

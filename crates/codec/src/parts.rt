@@ -1,6 +1,6 @@
 // A basic set as the part of the lent table that holds it, and the walk from basic set to basic set.
 ghost use mathlib.Core.Path.{_≡_};
-ghost use Prim.Native.Nat.{ℕ, _+_, _-_, _≤_};
+ghost use Prim.Native.Nat.{_+_, _-_, _≤_};
 ghost use lib.ListN.{length, take, drop};
 ghost use Rattle.codec.specs.Places.{setFrom, endOf, Accepted, Opened};
 ghost use Rattle.codec.specs.Parts.{partOf, held, Started};

@@ -1,7 +1,7 @@
 // Commands and parts of lent bytes.
 ghost use mathlib.Core.Path.{_≡_};
-ghost use Prim.Native.Nat.{ℕ, _+_, _≤_, _<_};
-ghost use lib.ListN.{length, take, drop, getD};
+ghost use Prim.Native.Nat.{_≤_, _<_};
+ghost use lib.ListN.{length, drop, getD};
 ghost use Rattle.codec.specs.Bytes.{widthOf};
 
 pub fn tail<'a>(s: &'a [u8], p: usize) -> &'a [u8]

@@ -1,13 +1,13 @@
 -- What the commands of a script print, by the tests that the code makes.
 use mathlib.Core.Path.{_≡_, refl, ap, ap₂, sym, subst, _∙_}
-use mathlib.Core.Bool.{Bool, true, false, not, _&&_, _||_, cond}
+use mathlib.Core.Bool.{Bool, true, false, _&&_, _||_, cond}
 use mathlib.Core.List.{List, [], _∷_, _++_}
 use Prim.Native.Nat.{ℕ, suc, _+_, _-_, _≤_, _<_}
 use native.Mathlib.Omega.{arith}
 use borrow.Author.Tests.{ltb-true, ne-eqb}
 use lib.Dec.{ltb, leb, eqb}
 use lib.IntN.{ℤ, pos}
-use lib.ListN.{length, getD, set, take, drop}
+use lib.ListN.{length, getD, take, drop}
 use lib.Seq.{drop-cons, drop-drop, length-take-le, getD-take}
 use native.Mathlib.Numerals.{add-one}
 use Rattle.model.specs.Lists.{all}
@@ -17,7 +17,7 @@ use Rattle.query.specs.Search.{Tallied, memberBytes, searchBytes}
 use Rattle.listing.specs.Text as T
 use Rattle.session.specs.Script.{State, Done, setAt, isBinary, fixedWidth, setNumbers, commandWidth, inPlace, ending, says, ends, refusedLine, opened, stored, told, memberLine, searchLine, coordinates, perform, execute}
 use Rattle.listing.specs.Written.{Wrote, Writes}
-use Rattle.session.specs.Turns.{Memory, stateIn, tableAt, keeps, Effect, none, assigns, listed, isAssignment, answerOf, performs, effectOf, shown, listingOf, memoryOf, headerLine, startOf}
+use Rattle.session.specs.Turns.{Memory, stateIn, tableAt, keeps, Effect, none, listed, isAssignment, answerOf, performs, effectOf, shown, listingOf, memoryOf, headerLine, startOf}
 use Rattle.commands.specs.Contracts.{tells, doneLine, firstLine, Single, Told, CommandIs, Holds, saying}
 use Rattle.commands.specs.declared.commands.CommandDone.{CommandDone}
 use Rattle.session.specs.declared.Listing.{Listing}

@@ -8,14 +8,14 @@ ghost use Rattle.session.specs.Script.{room, loadBytes};
 ghost use Rattle.listing.specs.Written.{put};
 ghost use Rattle.session.specs.Turns.{Fitted, tableAt, stateIn, answerOf, isAssignment};
 ghost use Rattle.commands.specs.Contracts.{Operands};
-ghost use Rattle.operations.specs.Outcome.{outcomeIs};
-use codec::clear;
+ghost use Rattle.results.specs.Outcome.{outcomeIs};
 use listing::word;
 use operations::Outcome;
 use operations::complement;
 use operations::difference;
 use operations::intersection;
 use operations::union;
+use records::clear;
 
 pub fn byte(s: &[u8], i: usize) -> usize
     requires { ⌜ i < length (now s) ⌝ }

@@ -1,14 +1,14 @@
 -- The candidates of a cut, and the test of the working constraints as it grows. Assumes nothing.
 use mathlib.Core.Path.{_≡_, refl, sym, ap, ap₂, _∙_, subst}
 use mathlib.Core.Bool.{Bool, true, false, _||_, cond}
-use mathlib.Core.List.{List, [], _∷_, _++_, map, append-assoc}
-use Prim.Native.Nat.{ℕ, zero, suc, _+_, _-_, _*_, _≤_, _<_}
+use mathlib.Core.List.{List, [], _∷_, _++_, append-assoc}
+use Prim.Native.Nat.{ℕ, suc, _+_, _-_, _*_, _≤_, _<_}
 use native.Mathlib.Numerals.{add-one}
 use native.Mathlib.Omega.{arith}
 use lib.ListN.{length, take, getD, length-map, length-append}
 use lib.Seq.{length-take-le, getD-take, getD-append-add, take-suc, take-all, take-append-seam}
 use lib.IntN.{ℤ}
-use Rattle.model.specs.Sets.{Division, Kind, equality, inequality, Constraint, BasicSet, bounds, conditions}
+use Rattle.model.specs.Sets.{Division, equality, inequality, Constraint, BasicSet, bounds, conditions}
 use Rattle.model.specs.Values.{kindIs, divisionOf, constraintOf, basicSetOf}
 use Rattle.model.specs.declared.Constraint.{Constraint as StoredConstraint}
 use Rattle.model.specs.declared.BasicSet.{BasicSet as Stored}
@@ -23,7 +23,7 @@ use Rattle.sharing.proofs.Firsts.{first-tests}
 use Rattle.algebra.specs.Cut.{above, below}
 use Rattle.cutting.specs.declared.pieces.CutSteps.{CutSteps}
 use Rattle.cutting.specs.Cutting.{candidate, noRule, Opposed, Holds, Behind, Caught, Turned}
-use Rattle.cutting.proofs.Placing.{noConstraint}
+use Rattle.joining.proofs.Placing.{noConstraint}
 use Rattle.cutting.proofs.Steps.{bit-small, below-of, above-of}
 
 -- ---- a candidate's test

@@ -1,4 +1,3 @@
-pub mod Placing
 pub mod Steps
 pub mod Turns
 pub mod Catching

@@ -1,28 +1,27 @@
 -- A cut step by step: the constraints that joined, and the steps from which its pieces are made.
 use mathlib.Core.Path.{_≡_, refl, sym, ap, ap₂, _∙_, subst}
-use mathlib.Core.Bool.{Bool, true, false, not, _&&_, _||_, cond}
+use mathlib.Core.Bool.{Bool, true, false, _&&_, _||_, cond}
 use mathlib.Core.List.{List, [], _∷_, _++_, map, append-assoc, append-nil}
-use Prim.Native.Nat.{ℕ, zero, suc, _+_, _-_, _*_, _/_, _%_, _≤_, _<_, zero-le, suc-le-suc}
-use native.Mathlib.Nat.{le-of-suc-le-suc, not-suc-le-zero, le-refl, add-zero}
+use Prim.Native.Nat.{ℕ, zero, suc, _+_, _-_, _/_, _%_, _≤_, _<_}
+use native.Mathlib.Nat.{le-refl, add-zero}
 use native.Mathlib.Numerals.{add-one}
 use native.Mathlib.Omega.{arith}
 use borrow.Author.Tests.{eq-eqb, ne-eqb, le-leb, lt-leb}
 use lib.Dec.{T, leb, eqb}
-use lib.ListN.{length, take, drop, getD, set, length-append, length-map, length-set, length-take, drop-of-length-le, List·getD-append}
-use lib.Seq.{drop-cons, take-append-le, take-append-seam, take-all, take-take, getD-append-seam, length-take-le, take-suc-set, take-set-le}
-use Rattle.model.specs.Lists.{all, filter, consIf, isNil}
+use lib.ListN.{length, take, drop, getD, set, length-append, length-set, drop-of-length-le, List·getD-append}
+use lib.Seq.{drop-cons, take-append-le, take-append-seam, take-take, getD-append-seam, take-suc-set, take-set-le}
+use Rattle.model.specs.Lists.{consIf, isNil}
 use Rattle.model.specs.Sets.{Division, Kind, equality, inequality, Constraint, BasicSet}
-use Rattle.model.specs.Values.{constraintOf, basicSetOf}
+use Rattle.model.specs.Values.{constraintOf}
 use Rattle.model.specs.declared.Constraint.{Constraint as StoredConstraint}
-use Rattle.model.specs.declared.BasicSet.{BasicSet as Stored}
 use Rattle.codec.specs.Bytes.{constantFits}
-use Rattle.codec.proofs.Valid.{All, all-app, ValidConstraint, Valid}
+use Rattle.codec.proofs.Valid.{All, all-app, ValidConstraint}
 use Rattle.integers.specs.Mach.{clash}
 use Rattle.algebra.specs.Cut.{above, below, opposites, oppositesAt, kept, cutBy, candidatesFit}
 use lib.IntN.{ℤ}
-use Rattle.cutting.specs.Cutting.{Tables, Sound, Extending, Putting, Below, Above, withLast, candidate, isEquality, noRule, pieceOf, Step, stepsAt}
-use Rattle.cutting.proofs.Placing.{map-take, map-pushed, noConstraint}
-use Rattle.algebra.proofs.Closed.{opposites-valid}
+use Rattle.joining.specs.Joining.{Below, Above}
+use Rattle.cutting.specs.Cutting.{Tables, withLast, candidate, isEquality, noRule, pieceOf, Step, stepsAt}
+use Rattle.joining.proofs.Placing.{map-take, map-pushed, noConstraint}
 
 -- ---- a constraint put behind the first ones
 
@@ -32,46 +31,11 @@ put-is cs cons at r h g =
     map-pushed constraintOf noConstraint cs at r g
     ∙ ap (λ (l : List Constraint). l ++ (constraintOf r ∷ [])) (ap (map constraintOf) (sym (take-take at cons cs h)) ∙ map-take constraintOf noConstraint at (take cons cs))
 
-length-stored : (w : Stored) → length (basicSetOf w .constraints) ≤ w .cons
-length-stored w =
-    let e = length-map (take (w .cons) (w .constraints)) constraintOf in
-    let f = length-take (w .cons) (w .constraints) in
-    omega arith
-
--- behind all of them
-pub with-all : (w : Stored) (r : Constraint) → withLast (basicSetOf w) (w .cons) r ≡ candidate (basicSetOf w) r
-with-all w r = ap (λ (l : List Constraint). record { divisions = basicSetOf w .divisions; constraints = l ++ (r ∷ []) }) (take-all (w .cons) (basicSetOf w .constraints) (length-stored w))
-
-pub candidate-valid : (n : ℕ) (b : BasicSet) (r : Constraint) → Valid n b → ValidConstraint n (length (b .divisions)) r → length (b .constraints) < 48 → Valid n (candidate b r)
-candidate-valid n b r v u h =
-    record {
-      few-divisions = v .few-divisions;
-      few-constraints = let e = length-append (b .constraints) (r ∷ []) in omega arith;
-      divisions = v .divisions;
-      constraints = all-app (ValidConstraint n (length (b .divisions))) (b .constraints) (r ∷ []) (v .constraints) (u, tt);
-    }
-
 pub below-of : {n k : ℕ} {r : Constraint} → ValidConstraint n k r → Below r
 below-of v = record { axes = v .axes; divisions = v .divisions }
 
 pub above-of : {n k : ℕ} {r : Constraint} → r .kind ≡ equality → ValidConstraint n k r → Above r
 above-of {n} {k} {r} e v = record { constant = subst (λ (q : Kind). T (constantFits q (r .constant))) e (v .constant) }
-
--- a candidate as it is stored
-pub stored-candidate : (w q : Stored) (o : StoredConstraint) (x : Constraint) → Putting w (w .cons) o q → constraintOf o ≡ x → basicSetOf q ≡ candidate (basicSetOf w) x
-stored-candidate w q o x p e = p .is ∙ with-all w (constraintOf o) ∙ ap (candidate (basicSetOf w)) e
-
-pub sound-candidate : (w q : Stored) (r o : StoredConstraint) (e : Extending w r) → Putting w (w .cons) o q → ValidConstraint (e .n) (length (basicSetOf w .divisions)) (constraintOf o) → Sound q
-sound-candidate w q r o e p v =
-    record {
-      n = e .n;
-      valid = subst (Valid (e .n)) (sym (stored-candidate w q o (constraintOf o) p refl)) (candidate-valid (e .n) (basicSetOf w) (constraintOf o) (e .valid) v (let l = length-stored w in let m = e .cons in omega arith));
-      divs = let d = p .divs in let m = e .divs in omega arith;
-      cons = let d = p .cons in let m = e .cons in omega arith;
-    }
-
-pub above-valid : (n k : ℕ) (r : Constraint) → r .kind ≡ equality → ValidConstraint n k r → ValidConstraint n k (above r)
-above-valid n k r e v = subst (λ (q : Kind). All (ValidConstraint n k) (oppositesAt q r)) e (opposites-valid n k r v) .0
 
 pub tables-kept : {rows rows′ : List (List ℤ)} {place place′ kinds kinds′ : List ℕ} → Tables rows place kinds → length rows′ ≡ length rows → length place′ ≡ length place → length kinds′ ≡ length kinds → Tables rows′ place′ kinds′
 tables-kept t p q r = record { high = p ∙ t .high; long = q ∙ t .long; wide = r ∙ t .wide }

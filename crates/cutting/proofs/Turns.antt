@@ -1,14 +1,14 @@
 -- The loop of a cut: what holds between two constraints of the cutter.
 use mathlib.Core.Path.{_≡_, refl, sym, ap, ap₂, _∙_, subst}
-use mathlib.Core.Bool.{Bool, true, false, not, _&&_, _||_, cond}
+use mathlib.Core.Bool.{Bool, true, false, _&&_, _||_, cond}
 use mathlib.Core.List.{List, [], _∷_, _++_, map, append-assoc, append-nil}
 use Prim.Native.Nat.{ℕ, zero, suc, _+_, _≤_, _<_, zero-le}
 use native.Mathlib.Nat.{le-of-suc-le-suc, not-suc-le-zero, add-zero}
 use native.Mathlib.Omega.{arith}
 use native.Mathlib.Numerals.{add-one}
-use lib.Dec.{T, leb}
+use lib.Dec.{leb}
 use lib.IntN.{ℤ}
-use lib.ListN.{length, take, drop, getD, set, length-map, length-append, length-set}
+use lib.ListN.{length, take, getD, set, length-map, length-append, length-set}
 use lib.Seq.{length-take-le, getD-take, take-suc, take-all}
 use borrow.Author.Tests.{leb-true, le-leb, lt-leb}
 use Rattle.model.specs.Sets as S
@@ -19,11 +19,12 @@ use Rattle.model.specs.declared.Constraint.{Constraint as StoredConstraint}
 use Rattle.model.specs.declared.BasicSet.{BasicSet as Stored}
 use Rattle.codec.proofs.Valid.{All, ValidDivision, ValidConstraint, Valid}
 use Rattle.integers.specs.Mach.{clash}
-use Rattle.algebra.specs.Cut.{above, below, join, both, bothFits, cutBy, joinedDivisions, movedConstraints, moveConstraint, keeps, cut, cutFits, candidatesFit}
+use Rattle.algebra.specs.Cut.{above, below, cutBy, joinedDivisions, movedConstraints, moveConstraint, keeps, cut, cutFits, candidatesFit}
 use Rattle.cutting.specs.declared.pieces.CutSteps.{CutSteps}
-use Rattle.cutting.specs.declared.divisions.Joined.{Joined}
-use Rattle.cutting.specs.Cutting.{noRule, candidate, isEquality, pieceOf, stepsAt, Tables, Joining, Placed, Begun, Extending, Turning, Turned, Pair, CutIs, BothIs}
-use Rattle.cutting.proofs.Placing.{noConstraint, All-at, map-pushed}
+use Rattle.joining.specs.declared.divisions.Joined.{Joined}
+use Rattle.joining.specs.Joining.{Joining, Placed}
+use Rattle.cutting.specs.Cutting.{noRule, candidate, isEquality, pieceOf, stepsAt, Begun, Turning, Turned, Pair, CutIs, BothIs}
+use Rattle.joining.proofs.Placing.{noConstraint, All-at, map-pushed}
 use Rattle.algebra.proofs.Closed.{joined-valid, first-valid, second-valid}
 use Rattle.cutting.proofs.Steps.{bit-small, Carved, carved-start, carved-full, carved-next, carved-end}
 

@@ -1,60 +1,26 @@
--- What the functions that join and cut ask and give.
+-- What the functions that cut ask and give.
 use mathlib.Core.Path.{_≡_}
 use mathlib.Core.Bool.{Bool, true, false, _&&_, _||_, cond}
 use mathlib.Core.List.{List, [], _∷_, _++_, map}
-use mathlib.Core.Option.{Option, none, some}
 use Prim.Native.Nat.{ℕ, _+_, _*_, _/_, _%_, _≤_, _<_}
-use lib.Dec.{T, leb, ltb, eqb}
+use lib.Dec.{eqb}
 use lib.IntN.{ℤ, pos}
 use lib.ListN.{length, take, getD}
-use Rattle.model.specs.Lists.{all, any}
-use Rattle.model.specs.Sets.{Division, Kind, equality, inequality, Constraint, BasicSet}
-use Rattle.model.specs.Values.{kindIs, divisionOf, constraintOf, basicSetOf}
+use Rattle.model.specs.Sets.{Kind, equality, inequality, Constraint, BasicSet}
+use Rattle.model.specs.Values.{divisionOf, constraintOf, basicSetOf}
 use Rattle.model.specs.declared.Division.{Division as StoredDivision}
 use Rattle.model.specs.declared.Constraint.{Constraint as StoredConstraint}
 use Rattle.model.specs.declared.BasicSet.{BasicSet as Stored}
-use Rattle.codec.specs.Bytes.{coefficient, constantFits}
 use Rattle.codec.proofs.Valid.{All, ValidConstraint, Valid}
-use Rattle.algebra.specs.Cut.{above, below, seek, join, keeps, cut, cutFits, both, bothFits}
+use Rattle.algebra.specs.Cut.{above, below, keeps, cut, cutFits, both, bothFits}
 use Rattle.model.specs.Sets.{conditions}
+use Rattle.joining.specs.Joining.{Below, Above}
+use Rattle.records.specs.Sound.{Sound}
 use Rattle.sharing.specs.declared.history.Standing.{Standing}
 use Rattle.sharing.specs.Working.{Stands}
-use Rattle.cutting.specs.declared.divisions.Joined.{Joined}
 use Rattle.cutting.specs.declared.candidates.Survivors.{Survivors}
 use Rattle.cutting.specs.declared.pieces.CutSteps.{CutSteps}
 use Rattle.cutting.specs.declared.pieces.Pairing.{Pairing}
-
--- coefficients whose opposites fit
-pub record Below (r : Constraint) : Type 0 where
-  pub axes : T (all coefficient (r .axes))
-  pub divisions : T (all coefficient (r .divisions))
-
--- an equality's constant, so that e − 1 fits
-pub record Above (r : Constraint) : Type 0 where
-  pub constant : T (constantFits equality (r .constant))
-
--- place r of n, none where it is n
-abbrev pub placeOf : ℕ → ℕ → Option ℕ
-placeOf n r = cond (ltb r n) (some r) none
-
--- what `seek` finds, for each list of taken places that the flags show
-pub record Seeking (e : Division) (ds : List Division) (n : ℕ) (flags : List Bool) (r : ℕ) : Type 0 where
-  pub found : (taken : List ℕ) → ((i : ℕ) → i < n → getD flags i false ≡ any (eqb i) taken) → seek e taken 0 ds ≡ placeOf n r
-
-pub record Joining (ds es : List Division) (m : ℕ) (r : Joined) : Type 0 where
-  pub fits : r .fits ≡ leb (length (join ds es .all)) 8
-  pub few : r .divs ≤ 8
-  pub all : r .fits ≡ true → map divisionOf (take (r .divs) (r .divisions)) ≡ join ds es .all
-  pub places : r .fits ≡ true → take m (r .places) ≡ join ds es .places
-
--- places that a join within 8 divisions gives
-pub record Placed (is : List ℕ) : Type 0 where
-  pub ds : List Division
-  pub es : List Division
-  pub places : is ≡ join ds es .places
-  pub few : length (join ds es .all) ≤ 8
-
--- ---- one cut
 
 -- the lent tables of the test for fractions have the sizes that it needs
 pub record Tables (rows : List (List ℤ)) (place kinds : List ℕ) : Type 0 where
@@ -66,13 +32,6 @@ pub record Tables (rows : List (List ℤ)) (place kinds : List ℕ) : Type 0 whe
 pub record Spares (past spare : List (List ℤ)) : Type 0 where
   pub many : length past ≡ 200
   pub high : length spare ≡ 64
-
--- a value that is a valid basic set, over some number of axes
-pub record Sound (b : Stored) : Type 0 where
-  pub n : ℕ
-  pub valid : Valid n (basicSetOf b)
-  pub divs : b .divs ≤ 8
-  pub cons : b .cons ≤ 48
 
 -- with a constraint that may follow
 pub record Extending (w : Stored) (r : StoredConstraint) : Type 0 where

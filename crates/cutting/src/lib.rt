@@ -1,15 +1,8 @@
-// One cut: divisions joined, opposites, kept candidates (document 01, "Cutting rules").
+// One cut: its candidates and the pieces of those that are kept (document 01, "Cutting rules").
 mod candidates;
-mod divisions;
-mod opposites;
 mod pieces;
 
 pub use candidates::Survivors;
-pub use divisions::Joined;
-pub use divisions::join;
-pub use divisions::moved;
-pub use opposites::above;
-pub use opposites::below;
 pub use pieces::CutSteps;
 pub use pieces::Pairing;
 pub use pieces::both;

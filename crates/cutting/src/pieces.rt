@@ -1,17 +1,18 @@
 // One cut (document 01, "Cutting rules"): the kept candidates of a basic set and a cutter.
 ghost use mathlib.Core.Path.{_≡_};
-ghost use mathlib.Core.Bool.{Bool, true, false, _||_, cond};
-ghost use Prim.Native.Nat.{ℕ, _+_, _≤_, _<_};
+ghost use mathlib.Core.Bool.{true, false, _||_, cond};
+ghost use Prim.Native.Nat.{_+_, _≤_, _<_};
 ghost use Rattle.model.specs.Values.{constraintOf, basicSetOf};
 ghost use Rattle.algebra.specs.Cut as C;
-ghost use Rattle.cutting.specs.Cutting.{Begun, Tables, Spares, Sound, Putting, Keeping, Turning, Turned, Pair, CutIs, Piece, PieceIs, BothIs};
+ghost use Rattle.records.specs.Sound.{Sound};
+ghost use Rattle.cutting.specs.Cutting.{Begun, Tables, Spares, Putting, Keeping, Turning, Turned, Pair, CutIs, Piece, PieceIs, BothIs};
 use crate::candidates::Survivors;
 use crate::candidates::catch_up;
 use crate::candidates::kept;
-use crate::divisions::join;
-use crate::divisions::moved;
-use crate::opposites::above;
-use crate::opposites::below;
+use joining::above;
+use joining::below;
+use joining::join;
+use joining::moved;
 use model::BasicSet;
 use model::Constraint;
 use simplex::Verdict;

@@ -8,8 +8,8 @@ use Rattle.codec.specs.Bytes.{Answer, refused, gives, number}
 use Rattle.codec.proofs.RoundTrips.{accepted-length}
 use Rattle.algebra.specs.Result.{Result, lengthOf}
 use Rattle.algebra.proofs.Again.{Within}
-use Rattle.operations.specs.declared.results.Outcome.{Outcome}
-use Rattle.operations.specs.Outcome.{outcomeIs}
+use Rattle.results.specs.declared.results.Outcome.{Outcome}
+use Rattle.results.specs.Outcome.{outcomeIs}
 use Rattle.host.specs.Numbers.{Hosted, Short, lengthNumber}
 
 short : (n : ℕ) (a : Answer (List ℕ)) → ((l : List ℕ) → a ≡ gives l → (s : Set) × Within n l s) → Short (lengthOf a)

@@ -2,7 +2,7 @@
 ghost use mathlib.Core.Path.{_≡_};
 ghost use lib.ListN.{length};
 ghost use Rattle.algebra.specs.Operations.{unionBytes, intersectionBytes, differenceBytes, complementBytes};
-ghost use Rattle.operations.specs.Outcome.{outcomeIs};
+ghost use Rattle.results.specs.Outcome.{outcomeIs};
 ghost use Rattle.host.specs.Numbers.{Hosted, Short, lengthNumber};
 
 fn number(m: operations::Outcome) -> i64

@@ -2,14 +2,14 @@
 -- The bound goes through sums, products, negation, literals, and what a machine reads back (`toZ w (ofZ w z)`), down to facts `Within n x`,
 -- `n < m` and `Bits w s x` in reach, also in fields. It forgets signs: where a difference is smaller than a sum, use `lia-fits`. Assumes nothing.
 use mathlib.Core.Path.{sym, subst}
-use Prim.Native.Nat.{ℕ, suc, _+_, _*_, _^_, _≤_, _<_}
+use Prim.Native.Nat.{ℕ, suc, _+_, _*_, _^_, _<_}
 use native.Mathlib.Nat.{le-of-lt}
 use lib.Dec.{T, leb}
 use lib.IntN.{ℤ, pos, negsuc, negℤ, _+ℤ_, _*ℤ_}
 use mir.Syntax.{Width}
 use mir.Val.{SFits, hbits, toZ, ofZ}
 use Rattle.integers.specs.Z.{Within}
-use Rattle.integers.specs.Size.{within-self, within-mono, within-add, within-mul, within-neg, within-fits}
+use Rattle.integers.specs.Size.{within-self, within-add, within-mul, within-neg, within-fits}
 use Rattle.integers.specs.Mach.{Bits, toZ-ofZ, toZ-nat}
 
 pub record Bounded (z : ℤ) : Type 0 where
@@ -50,6 +50,3 @@ pub ruleset bounds = (tt, by-add, by-mul, by-neg, by-pos, by-negsuc, by-within, 
 
 pub fits-by : {w : Width} {z : ℤ} (x : Bounded z) → x .bound < 2 ^ hbits w → SFits w z
 fits-by x h = within-fits h (x .ok)
-
-pub within-by : {n : ℕ} {z : ℤ} (x : Bounded z) → x .bound ≤ n → Within n z
-within-by x h = within-mono h (x .ok)

@@ -11,8 +11,8 @@ use mir.Syntax.{Width}
 use mir.Val.{SFits}
 use Rattle.integers.specs.Z.{Within}
 use Rattle.integers.specs.Ring.{ring, quote}
-use Rattle.integers.specs.Lin.{le, lt, eq, abs, lin, lia-le, lia-lt, lia-eq, lia-no}
-use Rattle.integers.specs.Order.{≤ℤ-trans, ≤ℤ-antisymm, mul-le-right, lt-of-mul-lt, <ℤ-≤ℤ, pos-nonneg, mul-cancel}
+use Rattle.integers.specs.Lin.{le, lt, eq, abs, lin, lia-le, lia-lt, lia-eq}
+use Rattle.integers.specs.Order.{≤ℤ-trans, ≤ℤ-antisymm, lt-of-mul-lt, <ℤ-≤ℤ, pos-nonneg, mul-cancel}
 use Rattle.integers.specs.Size.{natAbs-neg, natAbs-zero}
 
 -- ---- toward zero
@@ -34,24 +34,9 @@ pub rem-abs : (n d : ℤ) → natAbs (remZ n d) ≡ natAbs n % natAbs d
 rem-abs (pos a) d = refl
 rem-abs (negsuc a) d = natAbs-neg (pos (suc a % natAbs d))
 
-neg-nonpos : (n : ℕ) → negℤ (pos n) ≤ℤ pos 0
-neg-nonpos n = lia-le (pos n ∷ []) (le (pos-nonneg n) ∷ []) (search lin depth 30) (omega arith)
-
 pub rem-nonneg : {n : ℤ} (d : ℤ) → pos 0 ≤ℤ n → pos 0 ≤ℤ remZ n d
 rem-nonneg {n = pos a} d h = pos-nonneg (a % natAbs d)
 rem-nonneg {n = negsuc a} d h = absurd (h .le)
-
-pub rem-nonpos : {n : ℤ} (d : ℤ) → n <ℤ pos 0 → remZ n d ≤ℤ pos 0
-rem-nonpos {n = pos zero} d h = absurd (h .lt)
-rem-nonpos {n = pos (suc a)} d h = absurd (lia-no (pos (suc a) ∷ []) (lt h ∷ le (pos-nonneg (suc a)) ∷ []) (search lin depth 30) (omega arith))
-rem-nonpos {n = negsuc a} d h = neg-nonpos (suc a % natAbs d)
-
--- a quotient is no larger than the dividend
-pub quot-size : (n d : ℤ) → natAbs (quotZ n d) ≤ natAbs n
-quot-size (pos a) (pos b) = div-le-self a b
-quot-size (pos a) (negsuc b) = le-trans (le-of-eq (natAbs-neg (pos (a / suc b)))) (div-le-self a (suc b))
-quot-size (negsuc a) (pos b) = le-trans (le-of-eq (natAbs-neg (pos (suc a / b)))) (div-le-self (suc a) b)
-quot-size (negsuc a) (negsuc b) = div-le-self (suc a) (suc b)
 
 -- ---- rounded down
 -- q is n / d rounded down, for d > 0
@@ -192,11 +177,6 @@ le-floor {n} {d} {x} h k =
     let q = floorZ n d in let f = floorZ-is n h in
     let l : x <ℤ (q +ℤ pos 1) = lt-of-mul-lt (<ℤ-≤ℤ h) (lia-lt (n ∷ d ∷ x ∷ q ∷ []) (le k ∷ lt (f .high) ∷ []) (search lin depth 30) (omega arith)) in
     lia-le (x ∷ q ∷ []) (lt l ∷ []) (search lin depth 30) (omega arith)
-
-pub floor-le : (n : ℤ) {d x : ℤ} → pos 0 <ℤ d → x ≤ℤ floorZ n d → (x *ℤ d) ≤ℤ n
-floor-le n {d} {x} h k =
-    let q = floorZ n d in let f = floorZ-is n h in
-    lia-le (n ∷ d ∷ x ∷ q ∷ []) (le (mul-le-right (<ℤ-≤ℤ h) k) ∷ le (f .low) ∷ []) (search lin depth 30) (omega arith)
 
 pub floor-mono : {m n d : ℤ} → pos 0 <ℤ d → m ≤ℤ n → floorZ m d ≤ℤ floorZ n d
 floor-mono {m} {n} {d} h k = le-floor h (≤ℤ-trans (floorZ-is m h .low) k)

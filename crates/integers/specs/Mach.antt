@@ -58,9 +58,6 @@ q-cast w n m h t x = record { e = x .e; is = x .is ∙ sym (toZ-nat w n m h t) }
 pub lt-nat : {a b : ℕ} → pos a <ℤ pos b → a < b
 lt-nat {a} {b} h = ltb→lt a b (h .lt)
 
-pub le-nat : {a b : ℕ} → pos a ≤ℤ pos b → a ≤ b
-le-nat {a} {b} h = leb→le a b (h .le)
-
 -- a call's result, from the range that the call gives: `result-is w64 _ (c .f .ok) : toZ w64 (ofZ w64 (c .f .result)) ≡ c .f .result`
 pub result-is : (w : Width) (z : ℤ) → mag z < 2 ^ hbits w → toZ w (ofZ w z) ≡ z
 result-is w z h = toZ-ofZ (record { sfits = h })

@@ -19,9 +19,6 @@ pub ≤ℤ-trans : {a b c : ℤ} → a ≤ℤ b → b ≤ℤ c → a ≤ℤ c
 pub ≤ℤ-antisymm : {a b : ℤ} → a ≤ℤ b → b ≤ℤ a → a ≡ b
 ≤ℤ-antisymm {a} {b} h k = lia-eq (a ∷ b ∷ []) (le h ∷ le k ∷ []) (search lin depth 30) (omega arith)
 
-pub ≤ℤ-<ℤ-trans : {a b c : ℤ} → a ≤ℤ b → b <ℤ c → a <ℤ c
-≤ℤ-<ℤ-trans {a} {b} {c} h k = lia-lt (a ∷ b ∷ c ∷ []) (le h ∷ lt k ∷ []) (search lin depth 30) (omega arith)
-
 pub <ℤ-≤ℤ : {a b : ℤ} → a <ℤ b → a ≤ℤ b
 <ℤ-≤ℤ {a} {b} h = lia-le (a ∷ b ∷ []) (lt h ∷ []) (search lin depth 30) (omega arith)
 
@@ -45,12 +42,6 @@ trichotomy a b = ⊎-elim inl (λ h. ⊎-elim (λ k. inr (inr k)) (λ k. inr (in
 -- ---- sums
 pub add-le : {a b c d : ℤ} → a ≤ℤ b → c ≤ℤ d → (a +ℤ c) ≤ℤ (b +ℤ d)
 add-le {a} {b} {c} {d} h k = lia-le (a ∷ b ∷ c ∷ d ∷ []) (le h ∷ le k ∷ []) (search lin depth 30) (omega arith)
-
-pub add-lt : {a b c d : ℤ} → a ≤ℤ b → c <ℤ d → (a +ℤ c) <ℤ (b +ℤ d)
-add-lt {a} {b} {c} {d} h k = lia-lt (a ∷ b ∷ c ∷ d ∷ []) (le h ∷ lt k ∷ []) (search lin depth 30) (omega arith)
-
-pub le-of-add-le : {a b : ℤ} (c : ℤ) → (a +ℤ c) ≤ℤ (b +ℤ c) → a ≤ℤ b
-le-of-add-le {a} {b} c h = lia-le (a ∷ b ∷ c ∷ []) (le h ∷ []) (search lin depth 30) (omega arith)
 
 pub sub-nonneg : {a b : ℤ} → a ≤ℤ b → pos 0 ≤ℤ (b -ℤ a)
 sub-nonneg {a} {b} h = lia-le (a ∷ b ∷ []) (le h ∷ []) (search lin depth 30) (omega arith)
@@ -112,9 +103,6 @@ mul-cancel {a} {b} {c} h e =
 -- ---- both sides times a number
 pub mul-le-left : {a b c : ℤ} → pos 0 ≤ℤ c → a ≤ℤ b → (c *ℤ a) ≤ℤ (c *ℤ b)
 mul-le-left {a} {b} {c} h k = lia-le (a ∷ b ∷ c ∷ []) (le (mul-le-right h k) ∷ []) (search lin depth 30) (omega arith)
-
-pub mul-ge-right : {a b c : ℤ} → c ≤ℤ pos 0 → a ≤ℤ b → (b *ℤ c) ≤ℤ (a *ℤ c)
-mul-ge-right {a} {b} {c} h k = lia-le (a ∷ b ∷ c ∷ []) (le (mul-nonneg (sub-nonneg h) (sub-nonneg k)) ∷ []) (search lin depth 30) (omega arith)
 
 -- a product is 0 only where a factor is
 pub mul-zero : {a b : ℤ} → a *ℤ b ≡ pos 0 → (a ≡ pos 0) ⊎ (b ≡ pos 0)

@@ -11,7 +11,7 @@ use lib.Signed.{_≤ℤ_, _<ℤ_, mag}
 use mir.Syntax.{Width, w8, w16, w32, w64, w128}
 use mir.Val.{SFits, hbits, bits}
 use Rattle.integers.specs.Z.{Within}
-use Rattle.integers.specs.Lin.{le, lt, fits, abs, lin, lia-le, lia-no, lia-abs, lia-fits, lia-nat}
+use Rattle.integers.specs.Lin.{le, lt, fits, abs, lin, lia-no, lia-abs, lia-fits, lia-nat}
 
 -- ---- natAbs
 pub natAbs-neg : (z : ℤ) → natAbs (negℤ z) ≡ natAbs z
@@ -68,12 +68,6 @@ within-sub {m} {n} {a} {b} h k = lia-abs (a ∷ b ∷ []) (abs h ∷ abs k ∷ [
 
 pub within-mul : {m n : ℕ} {a b : ℤ} → Within m a → Within n b → Within (m * n) (a *ℤ b)
 within-mul {m} {n} {a} {b} h k = record { size = le-trans (le-of-eq (natAbs-mul a b)) (mul-le-mul (h .size) (k .size)) }
-
-pub within-hi : {n : ℕ} {z : ℤ} → Within n z → z ≤ℤ pos n
-within-hi {n} {z} h = lia-le (z ∷ pos n ∷ []) (abs h ∷ []) (search lin depth 30) (omega arith)
-
-pub within-lo : {n : ℕ} {z : ℤ} → Within n z → negℤ (pos n) ≤ℤ z
-within-lo {n} {z} h = lia-le (z ∷ pos n ∷ []) (abs h ∷ []) (search lin depth 30) (omega arith)
 
 pub within-of : {n : ℕ} {z : ℤ} → negℤ (pos n) ≤ℤ z → z ≤ℤ pos n → Within n z
 within-of {n} {z} h k = lia-abs (z ∷ pos n ∷ []) (le h ∷ le k ∷ []) (search lin depth 30) (omega arith)

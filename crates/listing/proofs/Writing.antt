@@ -15,7 +15,7 @@ use lib.ListN.{length, getD, take, drop, set, length-append, length-drop, take-a
 use lib.Seq.{length-take-le, take-at, drop-drop, set-split, drop-append-add, take-suc}
 use Rattle.model.specs.Lists.{concatMap}
 use Rattle.codec.specs.Bytes.{valueOf, signed, signedList}
-use Rattle.listing.specs.Text.{digits, decimal, number}
+use Rattle.listing.specs.Text.{digits, number}
 use Rattle.listing.specs.Written.{put, Wrote, Writes, signedIn}
 
 module _ (at : ℕ) (l m o : List ℕ) (h : at + length l ≤ length o) where

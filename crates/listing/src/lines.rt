@@ -1,6 +1,6 @@
 // The lines that the script program prints, each from the start of a lent buffer. Each gives its length.
 ghost use mathlib.Core.List.{[], _∷_, _++_};
-ghost use Prim.Native.Nat.{ℕ, _+_, _≤_, _<_};
+ghost use Prim.Native.Nat.{_+_, _≤_};
 ghost use lib.IntN.{pos};
 ghost use lib.ListN.{length, take};
 ghost use Rattle.codec.specs.Bytes.{readDivision, readConstraint, kindOf};

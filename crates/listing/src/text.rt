@@ -1,13 +1,12 @@
 // Words and numbers of the output's lines, written into a lent buffer from a place on. Each gives the place after it.
-ghost use mathlib.Core.Path.{_≡_};
 ghost use mathlib.Core.List.{[]};
-ghost use Prim.Native.Nat.{ℕ, _+_, _*_, _≤_, _<_};
+ghost use Prim.Native.Nat.{_+_, _*_, _≤_, _<_};
 ghost use lib.IntN.{pos};
 ghost use lib.ListN.{length, take, drop};
 ghost use Rattle.model.specs.Lists.{concatMap};
 ghost use Rattle.codec.specs.Bytes.{signedList};
 ghost use Rattle.listing.specs.Text as T;
-ghost use Rattle.listing.specs.Written.{Wrote, Writes, signedIn};
+ghost use Rattle.listing.specs.Written.{Writes, signedIn};
 
 // Fixed bytes.
 pub fn word(out: &mut [u8], at: usize, w: &[u8]) -> usize

@@ -1,17 +1,17 @@
 -- FPL's meaning of a basic set (specs/Existential) is membership by floor divisions, and what the rational points over 1 meet.
 use mathlib.Core.Path.{_≡_, refl, sym, ap, ap₂, _∙_, subst}
 use mathlib.Core.Bool.{Bool, true, false, _&&_, _||_}
-use mathlib.Core.List.{List, [], _∷_, _++_, map}
+use mathlib.Core.List.{List, [], _∷_}
 use Prim.Native.Nat.{ℕ, zero, suc, _<_}
 use native.Mathlib.Omega.{arith}
-use lib.Dec.{T, ltb}
-use lib.IntN.{ℤ, pos, negsuc, negℤ, _+ℤ_, _-ℤ_, _*ℤ_, *ℤ-zero}
-use lib.Signed.{nonNeg, _≤ℤ_, _<ℤ_, yes-nonNeg}
+use lib.Dec.{T}
+use lib.IntN.{ℤ, pos, negℤ, _+ℤ_, _-ℤ_, _*ℤ_, *ℤ-zero}
+use lib.Signed.{_≤ℤ_, _<ℤ_, yes-nonNeg}
 use lib.ListN.{length, getD, drop, length-map}
 use Rattle.integers.specs.Ring.{ring, quote}
-use Rattle.integers.specs.Lin.{le, lt, eq, lin, lia-le, lia-lt}
-use Rattle.integers.specs.Div.{Floor, floorZ-is, floor-unique}
-use Rattle.model.specs.Lists.{all, any}
+use Rattle.integers.specs.Lin.{le, lt, lin, lia-le, lia-lt}
+use Rattle.integers.specs.Div.{floorZ-is, floor-unique}
+use Rattle.model.specs.Lists.{all}
 use Rattle.model.specs.Sets.{dot, Division, Constraint, BasicSet, Set, holds, value, quotient, quotients, inBasic, inSet, unit, lower, upper, bounds, conditions, meetsBasic}
 use Rattle.model.specs.Existential.{numerator, Remainder, Remainders, Exists, ExistsIn, here, there}
 use Rattle.model.proofs.Count.{and-left, and-right, and-make, from-T, to-T, all-append, no-suc, suc-inj}

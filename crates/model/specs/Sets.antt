@@ -1,6 +1,6 @@
 -- Points, divisions, constraints, basic sets and sets (document 01, "Points, rules, sets").
 -- Coefficients have 8 places, a point has as many coordinates as there are axes; what a list lacks counts as 0.
-use mathlib.Core.Bool.{Bool, true, false, _&&_}
+use mathlib.Core.Bool.{Bool, false, _&&_}
 use mathlib.Core.List.{List, [], _∷_, _++_, map}
 use Prim.Native.Nat.{ℕ, zero, suc, _/_}
 use lib.IntN.{ℤ, pos, negsuc, negℤ, _+ℤ_, _-ℤ_, _*ℤ_}

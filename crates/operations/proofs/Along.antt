@@ -18,9 +18,10 @@ use Rattle.codec.proofs.Valid.{All, Valid, boundary-valid}
 use Rattle.algebra.specs.Cut.{keeps, cutAll, cutAllFits, difference, differenceFits}
 use Rattle.cutting.specs.Cutting.{Tables}
 use Rattle.cutting.proofs.Steps.{tables-kept}
-use Rattle.operations.specs.declared.results.Done.{Done}
-use Rattle.operations.specs.Results.{Ready, Emits, Made, Level}
-use Rattle.operations.proofs.Chained.{made-of}
+use Rattle.results.specs.declared.results.Done.{Done}
+use Rattle.results.specs.Results.{Ready, Emits, Made}
+use Rattle.operations.specs.Operations.{Level}
+use Rattle.results.proofs.Chained.{made-of}
 use Rattle.operations.proofs.Onward.{Onward, onward-start, onward-end, onward-next, onward-stop}
 
 -- the basic sets of a up to a place are done: f of each, unless g of it is false; K is known of the number of axes

@@ -11,19 +11,21 @@ use Rattle.model.specs.Sets.{BasicSet, Set}
 use Rattle.model.proofs.Count.{to-T}
 use Rattle.codec.specs.Bytes.{Answer, refused, gives, encode, axesFit, decode, number}
 use Rattle.codec.specs.Places.{commandsOf, built, setFrom}
-use Rattle.codec.specs.Writing.{Emitted}
+use Rattle.records.specs.Writing.{Emitted}
 use Rattle.codec.proofs.Boundaries.{decode-is}
 use Rattle.codec.proofs.Parsing.{decode-bad}
 use Rattle.codec.proofs.Decoded.{encode-decode}
-use Rattle.codec.proofs.Emitting.{emitted-more, encode-more}
+use Rattle.codec.proofs.Commands.{encode-more}
+use Rattle.records.proofs.Emitting.{emitted-more}
 use Rattle.codec.proofs.Valid.{bytes-of, valid-decodes}
 use Rattle.algebra.specs.Cut.{keeps, union, unionFits, difference, differenceFits, complement, complementFits}
 use Rattle.algebra.specs.Operations.{result, onOne, onTwo}
 use Rattle.algebra.specs.Result.{Result}
-use Rattle.operations.specs.declared.results.Outcome.{Outcome}
-use Rattle.operations.specs.declared.results.Done.{Done}
-use Rattle.operations.specs.Outcome.{outcomeIs}
-use Rattle.operations.specs.Results.{Made, Finished, Sets, Checks}
+use Rattle.results.specs.declared.results.Outcome.{Outcome}
+use Rattle.results.specs.declared.results.Done.{Done}
+use Rattle.results.specs.Outcome.{outcomeIs}
+use Rattle.results.specs.Results.{Made, Finished}
+use Rattle.operations.specs.Operations.{Sets, Checks}
 
 refused-of : (x : Answer Set) (k : ℕ) → k ≡ number x → (k ≡ 0 → ⊥) → x ≡ refused k
 refused-of (refused m) k e n = ap refused (sym e)

@@ -1,5 +1,3 @@
-pub mod Chained
-pub mod Counting
 pub mod Answering
 pub mod Onward
 pub mod Along

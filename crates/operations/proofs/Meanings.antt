@@ -1,17 +1,16 @@
 -- What a call that is not refused leaves in its table (demand 3): the first bytes of the table, as many as the call answers, are a set within
 -- all ranges, and a point, however large, is in it exactly when document 01 says so of the given sets. `Result` is the calls' contract.
-use mathlib.Core.Path.{_≡_, refl, sym, ap, _∙_, subst}
+use mathlib.Core.Path.{_≡_, sym, ap, _∙_}
 use mathlib.Core.Bool.{not, _&&_, _||_}
-use mathlib.Core.List.{List, _++_}
+use mathlib.Core.List.{List}
 use Prim.Native.Nat.{ℕ, _-_}
 use lib.ListN.{length, take, replicate}
 use lib.Seq.{take-at}
-use Rattle.model.specs.Sets.{Set}
-use Rattle.codec.specs.Bytes.{Answer, refused, gives, number}
+use Rattle.codec.specs.Bytes.{Answer, refused, gives}
 use Rattle.codec.proofs.Decoded.{Bytes, no-way}
 use Rattle.algebra.specs.Cut.{keeps, union, intersection, difference}
 use Rattle.algebra.specs.Operations.{unionBytes, intersectionBytes, differenceBytes, complementBytes}
-use Rattle.algebra.specs.Result.{Result, lengthOf, tableOf}
+use Rattle.algebra.specs.Result.{Result}
 use Rattle.algebra.proofs.Contracts.{Operation, union-bytes, intersection-bytes, difference-bytes, Complement, complement-bytes}
 
 -- the bytes that a call gives are the first of its table

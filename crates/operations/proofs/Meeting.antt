@@ -13,11 +13,13 @@ use Rattle.model.proofs.Count.{and-left, and-right, to-T}
 use Rattle.codec.proofs.Valid.{Valid}
 use Rattle.algebra.specs.Cut.{keeps, both, joinFits, joinedDivisions, bothFits, intersection, intersectionFits}
 use Rattle.algebra.proofs.Closed.{both-valid}
-use Rattle.cutting.specs.Cutting.{Sound, Pair, BothIs}
+use Rattle.records.specs.Sound.{Sound}
+use Rattle.cutting.specs.Cutting.{Pair, BothIs}
 use Rattle.cutting.specs.declared.pieces.Pairing.{Pairing}
-use Rattle.operations.specs.declared.results.Done.{Done}
-use Rattle.operations.specs.Results.{Ready, Emits, Made, meeting, meetings, meetingsFit}
-use Rattle.operations.proofs.Chained.{emits-none, made-of}
+use Rattle.results.specs.declared.results.Done.{Done}
+use Rattle.results.specs.Results.{Ready, Emits, Made}
+use Rattle.operations.specs.Operations.{meeting, meetings, meetingsFit}
+use Rattle.results.proofs.Chained.{emits-none, made-of}
 use Rattle.operations.proofs.Along.{nothing}
 
 -- ---- a pair

@@ -20,11 +20,13 @@ use Rattle.codec.proofs.Valid.{All, Valid}
 use Rattle.algebra.specs.Cut.{keeps, cut, cutFits, cutAll, cutAllFits}
 use Rattle.algebra.proofs.Closed.{cut-valid}
 use Rattle.cutting.specs.declared.pieces.CutSteps.{CutSteps}
-use Rattle.cutting.specs.Cutting.{Sound, Step, pieceOf, Pair, CutIs, Piece, PieceIs}
-use Rattle.cutting.proofs.Placing.{All-at}
-use Rattle.operations.specs.declared.results.Done.{Done}
-use Rattle.operations.specs.Results.{Ready, Emits, Level}
-use Rattle.operations.proofs.Chained.{emits-none, emits-refused, emits-more, emits-stop}
+use Rattle.records.specs.Sound.{Sound}
+use Rattle.cutting.specs.Cutting.{Step, pieceOf, Pair, CutIs, Piece, PieceIs}
+use Rattle.joining.proofs.Placing.{All-at}
+use Rattle.results.specs.declared.results.Done.{Done}
+use Rattle.results.specs.Results.{Ready, Emits}
+use Rattle.operations.specs.Operations.{Level}
+use Rattle.results.proofs.Chained.{emits-none, emits-refused, emits-more, emits-stop}
 
 emits-as : {l m : Set} {f g : Bool} {o o′ : List ℕ} {s r : Done} → l ≡ m → f ≡ g → Emits m g o s r o′ → Emits l f o s r o′
 emits-as {o = o} {o′ = o′} {s = s} {r = r} p q e = subst₂ (λ (x : Set) (y : Bool). Emits x y o s r o′) (sym p) (sym q) e

@@ -1,2 +1,1 @@
-pub mod Outcome
-pub mod Results
+pub mod Operations

@@ -1,22 +1,22 @@
 // The four operations on the bytes of sets.
-ghost use mathlib.Core.Path.{_≡_};
 ghost use lib.ListN.{length};
 ghost use Rattle.codec.specs.Places.{setFrom};
 ghost use Rattle.algebra.specs.Cut as C;
 ghost use Rattle.algebra.specs.Cut.{keeps, unionFits};
 ghost use Rattle.algebra.specs.Operations.{unionBytes, intersectionBytes, differenceBytes, complementBytes};
 ghost use Rattle.algebra.specs.Result.{Result};
-ghost use Rattle.operations.specs.Outcome.{outcomeIs};
-ghost use Rattle.operations.specs.Results.{Sets, Made, Checks};
-use crate::counts::count;
+ghost use Rattle.results.specs.Outcome.{outcomeIs};
+ghost use Rattle.results.specs.Results.{Made};
+ghost use Rattle.operations.specs.Operations.{Sets, Checks};
 use crate::levels::subtract;
 use crate::pairs::intersect;
-use crate::results::Done;
-use crate::results::Outcome;
-use crate::results::finish;
-use crate::results::refuse;
 use codec::check;
-use codec::copy_bytes;
+use records::copy_bytes;
+use results::Done;
+use results::Outcome;
+use results::count;
+use results::finish;
+use results::refuse;
 
 // 0, or the refusal of the first set, or else of the second.
 fn check_two(n: usize, a: &[u8], b: &[u8]) -> u32

@@ -3,14 +3,15 @@ ghost use Rattle.model.specs.Values.{basicSetOf};
 ghost use Rattle.codec.specs.Places.{setFrom};
 ghost use Rattle.algebra.specs.Cut.{keeps, cutAll, cutAllFits, difference, differenceFits};
 ghost use Rattle.cutting.specs.Cutting.{Tables, Spares};
-ghost use Rattle.operations.specs.Results.{Ready, Emits, Made, Sets, Level};
-use crate::counts::count;
-use crate::results::Done;
-use crate::results::emit;
-use codec::decode_basic;
+ghost use Rattle.results.specs.Results.{Ready, Emits, Made};
+ghost use Rattle.operations.specs.Operations.{Sets, Level};
 use cutting::cut;
 use cutting::piece;
 use model::BasicSet;
+use records::decode_basic;
+use results::Done;
+use results::count;
+use results::emit;
 
 // The pieces that the `left` cutters from `pos` on leave of p.
 pub fn cut_all(

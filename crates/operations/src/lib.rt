@@ -1,9 +1,7 @@
 // Union, intersection, difference and complement of sets (document 01, "Cutting rules").
 mod calls;
-mod counts;
 mod levels;
 mod pairs;
-mod results;
 
 pub use calls::complement;
 pub use calls::difference;

@@ -5,13 +5,14 @@ ghost use Rattle.codec.specs.Places.{setFrom};
 ghost use Rattle.algebra.specs.Cut as C;
 ghost use Rattle.algebra.specs.Cut.{bothFits, intersection, intersectionFits};
 ghost use Rattle.cutting.specs.Cutting.{Tables, Pair};
-ghost use Rattle.operations.specs.Results.{Ready, Emits, Made, Sets, Level, meeting, meetings, meetingsFit};
-use crate::results::Done;
-use crate::results::emit;
-use codec::decode_basic;
+ghost use Rattle.results.specs.Results.{Ready, Emits, Made};
+ghost use Rattle.operations.specs.Operations.{Sets, Level, meeting, meetings, meetingsFit};
 use cutting::both;
 use cutting::keeps;
 use model::BasicSet;
+use records::decode_basic;
+use results::Done;
+use results::emit;
 
 // p and v in one, where the test for fractions keeps it.
 fn meet(

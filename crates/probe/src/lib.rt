@@ -11,7 +11,7 @@ pub extern "C" fn probe_check(n: usize, set: &[u8]) -> u32 {
 // codec::basic: the bytes of the part as far as `out` goes; the result is their number.
 #[no_mangle]
 pub extern "C" fn probe_part(n: usize, set: &[u8], k: usize, out: &mut [u8]) -> usize {
-    codec::copy_bytes(codec::basic(n, set, k), out, 0)
+    records::copy_bytes(codec::basic(n, set, k), out, 0)
 }
 
 // query::member: 1 in, 0 out, 100 and the number of a refusal.
@@ -52,7 +52,7 @@ pub extern "C" fn probe_holder<'a>(
     x8: i32,
     out: &mut [u8],
 ) -> usize {
-    codec::copy_bytes(
+    records::copy_bytes(
         query::holder(n, first, second, [x1, x2, x3, x4, x5, x6, x7, x8]),
         out,
         0,
@@ -124,7 +124,7 @@ pub extern "C" fn probe_tests(n: usize, set: &[u8], times: usize) -> usize {
     if set.len() <= at {
         return 0;
     }
-    let b = codec::decode_basic(set, at + 1);
+    let b = records::decode_basic(set, at + 1);
     let mut rows = [[0i64; 18]; 64];
     let mut place = [0usize; 80];
     let mut kinds = [0u8; 80];

@@ -1,14 +1,14 @@
 -- What the bytes' answers are, from what the code has tested.
-use mathlib.Core.Path.{_≡_, refl, sym, ap, ap₂, _∙_, subst}
-use mathlib.Core.Bool.{Bool, true, false, not, _&&_, _||_, cond}
+use mathlib.Core.Path.{_≡_, refl, sym, ap, _∙_}
+use mathlib.Core.Bool.{Bool, true, false, _||_, cond}
 use mathlib.Core.List.{List, [], _∷_}
-use Prim.Native.Nat.{ℕ, zero, suc, _≤_, _<_}
+use Prim.Native.Nat.{ℕ, suc, _≤_}
 use native.Mathlib.Omega.{arith}
-use lib.Dec.{ltb, eqb, eqb·suc-zero}
+use lib.Dec.{ltb}
 use lib.IntN.{ℤ}
 use lib.ListN.{take}
 use borrow.Author.Tests.{ltb-true, ltb-false}
-use Rattle.model.specs.Sets.{BasicSet, Set, inBasic, inSet}
+use Rattle.model.specs.Sets.{Set, inBasic, inSet}
 use Rattle.codec.specs.Bytes.{Answer, refused, gives, decode, number}
 use Rattle.codec.specs.Places.{setFrom}
 use Rattle.codec.proofs.Parsing.{decode-bad, axes-over}

@@ -1,20 +1,17 @@
 -- What is handed back is the basic set itself: the bytes of part k are those of basic set k of the set that the table decodes to.
-use mathlib.Core.Path.{_≡_, refl, sym, ap, _∙_, subst}
-use mathlib.Core.Bool.{Bool, cond}
+use mathlib.Core.Path.{_≡_, refl, sym, ap, _∙_}
 use mathlib.Core.List.{List, [], _∷_, _++_}
 use Prim.Native.Nat.{ℕ, zero, suc, _<_}
 use native.Mathlib.Nat.{not-suc-le-zero, le-of-suc-le-suc}
 use lib.Dec.{ltb, lt→ltb}
-use lib.IntN.{ℤ}
 use lib.ListN.{length, take, drop, getD, take-append-drop}
 use lib.Seq.{take-at, drop-at}
 use Rattle.model.specs.Sets.{BasicSet, Set}
 use Rattle.model.proofs.Count.{from-T}
 use Rattle.codec.specs.Bytes.{gives, encode, decode}
-use Rattle.codec.specs.Parts.{Part, nowhere, partAt, partIn, partOf, held}
+use Rattle.codec.specs.Parts.{Part, partAt, partOf, held}
 use Rattle.codec.proofs.Decoded.{Bytes, encode-decode}
-use Rattle.codec.proofs.Emitting.{encode-more}
-use Rattle.query.specs.Holder.{Table, first, second, Holder, bytesOfTable, holderBytes, holderPart}
+use Rattle.codec.proofs.Commands.{encode-more}
 
 -- three parts of the bytes: the basic sets before i, basic set i, and those behind it
 split : (s : Set) (i : ℕ) → encode s ≡ encode (take i s) ++ (encode (take 1 (drop i s)) ++ encode (drop 1 (drop i s)))

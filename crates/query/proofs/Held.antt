@@ -1,6 +1,6 @@
 -- The basic set that holds a point first (document 01, "Asking"): it holds the point, no earlier one of either table does, and where
 -- there is none no basic set of either table does.
-use mathlib.Core.Path.{_≡_, refl, sym, ap, _∙_, subst}
+use mathlib.Core.Path.{_≡_, refl, sym, _∙_, subst}
 use mathlib.Core.Bool.{Bool, true, false, _||_, cond}
 use mathlib.Core.List.{List, [], _∷_}
 use Prim.Native.Nat.{ℕ, zero, suc, _+_, _<_, suc-le-suc}
@@ -13,7 +13,7 @@ use Rattle.model.specs.Sets.{BasicSet, Set, inBasic, inSet}
 use Rattle.codec.specs.Bytes.{Answer, refused, gives, decode}
 use Rattle.codec.proofs.Decoded.{no-way}
 use Rattle.query.specs.Search.{pointFits}
-use Rattle.query.specs.Holder.{firstHolding, Table, first, second, Holder, nobody, inSecond, inEither, holderOf, onBoth, holderBytes}
+use Rattle.query.specs.Holder.{firstHolding, first, second, Holder, nobody, inSecond, inEither, holderOf, onBoth, holderBytes}
 use Rattle.model.proofs.Count.{no-suc, suc-inj, to-T}
 
 -- basic set i of s, from 0, holds x, and none before it does

@@ -1,20 +1,19 @@
 -- The loops of membership: the divisions' values, the constraints of one basic set, and the basic sets one after another.
 use mathlib.Core.Path.{_≡_, refl, sym, ap, ap₂, _∙_, subst}
 use mathlib.Core.Bool.{Bool, true, false, _&&_, _||_, cond}
-use mathlib.Core.List.{List, [], _∷_, _++_, map, append-assoc, append-nil}
-use Prim.Native.Nat.{ℕ, zero, suc, _+_, _-_, _*_, _≤_, _<_}
+use mathlib.Core.List.{List, [], _∷_, _++_, append-assoc, append-nil}
+use Prim.Native.Nat.{ℕ, suc, _+_, _-_, _*_, _≤_, _<_}
 use native.Mathlib.Numerals.{add-one}
 use native.Mathlib.Omega.{arith}
-use lib.Dec.{T, ltb, eqb}
+use lib.Dec.{eqb}
 use lib.IntN.{ℤ, pos}
 use lib.ListN.{length, take, drop, getD, set, length-set}
 use lib.Seq.{take-suc-set}
 use Rattle.integers.specs.Z.{Within}
 use Rattle.model.specs.Lists.{all}
-use Rattle.model.specs.Sets.{Division, Constraint, quotient, quotients, holds, inBasic, Set}
-use Rattle.codec.specs.Bytes.{Command, division, constraint, Counts, counted, readDivision, readConstraint, kindOf, Built}
-use Rattle.codec.specs.Places.{built, basicAt, setFrom, endOf, Checked, opened, Opened, Accepted, Boundary}
-use Rattle.codec.proofs.Walking.{added}
+use Rattle.model.specs.Sets.{Division, Constraint, quotient, quotients, holds, inBasic}
+use Rattle.codec.specs.Bytes.{division, constraint, Counts, counted, readDivision, readConstraint, kindOf, Built}
+use Rattle.codec.specs.Places.{built, setFrom, endOf, Checked, opened, Opened, Accepted, Boundary}
 use Rattle.codec.proofs.Boundaries.{boundary-start, boundary-end, boundary-next, boundary-set}
 use Rattle.query.specs.declared.membership.Span.{Span}
 use Rattle.query.specs.Holder.{firstHolding}

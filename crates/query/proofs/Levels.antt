@@ -1,16 +1,16 @@
 -- The walk of the first-point search, level by level, with what is left of the limit.
 use mathlib.Core.Path.{_≡_, refl, sym, ap, ap₂, _∙_, subst}
 use mathlib.Core.Bool.{Bool, true, false, cond}
-use mathlib.Core.List.{List, [], _∷_, _++_, map, append-nil}
+use mathlib.Core.List.{List, [], _∷_, _++_, map}
 use mathlib.Core.Option.{Option, none, some}
 use Prim.Native.Nat.{ℕ, zero, suc, _+_, _-_, _≤_, _<_}
 use native.Mathlib.Numerals.{add-one}
 use native.Mathlib.Omega.{arith}
 use lib.Dec.{leb, ltb, eqb, le→leb}
 use lib.IntN.{ℤ, pos, natAbs, _+ℤ_, _-ℤ_}
-use lib.Signed.{_≤ℤ_, leZ}
+use lib.Signed.{_≤ℤ_}
 use lib.ListN.{length, take, drop, getD, set, replicate, length-set, length-take, take-append-drop, drop-of-length-le}
-use lib.Seq.{take-suc-set, take-take, take-set-le, drop-set-lt, drop-cons, getD-take, getD-set-same, getD-set-other, take-set-lt}
+use lib.Seq.{take-suc-set, take-take, drop-set-lt, drop-cons, getD-take, getD-set-same, getD-set-other, take-set-lt}
 use borrow.Author.Tests.{le-leb, lt-leb, eqb-true, eqb-false}
 use Rattle.integers.specs.Z.{Within}
 use Rattle.integers.specs.Lin.{le, eq, abs, lin, lia-le, lia-eq, lia-abs}
@@ -20,7 +20,6 @@ use Rattle.model.specs.Lists.{any}
 use Rattle.model.specs.Sets.{Set}
 use Rattle.codec.specs.Places.{setFrom}
 use Rattle.query.specs.Search.{Interval, only, canHold, passes, Walk, orElse, oneMore, upward, width, walk, Found, at, nothing, spent, Tallied, foundOf, boxOf}
-use Rattle.query.specs.Holding.{AllWithin}
 use Rattle.query.specs.Sides.{side, limited, sidesOf, Standing, padded, trailOf}
 use Rattle.query.specs.declared.search.Trail.{Trail}
 use Rattle.query.proofs.Points.{le-yes}
@@ -110,10 +109,6 @@ module _ (limit t : ℕ) (w v : Walk) where
       go none r false q = over (borrow.Author.Tests.leb-false (t + w .tested) limit q) r
 
 -- ---- the code's trail
-found-nothing : (f : Found) (m : ℕ) → trailOf (record { found = f; tested = m }) .way ≡ 0 → f ≡ nothing
-found-nothing (at p) m e = absurd (omega arith)
-found-nothing nothing m e = refl
-found-nothing spent m e = absurd (omega arith)
 
 pub way-none : (t : Tallied) → trailOf t .way ≡ 0 → t ≡ record { found = nothing; tested = trailOf t .tested }
 way-none t e = go (t .found) (t .tested) e

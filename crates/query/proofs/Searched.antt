@@ -15,7 +15,7 @@ use Rattle.model.specs.Sets.{Set, inSet, wellFormed}
 use Rattle.codec.specs.Bytes.{Answer, refused, gives, number, decode, axesFit}
 use Rattle.codec.proofs.Decoded.{decode-formed, no-way}
 use Rattle.codec.proofs.Parsing.{decode-bad}
-use Rattle.query.specs.Search.{Interval, only, passes, Walk, walk, Found, at, nothing, spent, Tallied, foundOf, firstPoint, boxOf, boxFits, searchBytes}
+use Rattle.query.specs.Search.{Interval, only, passes, walk, Found, at, nothing, spent, Tallied, foundOf, firstPoint, boxOf, boxFits, searchBytes}
 use Rattle.model.proofs.Count.{and-left, and-right, from-T, to-T}
 use Rattle.query.proofs.Walks.{In, Says, can-pass, in-prefix, search-right}
 

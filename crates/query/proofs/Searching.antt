@@ -11,7 +11,6 @@ use lib.Signed.{leZ, _≤ℤ_}
 use lib.ListN.{length, take, drop, getD, replicate, length-drop, drop-of-length-le}
 use lib.Seq.{drop-cons}
 use borrow.Author.Tests.{ltb-true, ltb-false}
-use Rattle.integers.specs.Mach.{leZ-true}
 use Rattle.model.specs.Lists.{all}
 use Rattle.model.specs.Sets.{Set, isZero, absent}
 use Rattle.model.proofs.Count.{and-left, and-right}
@@ -20,10 +19,8 @@ use Rattle.codec.specs.Places.{setFrom}
 use Rattle.codec.proofs.Parsing.{decode-bad, axes-zero}
 use Rattle.codec.proofs.Boundaries.{decode-is}
 use Rattle.query.specs.Search.{Interval, walk, Walk, Found, at, nothing, spent, Tallied, foundOf, firstPoint, coordinate, pointFits, boxOf, boxFits, searchBytes}
-use Rattle.query.specs.Holding.{AllWithin}
-use Rattle.query.specs.Sides.{side, limited, sidesOf, Standing, ordered, Boxed, padded, trailOf, answerOf}
+use Rattle.query.specs.Sides.{limited, sidesOf, Standing, ordered, Boxed, trailOf, answerOf}
 use Rattle.query.specs.declared.search.Trail.{Trail}
-use Rattle.query.specs.declared.search.FirstPoint.{FirstPoint}
 use Rattle.query.specs.declared.search.Outcome.the-variants.{At, Nothing, Spent}
 use Rattle.query.proofs.Points.{point-within}
 use Rattle.query.proofs.Answers.{axes-most}

@@ -7,11 +7,11 @@ use native.Mathlib.Omega.{arith}
 use lib.IntN.{ℤ}
 use lib.ListN.{take}
 use Rattle.model.specs.Sets.{Set}
-use Rattle.codec.specs.Bytes.{Answer, refused, gives, decode, number}
+use Rattle.codec.specs.Bytes.{Answer, refused, decode, number}
 use Rattle.codec.specs.Places.{setFrom}
 use Rattle.codec.proofs.Boundaries.{decode-is}
 use Rattle.query.specs.Search.{pointFits}
-use Rattle.query.specs.Holder.{firstHolding, Table, first, second, Holder, nobody, inEither, holderOf, onBoth, holderBytes}
+use Rattle.query.specs.Holder.{firstHolding, first, second, nobody, inEither, holderOf, onBoth, holderBytes}
 
 pub either-first : (k j : ℕ) → (k ≡ 0 → ⊥) → record { table = first; number = k } ≡ inEither k j
 either-first zero j h = absurd (h refl)

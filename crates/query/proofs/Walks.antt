@@ -1,20 +1,19 @@
 -- The first-point search: none only where the box has no point, and a point found is the first of the box in dictionary order.
 use mathlib.Core.Path.{_≡_, refl, sym, ap, ap₂, _∙_, subst}
-use mathlib.Core.Bool.{Bool, true, false, not, _&&_, _||_, cond}
+use mathlib.Core.Bool.{Bool, true, false, _&&_, _||_, cond}
 use mathlib.Core.List.{List, [], _∷_, _++_, map, append-assoc, append-nil}
 use mathlib.Core.Logic.{_≢_, _⊎_, inl, inr}
 use mathlib.Core.Option.{Option, none, some}
-use Prim.Native.Nat.{ℕ, zero, suc, _+_, _*_, _-_, _≤_, _<_, zero-le, suc-le-suc}
+use Prim.Native.Nat.{ℕ, zero, suc, _+_, _*_, _-_, _≤_, _<_, suc-le-suc}
 use native.Mathlib.Nat.{le-of-suc-le-suc, not-suc-le-zero, zero-lt-suc, le-refl}
 use native.Mathlib.Omega.{arith}
-use lib.Dec.{T, leb, ltb, eqb, leb→le, le→leb, lt→ltb, ltb→lt, leb·suc-zero, eqb·suc-zero}
+use lib.Dec.{T, leb, ltb, leb→le, le→leb, lt→ltb, ltb→lt, leb·suc-zero, eqb·suc-zero}
 use lib.IntN.{ℤ, pos, negsuc, negℤ, natAbs, _+ℤ_, _-ℤ_, _*ℤ_, +ℤ-assoc, +ℤ-idr}
 use lib.Signed.{nonNeg, leZ, _≤ℤ_, _<ℤ_, yes-nonNeg}
-use lib.ListN.{length}
 use Rattle.integers.specs.Ring.{ring, quote}
-use Rattle.integers.specs.Lin.{le, lt, eq, lin, lia-le, lia-lt, lia-eq, lia-no}
-use Rattle.integers.specs.Order.{mul-le-right, mul-nonneg, sub-nonneg, ≤ℤ-trans, <ℤ-≤ℤ, lt-of-mul-lt, pos-nonneg}
-use Rattle.integers.specs.Div.{Floor, floorZ-is}
+use Rattle.integers.specs.Lin.{le, lt, eq, lin, lia-le, lia-lt, lia-eq}
+use Rattle.integers.specs.Order.{mul-le-right, sub-nonneg, ≤ℤ-trans, <ℤ-≤ℤ, lt-of-mul-lt, pos-nonneg}
+use Rattle.integers.specs.Div.{floorZ-is}
 use Rattle.integers.specs.Size.{natAbs-nonneg}
 use Rattle.model.specs.Lists.{all, any}
 use Rattle.model.specs.Sets.{dot, floorDiv, Division, Kind, equality, inequality, Constraint, BasicSet, Set, meets, value, holds, quotient, quotients, inConstraints, inBasic, inSet, wellFormed}

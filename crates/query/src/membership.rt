@@ -1,10 +1,9 @@
 // Membership of a point in the checked bytes of a set.
 ghost use mathlib.Core.Path.{_≡_};
-ghost use mathlib.Core.Bool.{_||_, _&&_};
-ghost use Prim.Native.Nat.{ℕ, _+_, _*_, _≤_, _<_};
-ghost use lib.Dec.{eqb};
-ghost use lib.IntN.{ℤ, pos};
-ghost use lib.ListN.{length, take, drop, getD};
+ghost use mathlib.Core.Bool.{_&&_};
+ghost use Prim.Native.Nat.{_+_, _*_, _≤_, _<_};
+ghost use lib.IntN.{pos};
+ghost use lib.ListN.{length};
 ghost use Rattle.model.specs.Sets as M;
 ghost use Rattle.codec.specs.Bytes.{readConstraint, kindOf};
 ghost use Rattle.codec.specs.Places.{Opened, Accepted, setFrom};

@@ -1,11 +1,11 @@
 // Values at a whole point, read from checked bytes.
 ghost use mathlib.Core.Path.{_≡_};
 ghost use Prim.Native.Nat.{ℕ, _+_, _*_, _≤_, _<_};
-ghost use lib.ListN.{length, take, drop};
+ghost use lib.ListN.{length, drop};
 ghost use lib.IntN.{pos};
 ghost use Rattle.integers.specs.Z.{Within};
 ghost use Rattle.model.specs.Sets.{dot, quotient, value, holds, Kind};
-ghost use Rattle.codec.specs.Bytes.{valueOf, signed, signedList, readDivision, readConstraint, kindOf};
+ghost use Rattle.codec.specs.Bytes.{signedList, readDivision, readConstraint, kindOf};
 ghost use Rattle.query.specs.Holding.{AllWithin};
 
 // The sum of the products of the coefficients from p on and the numbers x.

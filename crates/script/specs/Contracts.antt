@@ -3,9 +3,7 @@ use mathlib.Core.Path.{_≡_}
 use mathlib.Core.List.{List}
 use Prim.Native.Nat.{ℕ, suc, _≤_, _<_}
 use lib.ListN.{length, getD, set}
-use Rattle.model.specs.Lists.{all}
 use Rattle.codec.specs.Bytes.{widthOf}
-use Rattle.listing.specs.Text.{line}
 use Rattle.session.specs.Script.{room}
 use Rattle.session.specs.Turns.{Turned, stateAt, goesOn}
 use Rattle.listing.specs.Written.{Wrote}

@@ -8,7 +8,7 @@ use borrow.Author.Tests.{eqb-true, leb-true, ne-eqb}
 use lib.Dec.{leb, eqb}
 use lib.ListN.{length, getD, take, drop}
 use Rattle.model.specs.Lists.{all}
-use Rattle.codec.specs.Bytes.{Answer, refused, gives, decode, number, valueOf}
+use Rattle.codec.specs.Bytes.{Answer, refused, gives, decode, valueOf}
 use Rattle.algebra.specs.Operations.{unionBytes, intersectionBytes, differenceBytes, complementBytes}
 use Rattle.query.specs.Search.{memberBytes, searchBytes}
 use Rattle.listing.specs.Text as T

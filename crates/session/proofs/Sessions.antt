@@ -18,7 +18,7 @@ use Rattle.algebra.specs.Operations.{unionBytes, intersectionBytes, differenceB
 use Rattle.query.specs.Search.{memberBytes, searchBytes}
 use Rattle.listing.specs.Text as T
 use Rattle.session.specs.Script as S
-use Rattle.session.specs.Script.{room, setAt, setNumbers, loadBytes, commandWidth, ending, Done, refusedLine, execute, run, script, empty}
+use Rattle.session.specs.Script.{room, setAt, setNumbers, loadBytes, commandWidth, ending, Done, refusedLine, execute, run, script}
 use Rattle.listing.specs.Written.{put}
 use Rattle.session.specs.Turns.{Memory, memory, stateIn, stateOf, tableAt, keeps, Effect, none, assigns, listed, isAssignment, answerOf, effectOf, performs, shown, listingOf, memoryOf, goesOn, Turned, quiet, stateAt, lineOf, past, there, lineTurn, commandTurn, frontTurn, frontOf, turnOf, usable, headerLine, startOf, Fitted}
 use Rattle.session.specs.Session.{Session, goes, reads, closes, ends}
@@ -86,9 +86,6 @@ assigned n y m (gives l) f h p = record { state = ap (λ (x : List (List ℕ)). 
   where
     new : ℕ → ℕ → List ℕ
     new m j = tableAt (put (room * m) (tableOf room (gives l)) (y .tables)) (set (y .lengths) m (length l)) j
-
-    old : ℕ → List ℕ
-    old j = tableAt (y .tables) (y .lengths) j
 
     same : (m : ℕ) → m ≤ 3 → tableAt (put (room * m) (tableOf room (gives l)) (y .tables)) (set (y .lengths) m (length l)) m ≡ l
     same m h = kept-same (y .tables) (y .lengths) l f (p .within-room l refl) m h

@@ -1,6 +1,6 @@
 -- One row more in the tables. Assumes nothing.
-use mathlib.Core.Path.{_≡_, refl, sym, ap, ap₂, _∙_, subst}
-use mathlib.Core.Bool.{Bool, true, false}
+use mathlib.Core.Path.{_≡_, refl, sym, ap, _∙_, subst}
+use mathlib.Core.Bool.{true, false}
 use mathlib.Core.List.{List, [], _∷_, _++_, append-nil}
 use Prim.Native.Nat.{ℕ, zero, suc, _+_, _-_, _≤_, _<_, suc-le-suc}
 use native.Mathlib.Nat.{not-suc-le-zero, le-of-suc-le-suc, zero-lt-suc, add-zero}
@@ -10,16 +10,15 @@ use lib.ListN.{length, getD, set, take, drop, length-set, length-append, take-ap
 use lib.Seq.{take-suc-set, take-append-seam, length-take-le}
 use lib.IntN.{ℤ, pos}
 use lib.Signed.{_<ℤ_}
-use Rattle.simplex.specs.declared.Verdict.{Verdict}
 use Rattle.simplex.specs.declared.Verdict.the-variants.{Point, Dropped}
 use Rattle.simplex.specs.declared.Move.the-variants.{Stop}
 use Rattle.tableau.specs.Rows.{den, violatedBy, helping, Line}
-use Rattle.simplex.specs.Table.{moveOf, runTable, Fine}
+use Rattle.simplex.specs.Table.{moveOf, Fine}
 use Rattle.tableau.proofs.Searches.{Whole}
 use Rattle.sharing.specs.declared.history.Standing.{Standing}
 use Rattle.sharing.specs.Trace.{Traced, trace, Went}
-use Rattle.sharing.specs.Working.{Calm, Appended, onward}
-use Rattle.sharing.proofs.Going.{trace-stop, trace-run}
+use Rattle.sharing.specs.Working.{Calm, Appended}
+use Rattle.sharing.proofs.Going.{trace-stop}
 use Rattle.sharing.proofs.Share.{calm-point, calm-dropped}
 
 module _ {A : Type 0} where

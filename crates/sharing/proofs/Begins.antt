@@ -1,14 +1,13 @@
 -- The first table of the divisions' bounds. Assumes nothing.
-use mathlib.Core.Path.{_≡_, refl, sym, ap, ap₂, _∙_, subst}
-use mathlib.Core.Bool.{Bool, true, false, cond}
+use mathlib.Core.Path.{_≡_, refl, sym, ap, _∙_, subst}
+use mathlib.Core.Bool.{cond}
 use mathlib.Core.List.{List, [], _∷_, _++_, map}
-use mathlib.Core.Option.{Option, none, some}
-use mathlib.Core.Logic.{_⊎_, inl, inr, ⊎-elim}
+use mathlib.Core.Option.{Option, none}
+use mathlib.Core.Logic.{_⊎_, ⊎-elim}
 use Prim.Native.Nat.{ℕ, zero, suc, _+_, _-_, _*_, _≤_, _<_}
 use native.Mathlib.Nat.{not-suc-le-zero, le-of-suc-le-suc}
 use native.Mathlib.Omega.{arith}
 use borrow.Author.Tests.{lt-ltb, le-ltb}
-use lib.Dec.{ltb}
 use lib.ListN.{length, getD, take, replicate, length-map, length-replicate, List·getD-append}
 use lib.Seq.{ext-getD, getD-take, getD-append-add, length-take-le}
 use lib.IntN.{ℤ}
@@ -18,7 +17,7 @@ use Rattle.model.specs.Values.{divisionOf, basicSetOf}
 use Rattle.model.specs.declared.BasicSet.{BasicSet as Stored}
 use Rattle.simplex.specs.Table.{placeAt, kindNumber, Valid, Bounded}
 use Rattle.simplex.specs.Table as Table
-use Rattle.simplex.proofs.Shown.{tabulate-at}
+use Rattle.simplex.proofs.Columns.{tabulate-at}
 use Rattle.sharing.specs.Working.{kindOf, firstTable, firstPlace, firstKinds}
 use Rattle.sharing.proofs.Firsts.{place-long, kinds-long, kind-at}
 

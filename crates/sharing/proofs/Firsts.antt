@@ -1,26 +1,24 @@
 -- The first table of conditions: it can be run, its run is the test, and one condition more is one row more. Assumes nothing.
-use mathlib.Core.Path.{_≡_, refl, sym, ap, ap₂, _∙_, subst}
-use mathlib.Core.Bool.{Bool, true, false, cond}
+use mathlib.Core.Path.{_≡_, refl, sym, ap, ap₂, _∙_}
+use mathlib.Core.Bool.{cond}
 use mathlib.Core.List.{List, [], _∷_, _++_, map, append-assoc}
-use mathlib.Core.Option.{Option, none, some}
-use Prim.Native.Nat.{ℕ, zero, suc, _+_, _-_, _*_, _≤_, _<_}
-use native.Mathlib.Nat.{not-suc-le-zero, add-suc}
-use native.Mathlib.Numerals.{add-one}
+use mathlib.Core.Option.{Option, none}
+use Prim.Native.Nat.{ℕ, zero, suc, _+_, _-_, _≤_}
 use native.Mathlib.Omega.{arith}
 use borrow.Author.Tests.{le-ltb}
 use lib.Dec.{ltb}
 use lib.ListN.{length, getD, replicate, length-map, length-append, length-replicate}
-use lib.IntN.{ℤ, pos}
 use Rattle.model.specs.Sets.{Kind, Constraint, BasicSet, conditions}
 use Rattle.feasibility.specs.Tableau as T
 use Rattle.feasibility.specs.Tableau.{start, begin, sorts, testAt}
 use Rattle.simplex.specs.Answers.{verdictOf}
-use Rattle.simplex.specs.Table.{startRow, placeAt, kindNumber, tabulate, runTable, Fine}
-use Rattle.simplex.proofs.Shown.{tabulate-at, tabulate-length}
-use Rattle.simplex.proofs.Bridge.{Shows, run-shows}
+use Rattle.simplex.specs.Table.{startRow, placeAt, kindNumber, tabulate, Fine}
+use Rattle.simplex.proofs.Columns.{tabulate-at, tabulate-length}
+use Rattle.simplex.proofs.Shows.{Shows}
+use Rattle.simplex.proofs.Bridge.{run-shows}
 use Rattle.simplex.proofs.Fills.{map-append}
 use Rattle.simplex.proofs.Filled.{start-shows, shows-fine}
-use Rattle.sharing.specs.Trace.{Traced, trace}
+use Rattle.sharing.specs.Trace.{trace}
 use Rattle.sharing.specs.Working.{kindOf, firstTable, firstPlace, firstKinds, traceOf}
 use Rattle.sharing.proofs.Going.{trace-run}
 

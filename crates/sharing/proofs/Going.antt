@@ -1,5 +1,5 @@
 -- The run with its pivots, step by step. Assumes nothing.
-use mathlib.Core.Path.{_≡_, refl, sym, ap, ap₂, _∙_, subst}
+use mathlib.Core.Path.{_≡_, refl, sym, ap, _∙_, subst}
 use mathlib.Core.Bool.{Bool, true, false, cond}
 use mathlib.Core.List.{List, [], _∷_, _++_, map, append-nil}
 use Prim.Native.Nat.{ℕ, zero, suc, _+_, _-_, _≤_, _<_, suc-le-suc}
@@ -7,22 +7,20 @@ use native.Mathlib.Nat.{not-suc-le-zero, le-of-suc-le-suc}
 use native.Mathlib.Numerals.{add-one}
 use native.Mathlib.Omega.{arith}
 use borrow.Author.Tests.{leb-true}
-use lib.Dec.{T, leb, eqb}
+use lib.Dec.{leb, eqb}
 use lib.ListN.{length, getD, set, take, length-set, length-map}
 use lib.Seq.{take-suc-set, append-snoc, getD-set-same}
 use lib.IntN.{ℤ, pos}
-use lib.Signed.{_<ℤ_}
 use Rattle.integers.specs.Size.{bound}
 use Rattle.simplex.specs.declared.Verdict.{Verdict}
 use Rattle.simplex.specs.declared.Verdict.the-variants.{Point, Dropped, Long, Wide}
 use Rattle.simplex.specs.declared.Move.{Move}
 use Rattle.simplex.specs.declared.Move.the-variants.{Stop, Pivot}
-use Rattle.tableau.specs.Rows.{den, solveRow, rebuildRow, exchangeRows, violated, helping, narrowRows, Divisor, Line}
+use Rattle.tableau.specs.Rows.{den, solveRow, rebuildRow, exchangeRows, violated, helping, narrowRows}
 use Rattle.simplex.specs.Table.{moveOf, pivotRows, pivotPlace, runTable, Fine, Crossing}
 use Rattle.simplex.specs.Table as Table
 use Rattle.tableau.proofs.Lines.{Sound, solve-sound, divisor-of}
-use Rattle.simplex.proofs.Moves.{run-stop, run-more, pivot-left, pivot-fine, crossing, pivot-length, rows-length}
-use Rattle.sharing.specs.declared.history.Standing.{Standing}
+use Rattle.simplex.proofs.Moves.{pivot-left, pivot-fine, crossing, pivot-length, rows-length}
 use Rattle.sharing.specs.Past.{Left, Kept}
 use Rattle.sharing.specs.Trace.{Traced, stopped, prefixed, leaves, follow, trace, Went, Made}
 

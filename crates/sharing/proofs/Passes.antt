@@ -2,14 +2,14 @@
 use mathlib.Core.Path.{_≡_, refl, sym, ap, ap₂, _∙_, subst}
 use mathlib.Core.Bool.{Bool, true, false, cond}
 use mathlib.Core.List.{List, [], _∷_, _++_}
-use Prim.Native.Nat.{ℕ, zero, suc, _+_, _-_, _≤_, _<_}
+use Prim.Native.Nat.{ℕ, suc, _+_, _-_, _≤_, _<_}
 use native.Mathlib.Numerals.{add-one}
 use native.Mathlib.Omega.{arith}
 use lib.ListN.{length, getD, set, take, drop, drop-of-length-le}
 use lib.Seq.{drop-cons, take-suc, take-suc-set, getD-take, length-take-le}
 use lib.IntN.{ℤ, pos}
 use Rattle.model.specs.Sets.{isZero}
-use Rattle.tableau.specs.Rows.{den, entry, replaceRow, rebuildRow, small, narrowRow, Divisor}
+use Rattle.tableau.specs.Rows.{den, entry, replaceRow, rebuildRow, small, narrowRow}
 use Rattle.tableau.proofs.Searches.{Whole, rebuild-whole, narrow-small}
 use Rattle.sharing.specs.Past.{put, passed, through, brought, Left, Kept, Passed, Replayed}
 

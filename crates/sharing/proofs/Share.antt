@@ -2,23 +2,22 @@
 use mathlib.Core.Path.{_≡_, refl, sym, ap, ap₂, _∙_, subst, subst₂}
 use mathlib.Core.Bool.{Bool, true, false, cond}
 use mathlib.Core.List.{List, [], _∷_, _++_, map}
-use Prim.Native.Nat.{ℕ, zero, suc, _+_, _-_, _≤_, _<_, suc-le-suc}
-use native.Mathlib.Nat.{add-zero, add-suc, suc-add, not-suc-le-zero, le-of-suc-le-suc}
+use Prim.Native.Nat.{ℕ, zero, suc, _+_, _-_, _≤_, _<_}
+use native.Mathlib.Nat.{add-zero, add-suc, suc-add}
 use native.Mathlib.Omega.{arith}
 use borrow.Author.Tests.{ltb-true, lt-ltb, leb-true, leb-false}
-use lib.Dec.{T, leb, ltb, eqb}
+use lib.Dec.{T, leb, ltb}
 use lib.ListN.{length, getD, set, length-set, length-append, length-map, List·getD-append}
 use lib.Seq.{getD-append-seam, set-append-left, getD-set-same}
 use lib.IntN.{ℤ, pos}
-use Rattle.model.specs.Sets.{isZero}
 use Rattle.simplex.specs.declared.Verdict.{Verdict}
 use Rattle.simplex.specs.declared.Verdict.the-variants.{Point, Dropped, Long, Wide}
 use Rattle.simplex.specs.declared.Move.the-variants.{Stop, Pivot}
-use Rattle.tableau.specs.Rows.{den, solveRow, rebuildRow, exchangeRows, exchangeBy, first, violatedBy, violatedAt, violated, helpsBy, helpsAt, helping, narrowRow, narrowRows}
+use Rattle.tableau.specs.Rows.{solveRow, exchangeRows, exchangeBy, first, violatedBy, violatedAt, violated, helpsBy, helpsAt, helping, narrowRow, narrowRows}
 use Rattle.simplex.specs.Table.{moveOf, pivotRows, pivotPlace, Fine, Crossing}
 use Rattle.simplex.proofs.Moves.{choose-point, choose-dropped, choose-long, choose-last, row-spot, crossing, pivot-fine, rows-length}
 use Rattle.sharing.specs.Past.{put, through, brought}
-use Rattle.sharing.specs.Trace.{Traced, stopped, prefixed, leaves, trace}
+use Rattle.sharing.specs.Trace.{Traced, prefixed, leaves, trace}
 use Rattle.sharing.proofs.Going.{trace-stop, trace-more}
 
 -- ---- the first of which p holds, with one more number to look at

@@ -17,7 +17,6 @@ use Rattle.feasibility.specs.Tableau as T
 use Rattle.simplex.specs.declared.Ended.{Ended}
 use Rattle.simplex.specs.declared.Tested.the-variants.{Refused, NoSuchSet, Answers}
 use Rattle.simplex.specs.Answers.{Tests, foremost, numbered, tested, testIn, testBytes, testedOf}
-use Rattle.simplex.specs.Table.{Valid}
 
 pub asked-refused : (n : ℕ) (s : List ℕ) (k r : ℕ) → r ≡ number (decode n s) → (r ≡ 0 → ⊥) → testedOf (Refused r) ≡ testBytes n s k
 unfolding testBytes
@@ -57,6 +56,3 @@ module _ (n : ℕ) (s : List ℕ) (z : number (decode n s) ≡ 0) where
       asked-some b d x t =
           ap₂ (λ v m. gives (some (v, m))) (t .verdict-is) (t .pivots-are)
           ∙ sym (asked-is k ∙ ap (λ o. gives (tested o)) (numbered-is ∙ ap foremost (turn (st .n) s at (st .there) l b d .set)))
-
-pub decoded-valid : (s : List ℕ) (at : ℕ) (b : BasicSet) → Decoded s at b → Valid b
-decoded-valid s at b d = record { divs = d .divs; cons = d .cons; divisions = d .divisions; constraints = d .constraints }

@@ -30,9 +30,10 @@ use Rattle.feasibility.proofs.Exchange.{Shape, Shaped, shape-at}
 use Rattle.feasibility.proofs.Start.{length-from, start-shaped}
 use Rattle.feasibility.proofs.Points.{from-at, rows-from}
 use Rattle.feasibility.proofs.Verdicts.{rowVar, colVar}
-use Rattle.simplex.proofs.Shown.{lay-at, lay-length, column-in, column-low, column-mid, standing-high}
+use Rattle.simplex.proofs.Columns.{lay-at, lay-length, column-in, column-low, column-mid, standing-high}
 use Rattle.simplex.proofs.Fills.{past-end, map-append, map-get}
-use Rattle.simplex.proofs.Bridge.{Named, in-row, in-col, Shows, map-at, run-shows}
+use Rattle.simplex.proofs.Shows.{Named, in-row, in-col, Shows, map-at}
+use Rattle.simplex.proofs.Bridge.{run-shows}
 
 -- ---- a table that shows a tableau is fine
 

@@ -30,7 +30,7 @@ use Rattle.feasibility.specs.Tableau as T
 use Rattle.feasibility.specs.Tableau.{pad}
 use Rattle.simplex.specs.Table.{numberAt, startRow, placeAt, kindNumber, Copied, Started, Named, Bounded, Ruled}
 use Rattle.tableau.proofs.Lines.{zeros, zeros-at, map-zero, within-minus}
-use Rattle.simplex.proofs.Shown.{standing-low, standing-mid, standing-high, lay-is}
+use Rattle.simplex.proofs.Columns.{standing-low, standing-mid, standing-high, lay-is}
 
 -- ---- numbers of 16 and 32 bits as numbers of 64
 

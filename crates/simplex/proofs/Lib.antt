@@ -1,6 +1,9 @@
 pub mod Moves
 pub mod Canonical
+pub mod Columns
 pub mod Shown
+pub mod Shows
+pub mod Choosing
 pub mod Bridge
 pub mod Fills
 pub mod Filled

@@ -2,15 +2,15 @@
 use mathlib.Core.Path.{_≡_, refl, sym, ap, ap₂, _∙_, subst}
 use mathlib.Core.Bool.{Bool, true, false, _&&_, _||_, cond}
 use mathlib.Core.List.{List, [], _∷_, map}
-use mathlib.Core.Logic.{_⊎_, inl, inr, ⊎-elim}
+use mathlib.Core.Logic.{_⊎_, ⊎-elim}
 use Prim.Native.Nat.{ℕ, zero, suc, _+_, _-_, _*_, _≤_, _<_, _∣_, zero-le, suc-le-suc}
-use native.Mathlib.Nat.{dvd-antisymm, le-of-suc-le-suc, not-suc-le-zero}
+use native.Mathlib.Nat.{dvd-antisymm}
 use native.Mathlib.Numerals.{add-two}
 use native.Mathlib.Omega.{arith}
-use borrow.Author.Tests.{lt-ltb, le-ltb, ltb-true, ltb-false, eqb-true, eqb-false, le-leb}
-use lib.Dec.{T, ltb, leb, eqb}
+use borrow.Author.Tests.{eqb-true, eqb-false, le-leb}
+use lib.Dec.{T, leb, eqb}
 use lib.ListN.{length, getD, set, length-set, length-map}
-use lib.Seq.{ext-getD, getD-set-same, getD-set-other}
+use lib.Seq.{getD-set-same, getD-set-other}
 use lib.IntN.{ℤ, pos, negsuc, negℤ, natAbs, _+ℤ_, _-ℤ_, _*ℤ_, *ℤ-zero}
 use lib.Signed.{quotZ, ltZ, _<ℤ_, <ℤ-irrefl}
 use Rattle.integers.specs.Ring.{ring, quote}
@@ -24,155 +24,17 @@ use Rattle.model.proofs.Count.{from-T, to-T, and-left, and-right}
 use Rattle.feasibility.specs.Tableau as T
 use Rattle.feasibility.specs.Tableau.{Row, bound, reduced, positive, solved, replaced, commonDivisor, combine}
 use Rattle.tableau.specs.Rows.{den, entry, divisorFrom, reduceRow, divideRow, turnRow, turnBy, solveRow, replaceRow, rebuildRow, combineRows, minusRow, small, narrowRow}
-use Rattle.simplex.specs.Table.{tabulate, columnOf, standing, numberAt, layout}
-use Rattle.feasibility.proofs.Rows.{getD-combine, length-combine, length-neg}
+use Rattle.simplex.specs.Table.{columnOf, standing, numberAt, layout}
+use Rattle.feasibility.proofs.Rows.{length-combine, length-neg}
 use Rattle.feasibility.proofs.Reduce.{evenly, exactly, common-divides, reduced-like}
 use Rattle.feasibility.proofs.Exchange.{Shape}
 use Rattle.simplex.proofs.Canonical.{scale, common-is, divisor-is, divides-at, divides-of, lowest-terms, canonical, abs-over}
 use Rattle.tableau.proofs.Lines.{map-zero, combine-at, combine-length, row-divisor}
 use Rattle.tableau.proofs.Lines as Lines
 use Rattle.tableau.proofs.Searches.{small-within}
-
--- ---- where the columns stand
-
-module _ (k : ℕ) where
-  yes : {A : Type 0} (b : Bool) (x y : A) → b ≡ true → cond b x y ≡ x
-  yes b x y e = ap (λ c. cond c x y) e
-
-  no : {A : Type 0} (b : Bool) (x y : A) → b ≡ false → cond b x y ≡ y
-  no b x y e = ap (λ c. cond c x y) e
-
-  -- the three parts of the columns
-  pub column-low : (j : ℕ) → j < 8 → columnOf k j ≡ k + j
-  column-low j h = yes (ltb j 8) (k + j) _ (lt-ltb j 8 h)
-
-  pub column-mid : (j : ℕ) → 8 ≤ j → j < 8 + k → columnOf k j ≡ j - 8
-  column-mid j h l = no (ltb j 8) (k + j) _ (le-ltb j 8 h) ∙ yes (ltb j (8 + k)) (j - 8) j (lt-ltb j (8 + k) l)
-
-  pub column-high : (j : ℕ) → 8 + k ≤ j → columnOf k j ≡ j
-  column-high j h = no (ltb j 8) (k + j) _ (le-ltb j 8 (omega arith)) ∙ no (ltb j (8 + k)) (j - 8) j (le-ltb j (8 + k) h)
-
-  pub standing-low : (c : ℕ) → c < k → standing k c ≡ 8 + c
-  standing-low c h = yes (ltb c k) (8 + c) _ (lt-ltb c k h)
-
-  pub standing-mid : (c : ℕ) → k ≤ c → c < 8 + k → standing k c ≡ c - k
-  standing-mid c h l = no (ltb c k) (8 + c) _ (le-ltb c k h) ∙ yes (ltb c (8 + k)) (c - k) c (lt-ltb c (8 + k) l)
-
-  pub standing-high : (c : ℕ) → 8 + k ≤ c → standing k c ≡ c
-  standing-high c h = no (ltb c k) (8 + c) _ (le-ltb c k (omega arith)) ∙ no (ltb c (8 + k)) (c - k) c (le-ltb c (8 + k) h)
-
-  below : (a b : ℕ) → (a < b) ⊎ (b ≤ a)
-  below a b = at (ltb a b) refl
-    where
-      at : (t : Bool) → ltb a b ≡ t → (a < b) ⊎ (b ≤ a)
-      at true e = inl (ltb-true a b e)
-      at false e = inr (ltb-false a b e)
-
-  pub standing-column : (j : ℕ) → standing k (columnOf k j) ≡ j
-  standing-column j = ⊎-elim low (λ h. ⊎-elim (mid h) high (below j (8 + k))) (below j 8)
-    where
-      low : j < 8 → standing k (columnOf k j) ≡ j
-      low h = ap (standing k) (column-low j h) ∙ standing-mid (k + j) (omega arith) (omega arith) ∙ minus
-        where
-          minus : k + j - k ≡ j
-          minus = omega arith
-
-      mid : 8 ≤ j → j < 8 + k → standing k (columnOf k j) ≡ j
-      mid h l = ap (standing k) (column-mid j h l) ∙ standing-low (j - 8) (omega arith) ∙ minus
-        where
-          minus : 8 + (j - 8) ≡ j
-          minus = omega arith
-
-      high : 8 + k ≤ j → standing k (columnOf k j) ≡ j
-      high h = ap (standing k) (column-high j h) ∙ standing-high j h
-
-  pub column-standing : (c : ℕ) → columnOf k (standing k c) ≡ c
-  column-standing c = ⊎-elim low (λ h. ⊎-elim (mid h) high (below c (8 + k))) (below c k)
-    where
-      low : c < k → columnOf k (standing k c) ≡ c
-      low h = ap (columnOf k) (standing-low c h) ∙ column-mid (8 + c) (omega arith) (omega arith) ∙ minus
-        where
-          minus : 8 + c - 8 ≡ c
-          minus = omega arith
-
-      mid : k ≤ c → c < 8 + k → columnOf k (standing k c) ≡ c
-      mid h l = ap (columnOf k) (standing-mid c h l) ∙ column-low (c - k) (omega arith) ∙ minus
-        where
-          minus : k + (c - k) ≡ c
-          minus = omega arith
-
-      high : 8 + k ≤ c → columnOf k (standing k c) ≡ c
-      high h = ap (columnOf k) (standing-high c h) ∙ column-high c h
-
-  pub column-in : (j : ℕ) → j < 8 + k → columnOf k j < 8 + k
-  column-in j l = ⊎-elim (λ h. subst (λ n. n < 8 + k) (sym (column-low j h)) (omega arith)) (λ h. subst (λ n. n < 8 + k) (sym (column-mid j h l)) (omega arith)) (below j 8)
-
--- ---- lists by their places
-
-pub tabulate-at : {A : Type 0} (n : ℕ) (f : ℕ → A) (i : ℕ) (d : A) → i < n → getD (tabulate n f) i d ≡ f i
-tabulate-at zero f i d h = absurd (not-suc-le-zero h)
-tabulate-at (suc n) f zero d h = refl
-tabulate-at (suc n) f (suc i) d h = tabulate-at n (λ i. f (suc i)) i d (le-of-suc-le-suc h)
-
-pub tabulate-length : {A : Type 0} (n : ℕ) (f : ℕ → A) → length (tabulate n f) ≡ n
-tabulate-length zero f = refl
-tabulate-length (suc n) f = ap suc (tabulate-length n (λ i. f (suc i)))
+use Rattle.simplex.proofs.Columns.{column-in, lay, lay-at, lay-length, lay-is, number-entry, lay-entry, number-map, number-set, number-other, number-combine, number-den, number-zero}
 
 module _ (k : ℕ) (kin : k ≤ 8) where
-  abbrev lay : ℤ → List ℤ → List ℤ
-  lay d ns = tabulate 18 (numberAt k d ns)
-
-  pub lay-at : (d : ℤ) (ns : List ℤ) (i : ℕ) → i < 18 → getD (lay d ns) i (pos 0) ≡ numberAt k d ns i
-  lay-at d ns i h = tabulate-at 18 (numberAt k d ns) i (pos 0) h
-
-  pub lay-length : (d : ℤ) (ns : List ℤ) → length (lay d ns) ≡ 18
-  lay-length d ns = tabulate-length 18 (numberAt k d ns)
-
-  pub lay-is : (l : List ℤ) (d : ℤ) (ns : List ℤ) → length l ≡ 18 → ((i : ℕ) → i < 18 → getD l i (pos 0) ≡ numberAt k d ns i) → l ≡ lay d ns
-  lay-is l d ns e h =
-      ext-getD (pos 0) l (lay d ns) (e ∙ sym (lay-length d ns)) (λ i l. h i (subst (λ n. i < n) e l) ∙ sym (lay-at d ns i (subst (λ n. i < n) e l)))
-
-  -- ---- the number at a place after a change of the row
-
-  number-entry : (d : ℤ) (ns : List ℤ) (j : ℕ) → numberAt k d ns (columnOf k j + 2) ≡ getD ns (suc j) (pos 0)
-  unfolding numberAt
-  number-entry d ns j = rw add-two (ap (λ m. getD ns (suc m) (pos 0)) (standing-column k j))
-
-  pub lay-entry : (d : ℤ) (ns : List ℤ) (j : ℕ) → j < 8 + k → entry (lay d ns) (columnOf k j) ≡ getD ns (suc j) (pos 0)
-  lay-entry d ns j h = let c = column-in k j h in lay-at d ns (columnOf k j + 2) (omega arith) ∙ number-entry d ns j
-
-  number-map : (g : ℤ → ℤ) (d : ℤ) (ns : List ℤ) (i : ℕ) → g (pos 0) ≡ pos 0 → numberAt k (g d) (map g ns) i ≡ g (numberAt k d ns i)
-  unfolding numberAt
-  number-map g d ns zero e = refl
-  number-map g d ns (suc zero) e = map-zero g ns 0 e
-  number-map g d ns (suc (suc c)) e = map-zero g ns (suc (standing k c)) e
-
-  number-set : (d : ℤ) (ns : List ℤ) (j : ℕ) (x : ℤ) → suc j < length ns → numberAt k d (set ns (suc j) x) (columnOf k j + 2) ≡ x
-  number-set d ns j x h = number-entry d (set ns (suc j) x) j ∙ getD-set-same ns (suc j) x (pos 0) h
-
-  number-other : (d : ℤ) (ns : List ℤ) (j : ℕ) (x : ℤ) (i : ℕ) → (i ≡ columnOf k j + 2 → ⊥) → numberAt k d (set ns (suc j) x) i ≡ numberAt k d ns i
-  unfolding numberAt
-  number-other d ns j x zero n = refl
-  number-other d ns j x (suc zero) n = getD-set-other ns (suc j) 0 x (pos 0) (λ e. omega arith)
-  number-other d ns j x (suc (suc c)) n =
-      getD-set-other ns (suc j) (suc (standing k c)) x (pos 0)
-      (λ e. let q : standing k c ≡ j = omega arith in n (ap (λ m. suc (suc m)) (sym (column-standing k c) ∙ ap (columnOf k) q) ∙ sym (add-two (columnOf k j))))
-
-  number-combine : (d p a : ℤ) (us vs : List ℤ) (i : ℕ) → length us ≡ length vs → numberAt k d (combine p a us vs) (suc i) ≡ p *ℤ numberAt k d us (suc i) -ℤ a *ℤ numberAt k d vs (suc i)
-  unfolding numberAt
-  number-combine d p a us vs zero e = getD-combine p a us vs 0 e
-  number-combine d p a us vs (suc c) e = getD-combine p a us vs (suc (standing k c)) e
-
-  -- past the denominator it does not count
-  number-den : (d d′ : ℤ) (ns : List ℤ) (i : ℕ) → numberAt k d ns (suc i) ≡ numberAt k d′ ns (suc i)
-  unfolding numberAt
-  number-den d d′ ns zero = refl
-  number-den d d′ ns (suc c) = refl
-
-  number-zero : (d : ℤ) (ns : List ℤ) → numberAt k d ns 0 ≡ d
-  unfolding numberAt
-  number-zero d ns = refl
-
   -- ---- the common divisor
 
   -- each number of the row stands somewhere, and there is no other
@@ -183,7 +45,7 @@ module _ (k : ℕ) (kin : k ≤ 8) where
   stands Q d ns len h (suc (suc j)) l =
       let b : j < 8 + k = omega arith in
       let c = column-in k j b in
-      subst Q (number-entry d ns j) (h (columnOf k j + 2) (omega arith))
+      subst Q (number-entry k kin d ns j) (h (columnOf k j + 2) (omega arith))
 
   number-of : (Q : ℤ → Type 0) (d : ℤ) (ns : List ℤ) → ((i : ℕ) → Q (getD (d ∷ ns) i (pos 0))) → (i : ℕ) → Q (numberAt k d ns i)
   unfolding numberAt
@@ -194,20 +56,20 @@ module _ (k : ℕ) (kin : k ≤ 8) where
   number-divides : (d : ℤ) (ns : List ℤ) (g : ℕ) → Divides g (d ∷ ns) → (i : ℕ) → g ∣ natAbs (numberAt k d ns i)
   number-divides d ns g h i = number-of (λ z. g ∣ natAbs z) d ns (λ i. divides-at g (d ∷ ns) i h) i
 
-  lay-divides : (d : ℤ) (ns : List ℤ) (g : ℕ) → Divides g (d ∷ ns) → Divides g (lay d ns)
+  lay-divides : (d : ℤ) (ns : List ℤ) (g : ℕ) → Divides g (d ∷ ns) → Divides g (lay k kin d ns)
   lay-divides d ns g h =
-      divides-of g (lay d ns)
-      (λ i l. let b : i < 18 = subst (λ n. i < n) (lay-length d ns) l in subst (λ z. g ∣ natAbs z) (sym (lay-at d ns i b)) (number-divides d ns g h i))
+      divides-of g (lay k kin d ns)
+      (λ i l. let b : i < 18 = subst (λ n. i < n) (lay-length k kin d ns) l in subst (λ z. g ∣ natAbs z) (sym (lay-at k kin d ns i b)) (number-divides d ns g h i))
 
-  lay-gcd : (d : ℤ) (ns : List ℤ) → length ns ≡ suc (8 + k) → gcdAll (lay d ns) ≡ commonDivisor (d ∷ ns)
+  lay-gcd : (d : ℤ) (ns : List ℤ) → length ns ≡ suc (8 + k) → gcdAll (lay k kin d ns) ≡ commonDivisor (d ∷ ns)
   lay-gcd d ns len =
       dvd-antisymm
-      (subst (λ n. gcdAll (lay d ns) ∣ n) (sym (common-is (d ∷ ns)))
-      (gcdAll-most (gcdAll (lay d ns)) (d ∷ ns)
-      (divides-of (gcdAll (lay d ns)) (d ∷ ns)
-      (stands (λ z. gcdAll (lay d ns) ∣ natAbs z) d ns len
-      (λ i b. subst (λ z. gcdAll (lay d ns) ∣ natAbs z) (lay-at d ns i b) (divides-at (gcdAll (lay d ns)) (lay d ns) i (gcdAll-divides (lay d ns))))))))
-      (gcdAll-most (commonDivisor (d ∷ ns)) (lay d ns) (lay-divides d ns (commonDivisor (d ∷ ns)) (common-divides (d ∷ ns))))
+      (subst (λ n. gcdAll (lay k kin d ns) ∣ n) (sym (common-is (d ∷ ns)))
+      (gcdAll-most (gcdAll (lay k kin d ns)) (d ∷ ns)
+      (divides-of (gcdAll (lay k kin d ns)) (d ∷ ns)
+      (stands (λ z. gcdAll (lay k kin d ns) ∣ natAbs z) d ns len
+      (λ i b. subst (λ z. gcdAll (lay k kin d ns) ∣ natAbs z) (lay-at k kin d ns i b) (divides-at (gcdAll (lay k kin d ns)) (lay k kin d ns) i (gcdAll-divides (lay k kin d ns))))))))
+      (gcdAll-most (commonDivisor (d ∷ ns)) (lay k kin d ns) (lay-divides d ns (commonDivisor (d ∷ ns)) (common-divides (d ∷ ns))))
 
   -- ---- rows in lowest terms
 
@@ -270,10 +132,10 @@ module _ (k : ℕ) (kin : k ≤ 8) where
     zero-floor : floorDiv (pos 0) g ≡ pos 0
     zero-floor = let h = g-over in ap pos (omega (arith, native.Mathlib.Nat.div-le-self 0 g))
 
-    scaled-lay : (f : ℤ) (d′ : ℤ) (ns′ : List ℤ) → ((i : ℕ) → f *ℤ numberAt k d′ ns′ i ≡ numberAt k d ns i) → scale f (lay d′ ns′) ≡ lay d ns
+    scaled-lay : (f : ℤ) (d′ : ℤ) (ns′ : List ℤ) → ((i : ℕ) → f *ℤ numberAt k d′ ns′ i ≡ numberAt k d ns i) → scale f (lay k kin d′ ns′) ≡ lay k kin d ns
     scaled-lay f d′ ns′ h =
-        lay-is (scale f (lay d′ ns′)) d ns (length-map (lay d′ ns′) (λ x. f *ℤ x) ∙ lay-length d′ ns′)
-        (λ i b. map-zero (λ x. f *ℤ x) (lay d′ ns′) i (*ℤ-zero f) ∙ ap (λ x. f *ℤ x) (lay-at d′ ns′ i b) ∙ h i)
+        lay-is k kin (scale f (lay k kin d′ ns′)) d ns (length-map (lay k kin d′ ns′) (λ x. f *ℤ x) ∙ lay-length k kin d′ ns′)
+        (λ i b. map-zero (λ x. f *ℤ x) (lay k kin d′ ns′) i (*ℤ-zero f) ∙ ap (λ x. f *ℤ x) (lay-at k kin d′ ns′ i b) ∙ h i)
 
     even : (i : ℕ) → pos g *ℤ floorDiv (numberAt k d ns i) g ≡ numberAt k d ns i
     even i = evenly g (numberAt k d ns i) g-over (number-divides d ns g (common-divides (d ∷ ns)) i)
@@ -284,34 +146,34 @@ module _ (k : ℕ) (kin : k ≤ 8) where
         let q = evenly g (negℤ z) g-over (subst (λ m. g ∣ m) (sym (natAbs-neg z)) (number-divides d ns g (common-divides (d ∷ ns)) i)) in
         lia-eq (pos g ∷ floorDiv (negℤ z) g ∷ z ∷ []) (eq q ∷ []) (search lin depth 30) (omega arith)
 
-    finish : (f : ℤ) → natAbs f ≡ g → (f ≡ pos 0 → ⊥) → ((i : ℕ) → f *ℤ numberAt k (reduced r .den) (reduced r .nums) i ≡ numberAt k d ns i) → Terms (layout k (reduced r)) (lay d ns)
+    finish : (f : ℤ) → natAbs f ≡ g → (f ≡ pos 0 → ⊥) → ((i : ℕ) → f *ℤ numberAt k (reduced r .den) (reduced r .nums) i ≡ numberAt k d ns i) → Terms (layout k (reduced r)) (lay k kin d ns)
     finish f e m h =
         let q = scaled-lay f (reduced r .den) (reduced r .nums) h in
         record {
           factor = f;
           nonzero = m;
           times = q;
-          lowest = lowest-terms f (layout k (reduced r)) (lay d ns) m q (e ∙ sym (lay-gcd d ns len));
-          over = subst (λ z. pos 0 <ℤ z) (sym (lay-at (reduced r .den) (reduced r .nums) 0 (omega arith) ∙ number-zero (reduced r .den) (reduced r .nums))) (reduced-like r n .positive);
+          lowest = lowest-terms f (layout k (reduced r)) (lay k kin d ns) m q (e ∙ sym (lay-gcd d ns len));
+          over = subst (λ z. pos 0 <ℤ z) (sym (lay-at k kin (reduced r .den) (reduced r .nums) 0 (omega arith) ∙ number-zero k kin (reduced r .den) (reduced r .nums))) (reduced-like r n .positive);
         }
 
-  reduced-terms : (v : ℕ) (d : ℤ) (ns : List ℤ) → (d ≡ pos 0 → ⊥) → length ns ≡ suc (8 + k) → Terms (layout k (reduced (record { var = v; den = d; nums = ns }))) (lay d ns)
+  reduced-terms : (v : ℕ) (d : ℤ) (ns : List ℤ) → (d ≡ pos 0 → ⊥) → length ns ≡ suc (8 + k) → Terms (layout k (reduced (record { var = v; den = d; nums = ns }))) (lay k kin d ns)
   reduced-terms v (pos m) ns n len =
       let g = commonDivisor (pos m ∷ ns) in
       finish v (pos m) ns n len (pos g) refl (not-zero g (g-over v (pos m) ns n len))
-      (λ i. ap (λ x. pos g *ℤ x) (number-map (λ x. floorDiv x g) (pos m) ns i (zero-floor v (pos m) ns n len)) ∙ even v (pos m) ns n len i)
+      (λ i. ap (λ x. pos g *ℤ x) (number-map k kin (λ x. floorDiv x g) (pos m) ns i (zero-floor v (pos m) ns n len)) ∙ even v (pos m) ns n len i)
   reduced-terms v (negsuc m) ns n len =
       let d = negsuc m in
       let g = commonDivisor (d ∷ ns) in
       finish v d ns n len (negℤ (pos g)) (natAbs-neg (pos g)) (λ e. not-zero g (g-over v d ns n len) (sym (lib.IntN.negℤ-negℤ (pos g)) ∙ ap negℤ e))
       (λ i.
-      ap (λ x. negℤ (pos g) *ℤ x) (number-map (λ x. floorDiv x g) (pos (suc m)) (map negℤ ns) i (zero-floor v d ns n len) ∙ ap (λ x. floorDiv x g) (number-map negℤ d ns i refl))
+      ap (λ x. negℤ (pos g) *ℤ x) (number-map k kin (λ x. floorDiv x g) (pos (suc m)) (map negℤ ns) i (zero-floor v d ns n len) ∙ ap (λ x. floorDiv x g) (number-map k kin negℤ d ns i refl))
       ∙ even-neg v d ns n len i)
 
   -- a multiple of a row's numbers, in lowest terms
-  pub reduce-shows : (e : ℤ) (l : List ℤ) (v : ℕ) (d : ℤ) (ns : List ℤ) → (e ≡ pos 0 → ⊥) → pos 0 <ℤ den l → (d ≡ pos 0 → ⊥) → length ns ≡ suc (8 + k) → scale e l ≡ lay d ns
+  pub reduce-shows : (e : ℤ) (l : List ℤ) (v : ℕ) (d : ℤ) (ns : List ℤ) → (e ≡ pos 0 → ⊥) → pos 0 <ℤ den l → (d ≡ pos 0 → ⊥) → length ns ≡ suc (8 + k) → scale e l ≡ lay k kin d ns
       → reduceRow l ≡ layout k (reduced (record { var = v; den = d; nums = ns }))
-  reduce-shows e l v d ns m h n len q = terms-unique _ _ l (lay d ns) e m q (reduce-terms l h) (reduced-terms v d ns n len)
+  reduce-shows e l v d ns m h n len q = terms-unique _ _ l (lay k kin d ns) e m q (reduce-terms l h) (reduced-terms v d ns n len)
 
   -- ---- the row solved for column j
 
@@ -355,13 +217,13 @@ module _ (k : ℕ) (kin : k ≤ 8) where
     cin = let h = column-in k j jin in omega arith
 
     l-length : length l ≡ 18
-    l-length = lay-length (r .den) (r .nums)
+    l-length = lay-length k kin (r .den) (r .nums)
 
     l-entry : entry l c ≡ P
-    l-entry = lay-entry (r .den) (r .nums) j jin
+    l-entry = lay-entry k kin (r .den) (r .nums) j jin
 
     l-den : den l ≡ r .den
-    l-den = lay-at (r .den) (r .nums) 0 (omega arith) ∙ number-zero (r .den) (r .nums)
+    l-den = lay-at k kin (r .den) (r .nums) 0 (omega arith) ∙ number-zero k kin (r .den) (r .nums)
 
     abbrev solvedNums : List ℤ
     solvedNums = set (map negℤ (r .nums)) (suc j) (r .den)
@@ -370,28 +232,28 @@ module _ (k : ℕ) (kin : k ≤ 8) where
     solved-long = length-set (map negℤ (r .nums)) (suc j) (r .den) ∙ length-neg (r .nums) ∙ sh .long
 
     solved-column : numberAt k P solvedNums (c + 2) ≡ r .den
-    solved-column = number-set P (map negℤ (r .nums)) j (r .den) (subst (λ n. suc j < n) (sym (length-neg (r .nums) ∙ sh .long)) (suc-le-suc jin))
+    solved-column = number-set k kin P (map negℤ (r .nums)) j (r .den) (subst (λ n. suc j < n) (sym (length-neg (r .nums) ∙ sh .long)) (suc-le-suc jin))
 
     solved-other : (i : ℕ) → (suc i ≡ c + 2 → ⊥) → numberAt k P solvedNums (suc i) ≡ negℤ (numberAt k (r .den) (r .nums) (suc i))
     solved-other i n =
-        number-other P (map negℤ (r .nums)) j (r .den) (suc i) n
-        ∙ number-den P (negℤ (r .den)) (map negℤ (r .nums)) i
-        ∙ number-map negℤ (r .den) (r .nums) (suc i) refl
+        number-other k kin P (map negℤ (r .nums)) j (r .den) (suc i) n
+        ∙ number-den k kin P (negℤ (r .den)) (map negℤ (r .nums)) i
+        ∙ number-map k kin negℤ (r .den) (r .nums) (suc i) refl
 
     -- before it is reduced
     record Turned (u : List ℤ) : Type 0 where
       sign : ℤ
       nonzero : sign ≡ pos 0 → ⊥
-      times : scale sign u ≡ lay P solvedNums
+      times : scale sign u ≡ lay k kin P solvedNums
       over : pos 0 <ℤ den u
 
     turned-by : (e : ℤ) (u : List ℤ) → length u ≡ 18 → e *ℤ getD u 0 (pos 0) ≡ P → e *ℤ getD u (c + 2) (pos 0) ≡ r .den
-        → ((i : ℕ) → (suc i ≡ c + 2 → ⊥) → suc i < 18 → e *ℤ getD u (suc i) (pos 0) ≡ negℤ (numberAt k (r .den) (r .nums) (suc i))) → scale e u ≡ lay P solvedNums
+        → ((i : ℕ) → (suc i ≡ c + 2 → ⊥) → suc i < 18 → e *ℤ getD u (suc i) (pos 0) ≡ negℤ (numberAt k (r .den) (r .nums) (suc i))) → scale e u ≡ lay k kin P solvedNums
     turned-by e u len a b f =
-        lay-is (scale e u) P solvedNums (length-map u (λ x. e *ℤ x) ∙ len)
+        lay-is k kin (scale e u) P solvedNums (length-map u (λ x. e *ℤ x) ∙ len)
         (λ i h. map-zero (λ x. e *ℤ x) u i (*ℤ-zero e)
         ∙ by-place (λ i. i < 18 → e *ℤ getD u i (pos 0) ≡ numberAt k P solvedNums i) c
-        (λ h. a ∙ sym (number-zero P solvedNums))
+        (λ h. a ∙ sym (number-zero k kin P solvedNums))
         (λ h. b ∙ sym solved-column)
         (λ i n h. f i n h ∙ sym (solved-other i n))
         i h)
@@ -406,7 +268,7 @@ module _ (k : ℕ) (kin : k ≤ 8) where
           times = turned-by (negsuc 0) (stored l l-length c cin x y) (stored-length l l-length c cin x y)
               (ap (λ z. negsuc 0 *ℤ z) (at-den l l-length c cin x y) ∙ minus (entry l c) ∙ l-entry)
               (ap (λ z. negsuc 0 *ℤ z) (at-column l l-length c cin x y) ∙ minus (den l) ∙ l-den)
-              (λ i n h. ap (λ z. negsuc 0 *ℤ z) (elsewhere l l-length c cin x y i n ∙ lay-at (r .den) (r .nums) (suc i) h) ∙ ring (numberAt k (r .den) (r .nums) (suc i) ∷ []) (search quote depth 30) tt);
+              (λ i n h. ap (λ z. negsuc 0 *ℤ z) (elsewhere l l-length c cin x y i n ∙ lay-at k kin (r .den) (r .nums) (suc i) h) ∙ ring (numberAt k (r .den) (r .nums) (suc i) ∷ []) (search quote depth 30) tt);
           over = subst (λ z. pos 0 <ℤ z) (sym (at-den l l-length c cin x y)) (Lines.minus-positive (entry l c) t);
         }
       where
@@ -423,7 +285,7 @@ module _ (k : ℕ) (kin : k ≤ 8) where
           times = turned-by (pos 1) (stored m len c cin x y) (stored-length m len c cin x y)
               (ap (λ z. pos 1 *ℤ z) (at-den m len c cin x y) ∙ one (entry l c) ∙ l-entry)
               (ap (λ z. pos 1 *ℤ z) (at-column m len c cin x y) ∙ one (den l) ∙ l-den)
-              (λ i n h. ap (λ z. pos 1 *ℤ z) (elsewhere m len c cin x y i n ∙ map-zero (λ x. pos 0 -ℤ x) l (suc i) refl ∙ ap (λ z. pos 0 -ℤ z) (lay-at (r .den) (r .nums) (suc i) h)) ∙ ring (numberAt k (r .den) (r .nums) (suc i) ∷ []) (search quote depth 30) tt);
+              (λ i n h. ap (λ z. pos 1 *ℤ z) (elsewhere m len c cin x y i n ∙ map-zero (λ x. pos 0 -ℤ x) l (suc i) refl ∙ ap (λ z. pos 0 -ℤ z) (lay-at k kin (r .den) (r .nums) (suc i) h)) ∙ ring (numberAt k (r .den) (r .nums) (suc i) ∷ []) (search quote depth 30) tt);
           over = subst (λ z. pos 0 <ℤ z) (sym (at-den m len c cin x y)) (Lines.nonzero-positive (entry l c) t (λ e. pivot (sym l-entry ∙ e)));
         }
       where
@@ -441,17 +303,17 @@ module _ (k : ℕ) (kin : k ≤ 8) where
     abbrev p : List ℤ
     p = layout k (solved r j v)
 
-    p-terms : Terms p (lay P solvedNums)
+    p-terms : Terms p (lay k kin P solvedNums)
     p-terms = reduced-terms v P solvedNums pivot solved-long
 
     p-length : length p ≡ 18
-    p-length = lay-length (solved r j v .den) (solved r j v .nums)
+    p-length = lay-length k kin (solved r j v .den) (solved r j v .nums)
 
     p-times : (i : ℕ) → i < 18 → p-terms .factor *ℤ getD p i (pos 0) ≡ numberAt k P solvedNums i
     p-times i h =
         sym (map-zero (λ x. p-terms .factor *ℤ x) p i (*ℤ-zero (p-terms .factor)))
         ∙ ap (λ u. getD u i (pos 0)) (p-terms .times)
-        ∙ lay-at P solvedNums i h
+        ∙ lay-at k kin P solvedNums i h
 
     abbrev q : List ℤ
     q = set p 0 (pos 0)
@@ -473,13 +335,13 @@ module _ (k : ℕ) (kin : k ≤ 8) where
       o = set (layout k s) (c + 2) (pos 0)
 
       o-length : length o ≡ 18
-      o-length = length-set (layout k s) (c + 2) (pos 0) ∙ lay-length (s .den) (s .nums)
+      o-length = length-set (layout k s) (c + 2) (pos 0) ∙ lay-length k kin (s .den) (s .nums)
 
       o-other : (i : ℕ) → i < 18 → (i ≡ c + 2 → ⊥) → getD o i (pos 0) ≡ numberAt k (s .den) (s .nums) i
-      o-other i h n = getD-set-other (layout k s) (c + 2) i (pos 0) (pos 0) n ∙ lay-at (s .den) (s .nums) i h
+      o-other i h n = getD-set-other (layout k s) (c + 2) i (pos 0) (pos 0) n ∙ lay-at k kin (s .den) (s .nums) i h
 
       o-column : getD o (c + 2) (pos 0) ≡ pos 0
-      o-column = let h = cin in getD-set-same (layout k s) (c + 2) (pos 0) (pos 0) (subst (λ n. c + 2 < n) (sym (lay-length (s .den) (s .nums))) (omega arith))
+      o-column = let h = cin in getD-set-same (layout k s) (c + 2) (pos 0) (pos 0) (subst (λ n. c + 2 < n) (sym (lay-length k kin (s .den) (s .nums))) (omega arith))
 
       abbrev newNums : List ℤ
       newNums = set (combine P a (s .nums) (r .nums)) (suc j) (a *ℤ r .den)
@@ -492,14 +354,14 @@ module _ (k : ℕ) (kin : k ≤ 8) where
 
       new-column : numberAt k (P *ℤ s .den) newNums (c + 2) ≡ a *ℤ r .den
       new-column =
-          number-set (P *ℤ s .den) (combine P a (s .nums) (r .nums)) j (a *ℤ r .den) (subst (λ n. suc j < n) (sym (length-combine P a (s .nums) (r .nums) same-long ∙ ss .long)) (suc-le-suc jin))
+          number-set k kin (P *ℤ s .den) (combine P a (s .nums) (r .nums)) j (a *ℤ r .den) (subst (λ n. suc j < n) (sym (length-combine P a (s .nums) (r .nums) same-long ∙ ss .long)) (suc-le-suc jin))
 
       new-other : (i : ℕ) → (suc i ≡ c + 2 → ⊥) → numberAt k (P *ℤ s .den) newNums (suc i) ≡ P *ℤ numberAt k (s .den) (s .nums) (suc i) -ℤ a *ℤ numberAt k (r .den) (r .nums) (suc i)
       new-other i n =
           let D : ℤ = P *ℤ s .den in
-          number-other D (combine P a (s .nums) (r .nums)) j (a *ℤ r .den) (suc i) n
-          ∙ number-combine D P a (s .nums) (r .nums) i same-long
-          ∙ ap₂ (λ x y. P *ℤ x -ℤ a *ℤ y) (number-den D (s .den) (s .nums) i) (number-den D (r .den) (r .nums) i)
+          number-other k kin D (combine P a (s .nums) (r .nums)) j (a *ℤ r .den) (suc i) n
+          ∙ number-combine k kin D P a (s .nums) (r .nums) i same-long
+          ∙ ap₂ (λ x y. P *ℤ x -ℤ a *ℤ y) (number-den k kin D (s .den) (s .nums) i) (number-den k kin D (r .den) (r .nums) i)
 
       abbrev combined : List ℤ
       combined = combineRows (den p) (pos 0 -ℤ a) o q
@@ -511,11 +373,11 @@ module _ (k : ℕ) (kin : k ≤ 8) where
       f = p-terms .factor
 
       fm : f *ℤ den p ≡ P
-      fm = p-times 0 (omega arith) ∙ number-zero P solvedNums
+      fm = p-times 0 (omega arith) ∙ number-zero k kin P solvedNums
 
       at-0 : f *ℤ getD combined 0 (pos 0) ≡ P *ℤ s .den
       at-0 =
-          ap (λ z. f *ℤ z) (combined-at 0 ∙ ap₂ (λ x y. x *ℤ den p -ℤ (pos 0 -ℤ a) *ℤ y) (o-other 0 (omega arith) (λ e. omega arith) ∙ number-zero (s .den) (s .nums)) q-den)
+          ap (λ z. f *ℤ z) (combined-at 0 ∙ ap₂ (λ x y. x *ℤ den p -ℤ (pos 0 -ℤ a) *ℤ y) (o-other 0 (omega arith) (λ e. omega arith) ∙ number-zero k kin (s .den) (s .nums)) q-den)
           ∙ ring (f ∷ s .den ∷ den p ∷ a ∷ []) {b = f *ℤ den p *ℤ s .den} (search quote depth 30) tt
           ∙ ap (λ x. x *ℤ s .den) fm
 
@@ -538,12 +400,12 @@ module _ (k : ℕ) (kin : k ≤ 8) where
           ∙ ap₂ (λ y z. y *ℤ S +ℤ a *ℤ z) fm (p-times (suc i) h ∙ solved-other i n)
           ∙ ring (P ∷ S ∷ a ∷ R ∷ []) (search quote depth 30) tt
 
-      scaled : scale f combined ≡ lay (P *ℤ s .den) newNums
+      scaled : scale f combined ≡ lay k kin (P *ℤ s .den) newNums
       scaled =
-          lay-is (scale f combined) (P *ℤ s .den) newNums (length-map combined (λ x. f *ℤ x) ∙ combine-length (den p) (pos 0 -ℤ a) o q (o-length ∙ sym q-length) ∙ o-length)
+          lay-is k kin (scale f combined) (P *ℤ s .den) newNums (length-map combined (λ x. f *ℤ x) ∙ combine-length (den p) (pos 0 -ℤ a) o q (o-length ∙ sym q-length) ∙ o-length)
           (λ i h. map-zero (λ x. f *ℤ x) combined i (*ℤ-zero f)
           ∙ by-place (λ i. i < 18 → f *ℤ getD combined i (pos 0) ≡ numberAt k (P *ℤ s .den) newNums i) c
-          (λ h. at-0 ∙ sym (number-zero (P *ℤ s .den) newNums))
+          (λ h. at-0 ∙ sym (number-zero k kin (P *ℤ s .den) newNums))
           (λ h. at-c ∙ sym new-column)
           (λ i n h. at-i i n h ∙ sym (new-other i n))
           i h)
@@ -551,7 +413,7 @@ module _ (k : ℕ) (kin : k ≤ 8) where
       combined-over : pos 0 <ℤ den combined
       combined-over =
           subst (λ z. pos 0 <ℤ z)
-          (sym (combined-at 0 ∙ ap₂ (λ x y. x *ℤ den p -ℤ (pos 0 -ℤ a) *ℤ y) (o-other 0 (omega arith) (λ e. omega arith) ∙ number-zero (s .den) (s .nums)) q-den ∙ ring (s .den ∷ den p ∷ a ∷ []) {b = s .den *ℤ den p} (search quote depth 30) tt))
+          (sym (combined-at 0 ∙ ap₂ (λ x y. x *ℤ den p -ℤ (pos 0 -ℤ a) *ℤ y) (o-other 0 (omega arith) (λ e. omega arith) ∙ number-zero k kin (s .den) (s .nums)) q-den ∙ ring (s .den ∷ den p ∷ a ∷ []) {b = s .den *ℤ den p} (search quote depth 30) tt))
           (mul-pos-pos (ss .positive) (p-terms .over))
 
       new-den : P *ℤ s .den ≡ pos 0 → ⊥
@@ -560,7 +422,7 @@ module _ (k : ℕ) (kin : k ≤ 8) where
       pub rebuild-shows : rebuildRow c (den p) q (layout k s) ≡ layout k (replaced r j s)
       unfolding rebuildRow replaceRow
       rebuild-shows =
-          ap (λ z. cond (isZero z) (layout k s) (reduceRow (combineRows (den p) (pos 0 -ℤ z) o q))) (lay-entry (s .den) (s .nums) j jin)
+          ap (λ z. cond (isZero z) (layout k s) (reduceRow (combineRows (den p) (pos 0 -ℤ z) o q))) (lay-entry k kin (s .den) (s .nums) j jin)
           ∙ at (isZero a)
         where
           at : (b : Bool) → cond b (layout k s) (reduceRow combined) ≡ layout k (cond b s (reduced (record { var = s .var; den = P *ℤ s .den; nums = newNums })))
@@ -578,7 +440,7 @@ module _ (k : ℕ) (kin : k ≤ 8) where
       same (small (layout k r)) (all within-bound (r .den ∷ r .nums))
       (λ e. all-of (r .den ∷ r .nums)
       (stands (λ z. within-bound z ≡ true) (r .den) (r .nums) (sh .long)
-      (λ i h. le-leb _ _ (subst (λ z. natAbs z ≤ bound 64) (lay-at (r .den) (r .nums) i h) (small-within (layout k r) e i .size)))))
+      (λ i h. le-leb _ _ (subst (λ z. natAbs z ≤ bound 64) (lay-at k kin (r .den) (r .nums) i h) (small-within (layout k r) e i .size)))))
       (λ e. small-of (layout k r)
       (λ i. by-length i (number-of (λ z. within-bound z ≡ true) (r .den) (r .nums) (all-at (r .den ∷ r .nums) e))))
     where
@@ -601,11 +463,11 @@ module _ (k : ℕ) (kin : k ≤ 8) where
       small-of (x ∷ l) h = ap₂ (λ a b. cond a b false) (h 0 (suc-le-suc zero-le)) (small-of l (λ i b. h (suc i) (suc-le-suc b)))
 
       by-length : (i : ℕ) → ((i : ℕ) → within-bound (numberAt k (r .den) (r .nums) i) ≡ true) → i < length (layout k r) → within-bound (getD (layout k r) i (pos 0)) ≡ true
-      by-length i h l = ap within-bound (lay-at (r .den) (r .nums) i (subst (λ n. i < n) (lay-length (r .den) (r .nums)) l)) ∙ h i
+      by-length i h l = ap within-bound (lay-at k kin (r .den) (r .nums) i (subst (λ n. i < n) (lay-length k kin (r .den) (r .nums)) l)) ∙ h i
 
   pub narrow-shows : (r : Row) (j : ℕ) → j < 8 + k → Shape (8 + k) r → narrowRow (columnOf k j) (layout k r) ≡ (isZero (T.entry r j) || all within-bound (r .den ∷ r .nums))
   narrow-shows r j jin sh =
-      ap₂ (λ z b. cond (isZero z) true b) (lay-entry (r .den) (r .nums) j jin) (small-shows r sh) ∙ either (isZero (T.entry r j)) (all within-bound (r .den ∷ r .nums))
+      ap₂ (λ z b. cond (isZero z) true b) (lay-entry k kin (r .den) (r .nums) j jin) (small-shows r sh) ∙ either (isZero (T.entry r j)) (all within-bound (r .den ∷ r .nums))
     where
       either : (a b : Bool) → cond a true b ≡ (a || b)
       either true b = refl

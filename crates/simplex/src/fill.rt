@@ -6,7 +6,7 @@ ghost use Prim.Native.Nat.{_+_, _*_, _<_, _≤_};
 ghost use mathlib.Core.Bool.{cond};
 ghost use lib.ListN.{length};
 ghost use lib.Dec.{ltb};
-ghost use lib.IntN.{ℤ, pos, negℤ, _-ℤ_, _*ℤ_};
+ghost use lib.IntN.{pos, negℤ, _-ℤ_, _*ℤ_};
 ghost use Rattle.integers.specs.Z.{Within};
 ghost use Rattle.model.specs.Sets.{lower, upper};
 ghost use Rattle.model.specs.Values.{divisionOf, constraintOf, kindIs};

@@ -70,6 +70,6 @@ pub fn test(n: usize, set: &[u8], k: usize) -> Tested
     if set.len() <= at {
         return Tested::NoSuchSet;
     }
-    let b = codec::decode_basic(set, at + 1);
+    let b = records::decode_basic(set, at + 1);
     Tested::Answers(test_alone(b))
 }

@@ -7,7 +7,7 @@ use Rattle.probe.proofs.probe_tests.Tie as tie
 use Rattle.probe.proofs.probe_tests.Reads as reads
 use Rattle.probe.proofs.probe_tests.Lts as lts
 use Rattle.codec.proofs.check.Reads as check-reads
-use Rattle.codec.proofs.decode_basic.Reads as decode-basic-reads
+use Rattle.records.proofs.decode_basic.Reads as decode-basic-reads
 use Rattle.codec.proofs.start_of.Reads as start-of-reads
 use Rattle.probe.proofs.tests.Reads as tests-reads
 

@@ -1,8 +1,6 @@
-use borrow.Author.Tests.{ne-eqb, eq-eqb, lt-ltb, le-ltb, le-leb, lt-leb}
-use native.Mathlib.Omega.{arith}
-use mathlib.Core.Path.{_≡_, refl, sym, ap, ap₂, _∙_}
-use Prim.Native.Nat.{ℕ, _+_, _-_, _*_, _≤_, _<_}
-use lib.ListN.{length, take, drop, getD, length-drop}
+use borrow.Author.Tests.{ne-eqb}
+use mathlib.Core.Path.{sym}
+use Prim.Native.Nat.{_-_}
 use Rattle.codec.proofs.Parsing.{equality-test}
 use Rattle.codec.proofs.checking.constraint_constant_in.Statement.{statement}
 use Rattle.codec.proofs.checking.constraint_constant_in.Tie as tie

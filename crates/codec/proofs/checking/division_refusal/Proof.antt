@@ -1,15 +1,10 @@
-use borrow.Author.Tests.{ne-eqb, eq-eqb, lt-ltb, le-ltb, le-leb, lt-leb, not-true, not-false}
-use native.Mathlib.Omega.{arith}
-use mathlib.Core.Path.{_≡_, refl, sym, ap, ap₂, _∙_}
-use mathlib.Core.Bool.{Bool, true, false, _&&_}
-use mathlib.Core.List.{List}
-use Prim.Native.Nat.{ℕ, _+_, _-_, _*_, _≤_, _<_}
-use lib.ListN.{length, take, drop, getD}
+use borrow.Author.Tests.{ne-eqb, eq-eqb, lt-ltb, le-ltb, not-true, not-false}
+use mathlib.Core.Path.{sym, ap, _∙_}
+use Prim.Native.Nat.{ℕ, _-_}
+use lib.ListN.{take, drop}
 use lib.IntN.{pos, negsuc}
 use Rattle.model.specs.Lists.{all}
-use Rattle.model.specs.Sets.{isZero, absent}
-use Rattle.codec.specs.Bytes.{valueOf, signed, signedList, within, coefficient, constantFits}
-use Rattle.codec.specs.Checking.{countsOf}
+use Rattle.codec.specs.Bytes.{valueOf, signed, signedList, within, coefficient}
 use Rattle.codec.proofs.Parsing.{pos-ltb, both, first-no, second-no, divisor-zero, divisor-over, divisor-in, absent-of}
 use borrow.Author.Needs.{needs}
 use Rattle.codec.proofs.checking.division_refusal.Statement.{statement}

@@ -1,15 +1,10 @@
-use borrow.Author.Tests.{ne-eqb, eq-eqb, lt-ltb, le-ltb, le-leb, lt-leb, not-true, not-false}
 use native.Mathlib.Omega.{arith}
-use mathlib.Core.Path.{_≡_, refl, sym, ap, ap₂, _∙_}
-use mathlib.Core.Bool.{Bool, true, false, _&&_}
+use mathlib.Core.Path.{sym, ap, _∙_}
 use mathlib.Core.List.{List}
-use Prim.Native.Nat.{ℕ, _+_, _-_, _*_, _≤_, _<_}
-use lib.ListN.{length, take, drop, getD}
-use lib.IntN.{pos, negsuc}
-use Rattle.model.specs.Lists.{all}
-use Rattle.model.specs.Sets.{isZero, absent}
+use Prim.Native.Nat.{ℕ, _+_, _-_}
+use lib.ListN.{length, drop, getD}
 use Rattle.codec.specs.Bytes as B
-use Rattle.codec.specs.Bytes.{kindOf, valueOf, signed, signedList, within, coefficient, constantFits}
+use Rattle.codec.specs.Bytes.{kindOf}
 use Rattle.codec.specs.Checking.{countsOf}
 use Rattle.codec.proofs.Parsing.{head-unknown, head-cut, head-at, room, read-opens, read-division, read-constraint, width-division, width-constraint}
 use borrow.Author.Needs.{needs}

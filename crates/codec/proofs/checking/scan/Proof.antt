@@ -1,19 +1,13 @@
 use Rattle.codec.proofs.Parsing.{accepted, left-same}
-use Rattle.codec.proofs.Parsing.{axes-zero, axes-over, axes-in}
+use Rattle.codec.proofs.Parsing.{axes-in}
 use borrow.Author.Needs.{needs}
-use borrow.Author.Tests.{ne-eqb, eq-eqb, lt-ltb, le-ltb, le-leb, lt-leb}
 use native.Mathlib.Omega.{arith}
-use mathlib.Core.Path.{_≡_, refl, sym, ap, ap₂, _∙_}
-use mathlib.Core.Bool.{Bool, true, false, _&&_}
-use mathlib.Core.List.{List}
-use Prim.Native.Nat.{ℕ, _+_, _-_, _*_, _≤_, _<_}
-use lib.ListN.{length, take, drop, getD}
-use Rattle.model.specs.Lists.{all}
-use Rattle.model.specs.Sets.{isZero}
+use mathlib.Core.Path.{_≡_, sym, _∙_}
+use Prim.Native.Nat.{_+_, _-_}
+use lib.ListN.{length, drop, getD}
 use Rattle.codec.specs.Bytes as B
 use Rattle.codec.specs.Checking.{countsOf}
-use Rattle.codec.specs.Bytes.{kindOf}
-use Rattle.codec.proofs.Parsing.{Left, left-start, left-end, left-stop, left-next, decode-bad, decode-good}
+use Rattle.codec.proofs.Parsing.{Left, left-start, left-end, left-stop, left-next, decode-good}
 use Rattle.codec.proofs.checking.scan.Statement.{statement}
 use Rattle.codec.proofs.checking.scan.Tie as tie
 

@@ -1,7 +1,7 @@
-use mathlib.Core.Path.{_≡_, refl, sym, ap, _∙_, subst}
-use Prim.Native.Nat.{ℕ, _+_, _-_, _≤_, _<_}
+use mathlib.Core.Path.{sym, ap, subst}
+use Prim.Native.Nat.{ℕ, _+_, _-_}
 use native.Mathlib.Omega.{arith}
-use lib.ListN.{length, getD}
+use lib.ListN.{length}
 use Rattle.codec.proofs.Boundaries.{boundary-opened, boundary-end}
 use Rattle.codec.proofs.Located.{Counting, counting-start, counting-next}
 use Rattle.codec.proofs.parts.count.Statement.{statement}

@@ -1,5 +1,5 @@
 use mathlib.Core.Path.{refl, ap}
-use Prim.Native.Nat.{ℕ, _+_}
+use Prim.Native.Nat.{ℕ}
 use native.Mathlib.Nat.{add-comm}
 use borrow.Author.Needs.{needs}
 use Rattle.codec.proofs.parts.part.Statement.{statement}

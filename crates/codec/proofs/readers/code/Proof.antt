@@ -1,17 +1,6 @@
-use native.Mathlib.Omega.{arith}
-use mathlib.Core.Path.{_≡_, refl, sym, ap, ap₂, _∙_, subst}
-use mathlib.Core.Bool.{Bool, true, false, _&&_, _||_}
-use mathlib.Core.List.{List, [], _∷_, map}
-use Prim.Native.Nat.{ℕ, _+_, _-_, _*_, _≤_, _<_}
-use lib.ListN.{length, take, drop, getD, set, length-set, length-take, List·getD-eq-default}
-use lib.Dec.{eqb}
-use lib.IntN.{ℤ, pos}
-use mir.Syntax.{w64}
-use borrow.Author.Tests.{ne-eqb}
-use Rattle.integers.specs.Mach.{result-is}
-use Rattle.codec.specs.Bytes.{valueOf, signed, signedList, readDivision, readConstraint, kindOf}
-use Rattle.codec.specs.Places.{Opened, Decoded}
-use Rattle.model.specs.Values.{divisionOf, constraintOf}
+use mathlib.Core.Path.{sym}
+use Prim.Native.Nat.{_-_}
+use lib.ListN.{List·getD-eq-default}
 use borrow.Author.Needs.{needs}
 use Rattle.codec.proofs.readers.code.Statement.{statement}
 use Rattle.codec.proofs.readers.code.Tie as tie

@@ -7,7 +7,7 @@ use Rattle.session.proofs.Commands.{number-good, numbers-one}
 use Rattle.listing.proofs.Writing.{writes-same}
 use Rattle.session.specs.Turns.{stateIn, answerOf, memory}
 use Rattle.commands.specs.Contracts.{tells, doneLine}
-use Rattle.operations.specs.Outcome.{outcomeIs}
+use Rattle.results.specs.Outcome.{outcomeIs}
 use Rattle.session.specs.Script.{room}
 use Rattle.codec.specs.Bytes.{Answer}
 use Rattle.algebra.specs.Result.{Result}

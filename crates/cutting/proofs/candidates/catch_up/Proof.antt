@@ -1,10 +1,7 @@
-use mathlib.Core.Path.{_≡_, refl, sym, ap, ap₂, _∙_, subst}
-use mathlib.Core.Bool.{Bool, true, false, _&&_, _||_, cond}
-use mathlib.Core.List.{List, [], _∷_, _++_, map}
-use Prim.Native.Nat.{ℕ, _+_, _-_, _*_, _≤_, _<_}
+use mathlib.Core.Path.{_≡_, sym, _∙_}
+use Prim.Native.Nat.{_-_}
 use native.Mathlib.Omega.{arith}
-use lib.ListN.{length, take, getD, set, length-set, length-map}
-use Rattle.model.specs.Values.{kindIs, divisionOf, constraintOf, basicSetOf}
+use lib.ListN.{length, length-map}
 use Rattle.algebra.specs.Cut as C
 use Rattle.cutting.specs.Cutting.{Behind}
 use Rattle.cutting.proofs.Catching.{behind-end, behind-inside, behind-growing, behind-grown}

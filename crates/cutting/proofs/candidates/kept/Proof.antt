@@ -1,10 +1,7 @@
-use mathlib.Core.Path.{_≡_, refl, sym, ap, ap₂, _∙_, subst}
-use mathlib.Core.Bool.{Bool, true, false, _&&_, _||_, cond}
-use mathlib.Core.List.{List, [], _∷_, _++_, map}
-use Prim.Native.Nat.{ℕ, _+_, _-_, _*_, _≤_, _<_}
-use native.Mathlib.Omega.{arith}
-use lib.ListN.{length, take, getD, set, length-set, length-map}
-use Rattle.model.specs.Values.{kindIs, divisionOf, constraintOf, basicSetOf}
+use mathlib.Core.Path.{_≡_, refl, sym, ap, _∙_}
+use mathlib.Core.Bool.{Bool, true, false, _&&_}
+use Prim.Native.Nat.{_-_}
+use Rattle.model.specs.Values.{kindIs, constraintOf}
 use Rattle.algebra.specs.Cut as C
 use Rattle.cutting.specs.Cutting.{candidate, isEquality}
 use Rattle.cutting.proofs.Catching.{opposite-plain}
@@ -14,8 +11,8 @@ use Rattle.cutting.proofs.candidates.kept.Tie as tie
 use Rattle.cutting.proofs.candidates.kept.Reads as reads
 use Rattle.cutting.proofs.candidates.kept.Lts as lts
 use Rattle.cutting.proofs.candidates.survives.Reads as survives-reads
-use Rattle.cutting.proofs.opposites.above.Reads as above-reads
-use Rattle.cutting.proofs.opposites.below.Reads as below-reads
+use Rattle.joining.proofs.above.Reads as above-reads
+use Rattle.joining.proofs.below.Reads as below-reads
 
 below-requires : tie.Need-below-requires
 below-requires c κs = search needs

@@ -1,7 +1,7 @@
-use mathlib.Core.Path.{_≡_, refl, sym, ap, ap₂, _∙_, subst}
-use mathlib.Core.Bool.{Bool, true, false}
+use mathlib.Core.Path.{_≡_}
+use mathlib.Core.Bool.{true}
 use mathlib.Core.List.{[]}
-use Prim.Native.Nat.{ℕ, _+_, _-_, _*_, _≤_, _<_}
+use Prim.Native.Nat.{_-_, _≤_}
 use native.Mathlib.Omega.{arith}
 use borrow.Author.Tests.{not-true, not-false}
 use lib.ListN.{length, take, length-map}
@@ -11,8 +11,8 @@ use Rattle.cutting.proofs.pieces.both.Statement.{statement}
 use Rattle.cutting.proofs.pieces.both.Tie as tie
 use Rattle.cutting.proofs.pieces.both.Reads as reads
 use Rattle.cutting.proofs.pieces.both.Lts as lts
-use Rattle.cutting.proofs.divisions.join.Reads as join-reads
-use Rattle.cutting.proofs.divisions.moved.Reads as moved-reads
+use Rattle.joining.proofs.join.Reads as join-reads
+use Rattle.joining.proofs.moved.Reads as moved-reads
 
 abbrev Inv-loop : tie.InvT-loop
 Inv-loop c n m j fits cons more places constraints₀ k₀ constraints k =

@@ -1,10 +1,9 @@
-use mathlib.Core.Path.{_≡_, refl, sym, ap, ap₂, _∙_, subst}
-use mathlib.Core.Bool.{Bool, true, false, _&&_, _||_, cond}
-use mathlib.Core.List.{List, [], _∷_, _++_, map}
-use Prim.Native.Nat.{ℕ, _+_, _-_, _*_, _≤_, _<_}
+use mathlib.Core.Path.{_≡_, refl, sym, _∙_}
+use mathlib.Core.Bool.{true}
+use Prim.Native.Nat.{_-_, _≤_}
 use native.Mathlib.Omega.{arith}
-use lib.ListN.{length, take, getD, set, length-set, length-map}
-use Rattle.model.specs.Values.{kindIs, divisionOf, constraintOf, basicSetOf}
+use lib.ListN.{length, length-map}
+use Rattle.model.specs.Values.{basicSetOf}
 use Rattle.algebra.specs.Cut as C
 use borrow.Author.Tests.{not-true, not-false}
 use Rattle.cutting.specs.Cutting.{Behind}
@@ -17,8 +16,8 @@ use Rattle.cutting.proofs.pieces.cut.Reads as reads
 use Rattle.cutting.proofs.pieces.cut.Lts as lts
 use Rattle.cutting.proofs.candidates.catch_up.Reads as catch-up-reads
 use Rattle.cutting.proofs.candidates.kept.Reads as kept-reads
-use Rattle.cutting.proofs.divisions.join.Reads as join-reads
-use Rattle.cutting.proofs.divisions.moved.Reads as moved-reads
+use Rattle.joining.proofs.join.Reads as join-reads
+use Rattle.joining.proofs.moved.Reads as moved-reads
 use Rattle.cutting.proofs.pieces.begin.Reads as pieces-begin-reads
 use Rattle.cutting.proofs.pieces.turn.Reads as turn-reads
 use Rattle.sharing.proofs.begin.Reads as working-begin-reads

@@ -1,5 +1,5 @@
 use Rattle.simplex.specs.declared.Verdict.{Verdict}
-use mathlib.Core.Path.{_≡_, refl, sym, ap, _∙_}
+use mathlib.Core.Path.{_≡_, sym, ap, _∙_}
 use native.Mathlib.Omega.{arith}
 use lib.ListN.{length, length-map}
 use Rattle.algebra.specs.Cut.{isKept}

@@ -1,28 +1,26 @@
-use mathlib.Core.Path.{_≡_, refl, sym, ap, ap₂, _∙_, subst}
-use mathlib.Core.Bool.{Bool, true, false, not, _&&_, _||_, cond}
-use mathlib.Core.List.{List, [], _∷_, _++_, map}
-use Prim.Native.Nat.{ℕ, zero, suc, _+_, _-_, _*_, _/_, _%_, _≤_, _<_}
+use mathlib.Core.Path.{_≡_, sym, ap, ap₂, _∙_, subst}
+use mathlib.Core.Bool.{Bool, cond}
+use mathlib.Core.List.{List, map}
+use Prim.Native.Nat.{ℕ, _-_, _/_, _%_, _<_}
 use native.Mathlib.Omega.{arith}
-use native.Mathlib.Numerals.{add-one}
-use lib.Dec.{T, eqb, leb}
-use lib.ListN.{length, take, drop, getD, set, length-set, length-map}
+use lib.ListN.{length, take, getD, length-map}
 use Rattle.model.specs.Sets as S
-use Rattle.model.specs.Values.{kindIs, divisionOf, constraintOf, basicSetOf}
+use Rattle.model.specs.Values.{constraintOf, basicSetOf}
 use Rattle.model.specs.declared.Constraint.{Constraint as Stored}
 use Rattle.algebra.specs.Cut as C
 use borrow.Author.Tests.{eq-eqb, ne-eqb}
 use lib.Seq.{length-take-le, getD-take}
 use Rattle.codec.proofs.Valid.{ValidConstraint}
-use Rattle.cutting.specs.Cutting.{noRule, Putting, PieceIs, pieceOf, withLast}
-use Rattle.cutting.proofs.Placing.{noConstraint, All-at, map-at}
+use Rattle.cutting.specs.Cutting.{noRule, withLast}
+use Rattle.joining.proofs.Placing.{noConstraint, All-at, map-at}
 use Rattle.cutting.proofs.Steps.{below-of, above-of}
 use borrow.Author.Needs.{needs}
 use Rattle.cutting.proofs.pieces.piece.Statement.{statement}
 use Rattle.cutting.proofs.pieces.piece.Tie as tie
 use Rattle.cutting.proofs.pieces.piece.Reads as reads
 use Rattle.cutting.proofs.pieces.piece.Lts as lts
-use Rattle.cutting.proofs.opposites.above.Reads as above-reads
-use Rattle.cutting.proofs.opposites.below.Reads as below-reads
+use Rattle.joining.proofs.above.Reads as above-reads
+use Rattle.joining.proofs.below.Reads as below-reads
 use Rattle.cutting.proofs.pieces.put.Reads as put-reads
 
 -- the working constraint of a step, as it is read

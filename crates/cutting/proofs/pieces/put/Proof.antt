@@ -1,13 +1,9 @@
-use mathlib.Core.Path.{_≡_, refl, sym, ap, ap₂, _∙_, subst}
-use mathlib.Core.Bool.{Bool, true, false, not, _&&_, _||_, cond}
-use mathlib.Core.List.{List, [], _∷_, _++_, map}
-use Prim.Native.Nat.{ℕ, zero, suc, _+_, _-_, _*_, _/_, _%_, _≤_, _<_}
+use mathlib.Core.Path.{_≡_, refl}
+use Prim.Native.Nat.{_-_}
 use native.Mathlib.Omega.{arith}
-use native.Mathlib.Numerals.{add-one}
-use lib.Dec.{T, eqb, leb}
-use lib.ListN.{length, take, drop, getD, set, length-set, length-map}
+use lib.ListN.{length, length-map}
 use Rattle.model.specs.Sets as S
-use Rattle.model.specs.Values.{kindIs, divisionOf, constraintOf, basicSetOf}
+use Rattle.model.specs.Values.{basicSetOf}
 use Rattle.algebra.specs.Cut as C
 use Rattle.cutting.proofs.Steps.{put-is}
 use borrow.Author.Needs.{needs}

@@ -1,10 +1,10 @@
-use mathlib.Core.Path.{_≡_, refl, sym, ap, ap₂, _∙_, subst}
-use mathlib.Core.Bool.{Bool, true, false, _&&_, _||_, cond}
-use mathlib.Core.List.{List, [], _∷_, _++_, map}
-use Prim.Native.Nat.{ℕ, _+_, _-_, _*_, _≤_, _<_}
+use mathlib.Core.Path.{_≡_, refl, ap, _∙_}
+use mathlib.Core.Bool.{Bool, _||_, cond}
+use mathlib.Core.List.{map}
+use Prim.Native.Nat.{ℕ, _+_, _-_, _<_}
 use native.Mathlib.Omega.{arith}
-use lib.ListN.{length, take, getD, set, length-set, length-map}
-use Rattle.model.specs.Values.{kindIs, divisionOf, constraintOf, basicSetOf}
+use lib.ListN.{length, take, set, length-map}
+use Rattle.model.specs.Values.{constraintOf}
 use Rattle.algebra.specs.Cut as C
 use Rattle.cutting.proofs.Steps.{bit-small, steps-stored, joined-stored}
 use borrow.Author.Needs.{needs}

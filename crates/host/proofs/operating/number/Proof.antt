@@ -1,12 +1,10 @@
-use mathlib.Core.Path.{_≡_, ap, sym, _∙_, subst}
-use Prim.Native.Nat.{ℕ, _<_, _≤_, _^_}
+use mathlib.Core.Path.{ap, sym, _∙_, subst}
+use Prim.Native.Nat.{_<_, _≤_, _^_}
 use native.Mathlib.Omega.{arith}
 use mir.Syntax.{w64}
-use mir.Val.{SFits}
-use lib.IntN.{pos}
 use mir.ValLaws.{toZ-pos}
-use Rattle.operations.specs.declared.results.Outcome.{Outcome}
-use Rattle.operations.specs.Outcome.{outcomeIs}
+use Rattle.results.specs.declared.results.Outcome.{Outcome}
+use Rattle.results.specs.Outcome.{outcomeIs}
 use Rattle.host.specs.Numbers.{Short, lengthNumber}
 use Rattle.host.proofs.Laws.{pos-fits, minus-fits, minus-is}
 use borrow.Author.Needs.{needs}

@@ -8,8 +8,8 @@ use Rattle.operations.proofs.calls.append.Statement.{statement}
 use Rattle.operations.proofs.calls.append.Tie as tie
 use Rattle.operations.proofs.calls.append.Reads as reads
 use Rattle.operations.proofs.calls.append.Lts as lts
-use Rattle.codec.proofs.copy_bytes.Reads as copy-bytes-reads
-use Rattle.operations.proofs.counts.count.Reads as count-reads
+use Rattle.records.proofs.copy_bytes.Reads as copy-bytes-reads
+use Rattle.results.proofs.count.Reads as count-reads
 
 -- src/calls.rt:23:13
 count-requires : tie.Need-count-requires

@@ -3,7 +3,7 @@ use lib.ListN.{length}
 use Rattle.algebra.specs.Cut as C
 use Rattle.algebra.specs.Cut.{keeps, complementFits}
 use Rattle.algebra.specs.Operations.{result, complementBytes}
-use Rattle.operations.specs.Outcome.{outcomeIs}
+use Rattle.results.specs.Outcome.{outcomeIs}
 use Rattle.operations.proofs.Answering.{one-refused, whole-sets, whole-given}
 use borrow.Author.Needs.{needs}
 use Rattle.operations.proofs.calls.complement.Statement.{statement}
@@ -12,8 +12,8 @@ use Rattle.operations.proofs.calls.complement.Reads as reads
 use Rattle.operations.proofs.calls.complement.Lts as lts
 use Rattle.codec.proofs.check.Reads as check-reads
 use Rattle.operations.proofs.levels.subtract.Reads as subtract-reads
-use Rattle.operations.proofs.results.finish.Reads as finish-reads
-use Rattle.operations.proofs.results.refuse.Reads as refuse-reads
+use Rattle.results.proofs.finish.Reads as finish-reads
+use Rattle.results.proofs.refuse.Reads as refuse-reads
 
 -- src/calls.rt:90:9
 check-requires : tie.Need-check-requires

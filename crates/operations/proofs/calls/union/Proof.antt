@@ -2,7 +2,7 @@ use lib.ListN.{length}
 use Rattle.algebra.specs.Cut as C
 use Rattle.algebra.specs.Cut.{keeps, unionFits}
 use Rattle.algebra.specs.Operations.{result, unionBytes}
-use Rattle.operations.specs.Outcome.{outcomeIs}
+use Rattle.results.specs.Outcome.{outcomeIs}
 use Rattle.operations.proofs.Answering.{sets-of, two-refused, two-given}
 use borrow.Author.Needs.{needs}
 use Rattle.operations.proofs.calls.union.Statement.{statement}
@@ -11,8 +11,8 @@ use Rattle.operations.proofs.calls.union.Reads as reads
 use Rattle.operations.proofs.calls.union.Lts as lts
 use Rattle.operations.proofs.calls.append.Reads as append-reads
 use Rattle.operations.proofs.calls.check_two.Reads as check-two-reads
-use Rattle.operations.proofs.results.finish.Reads as finish-reads
-use Rattle.operations.proofs.results.refuse.Reads as refuse-reads
+use Rattle.results.proofs.finish.Reads as finish-reads
+use Rattle.results.proofs.refuse.Reads as refuse-reads
 
 -- src/calls.rt:56:9
 check-two-requires : tie.Need-check-two-requires

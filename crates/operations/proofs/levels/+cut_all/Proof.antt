@@ -13,10 +13,10 @@ use borrow.Fn.PlainCycle.{Measures, is, falls, and}
 use Rattle.operations.proofs.levels.cut_all.Reads as cut-all
 use Rattle.operations.proofs.levels.cut_all.Kinds as cut-all-kinds
 use Rattle.operations.proofs.levels.+cut_all.Lts-cut_all as lts
-use Rattle.codec.proofs.decode_basic.Reads as decode-basic-reads
+use Rattle.records.proofs.decode_basic.Reads as decode-basic-reads
 use Rattle.cutting.proofs.cut.Reads as cut-reads
 use Rattle.cutting.proofs.piece.Reads as piece-reads
-use Rattle.operations.proofs.results.emit.Reads as emit-reads
+use Rattle.results.proofs.emit.Reads as emit-reads
 use Rattle.operations.proofs.levels.+cut_all.{statement}
 use Rattle.operations.proofs.levels.+cut_all.Tie.{close}
 

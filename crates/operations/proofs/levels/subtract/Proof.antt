@@ -14,8 +14,8 @@ use Rattle.operations.proofs.levels.subtract.Statement.{statement}
 use Rattle.operations.proofs.levels.subtract.Tie as tie
 use Rattle.operations.proofs.levels.subtract.Reads as reads
 use Rattle.operations.proofs.levels.subtract.Lts as lts
-use Rattle.codec.proofs.decode_basic.Reads as decode-basic-reads
-use Rattle.operations.proofs.counts.count.Reads as count-reads
+use Rattle.records.proofs.decode_basic.Reads as decode-basic-reads
+use Rattle.results.proofs.count.Reads as count-reads
 use Rattle.operations.proofs.levels.cut_all.Reads as cut-all-reads
 
 abbrev Inv-loop : tie.InvT-loop

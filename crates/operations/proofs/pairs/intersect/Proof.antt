@@ -6,14 +6,14 @@ use lib.ListN.{length}
 use Rattle.codec.specs.Places.{setFrom}
 use Rattle.codec.proofs.Boundaries.{boundary-start}
 use Rattle.codec.proofs.Valid.{bytes-of}
-use Rattle.operations.specs.Results.{meetings, meetingsFit}
+use Rattle.operations.specs.Operations.{meetings, meetingsFit}
 use Rattle.operations.proofs.Meeting.{intersection-made}
 use Rattle.operations.proofs.Along.{Along, along-start, along-end, along-opened, along-inside, along-valid, along-stop, along-next, nothing-ready, Decodes, level-start}
 use Rattle.operations.proofs.pairs.intersect.Statement.{statement}
 use Rattle.operations.proofs.pairs.intersect.Tie as tie
 use Rattle.operations.proofs.pairs.intersect.Reads as reads
 use Rattle.operations.proofs.pairs.intersect.Lts as lts
-use Rattle.codec.proofs.decode_basic.Reads as decode-basic-reads
+use Rattle.records.proofs.decode_basic.Reads as decode-basic-reads
 use Rattle.operations.proofs.pairs.meet_all.Reads as meet-all-reads
 
 abbrev Inv-loop : tie.InvT-loop

@@ -2,8 +2,8 @@ use mathlib.Core.Path.{sym, _∙_}
 use borrow.Author.Tests.{not-true, not-false}
 use Rattle.model.specs.Values.{basicSetOf}
 use Rattle.algebra.specs.Cut.{keeps, bothFits}
-use Rattle.operations.specs.Results.{meeting}
-use Rattle.operations.proofs.Chained.{emits-refused}
+use Rattle.operations.specs.Operations.{meeting}
+use Rattle.results.proofs.Chained.{emits-refused}
 use Rattle.operations.proofs.Meeting.{meet-sound, meet-kept, meet-dropped}
 use borrow.Author.Needs.{needs}
 use Rattle.operations.proofs.pairs.meet.Statement.{statement}
@@ -12,7 +12,7 @@ use Rattle.operations.proofs.pairs.meet.Reads as reads
 use Rattle.operations.proofs.pairs.meet.Lts as lts
 use Rattle.cutting.proofs.both.Reads as both-reads
 use Rattle.cutting.proofs.keeps.Reads as keeps-reads
-use Rattle.operations.proofs.results.emit.Reads as emit-reads
+use Rattle.results.proofs.emit.Reads as emit-reads
 
 -- src/pairs.rt:32:9
 both-requires : tie.Need-both-requires

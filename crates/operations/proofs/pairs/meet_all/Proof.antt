@@ -6,14 +6,14 @@ use lib.ListN.{length}
 use Rattle.model.specs.Values.{basicSetOf}
 use Rattle.algebra.specs.Cut.{keeps, bothFits}
 use Rattle.codec.proofs.Valid.{bytes-of}
-use Rattle.operations.specs.Results.{meeting}
+use Rattle.operations.specs.Operations.{meeting}
 use Rattle.operations.proofs.Meeting.{SoundOver}
 use Rattle.operations.proofs.Along.{Along, along-start, along-end, along-opened, along-inside, along-valid, along-stop, along-next}
 use Rattle.operations.proofs.pairs.meet_all.Statement.{statement}
 use Rattle.operations.proofs.pairs.meet_all.Tie as tie
 use Rattle.operations.proofs.pairs.meet_all.Reads as reads
 use Rattle.operations.proofs.pairs.meet_all.Lts as lts
-use Rattle.codec.proofs.decode_basic.Reads as decode-basic-reads
+use Rattle.records.proofs.decode_basic.Reads as decode-basic-reads
 use Rattle.operations.proofs.pairs.meet.Reads as meet-reads
 
 abbrev Inv-loop : tie.InvT-loop

@@ -1,12 +1,8 @@
-use mathlib.Core.Path.{_≡_, refl, sym, ap, ap₂, _∙_, subst}
-use mathlib.Core.Bool.{Bool, true, false, cond}
+use mathlib.Core.Path.{sym, ap, ap₂, _∙_}
+use mathlib.Core.Bool.{Bool, cond}
 use mathlib.Core.List.{List}
-use native.Mathlib.Omega.{arith}
-use borrow.Author.Tests.{not-true, not-false}
 use Prim.Native.Nat.{ℕ}
-use lib.IntN.{ℤ}
-use lib.ListN.{length, take, length-take}
-use Rattle.query.specs.Holder.{Holder, Table, first, second}
+use Rattle.query.specs.Holder.{first, second}
 use Rattle.query.specs.Handed.{handed}
 use borrow.Author.Needs.{needs}
 use Rattle.query.proofs.holders.holder.Statement.{statement}

@@ -1,13 +1,7 @@
-use mathlib.Core.Path.{_≡_, refl, sym, ap, ap₂, _∙_, subst}
-use mathlib.Core.Bool.{Bool, true, false, cond}
-use mathlib.Core.List.{List}
-use native.Mathlib.Omega.{arith}
-use borrow.Author.Tests.{not-true, not-false}
+use mathlib.Core.Path.{sym, ap, _∙_}
 use Prim.Native.Nat.{ℕ}
-use lib.IntN.{ℤ}
-use lib.ListN.{length, take, length-take}
 use Rattle.codec.specs.Places.{setFrom}
-use Rattle.query.specs.Holder.{Holder, Table, first, second, firstHolding}
+use Rattle.query.specs.Holder.{first, second, firstHolding}
 use Rattle.query.proofs.Seats.{either-first, either-second, either-none}
 use borrow.Author.Needs.{needs}
 use Rattle.query.proofs.holders.seat_of.Statement.{statement}

@@ -1,11 +1,10 @@
-use mathlib.Core.Path.{_≡_, refl, sym, ap, _∙_, subst}
+use mathlib.Core.Path.{sym, ap, _∙_, subst}
 use native.Mathlib.Omega.{arith}
 use mathlib.Core.List.{List}
 use Prim.Native.Nat.{_≤_, _<_}
 use borrow.Author.Needs.{needs}
-use Prim.Native.Nat.{ℕ, _+_, _-_}
-use lib.IntN.{ℤ}
-use lib.ListN.{length, getD, drop}
+use Prim.Native.Nat.{ℕ, _-_}
+use lib.ListN.{length}
 use mir.Syntax.{w64}
 use Rattle.integers.specs.Z.{Within}
 use Rattle.integers.specs.Mach.{result-is}

@@ -1,7 +1,6 @@
-use mathlib.Core.Path.{_≡_, refl, sym, ap, _∙_, subst}
 use native.Mathlib.Omega.{arith}
 use borrow.Author.Needs.{needs}
-use Prim.Native.Nat.{ℕ, _+_, _-_}
+use Prim.Native.Nat.{_-_}
 use lib.ListN.{length}
 use Rattle.codec.proofs.Boundaries.{boundary-opened}
 use Rattle.query.proofs.Holding.{Finding, finding-start, finding-yes, finding-next, finding-inside, finding-end}

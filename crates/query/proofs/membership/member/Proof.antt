@@ -2,10 +2,10 @@ use Rattle.codec.specs.Places.{setFrom}
 use Rattle.model.specs.Sets.{inSet}
 use lib.IntN.{ℤ}
 use mathlib.Core.List.{List}
-use mathlib.Core.Path.{_≡_, refl, sym, ap, _∙_, subst}
+use mathlib.Core.Path.{sym, ap, _∙_}
 use mathlib.Core.Bool.{true, false}
 use native.Mathlib.Omega.{arith}
-use lib.ListN.{length, take, length-take}
+use lib.ListN.{take, length-take}
 use borrow.Author.Tests.{not-true, not-false}
 use Rattle.bounds.proofs.Reading.{take-within}
 use Rattle.query.proofs.Points.{point-within}

@@ -3,11 +3,10 @@ use lib.ListN.{getD}
 use mir.Syntax.{w32}
 use Rattle.integers.specs.Mach.{toZ-ofZ}
 use borrow.Author.Tests.{not-true, not-false}
-use mathlib.Core.Path.{_≡_, refl, sym, ap, _∙_, subst}
-use mathlib.Core.Bool.{true, false}
+use mathlib.Core.Path.{_≡_, sym, ap, _∙_}
 use native.Mathlib.Omega.{arith}
 use borrow.Author.Needs.{needs}
-use Prim.Native.Nat.{ℕ, _+_, _-_, _≤_}
+use Prim.Native.Nat.{_-_, _≤_}
 use lib.ListN.{length, drop}
 use Rattle.query.specs.Search.{pointFits}
 use Rattle.query.specs.Holding.{coordinateFits}

@@ -1,7 +1,5 @@
-use mathlib.Core.Path.{_≡_, refl, sym, ap, _∙_, subst}
 use native.Mathlib.Omega.{arith}
-use Prim.Native.Nat.{ℕ, _+_, _*_}
-use lib.ListN.{length, take, length-take}
+use lib.ListN.{length-take}
 use Rattle.bounds.proofs.Reading.{take-within}
 use Rattle.query.proofs.Holding.{spanned-is}
 use borrow.Author.Needs.{needs}

@@ -1,9 +1,5 @@
-use mathlib.Core.Path.{_≡_, refl, sym, ap, _∙_}
-use mathlib.Core.Bool.{Bool, _&&_}
+use mathlib.Core.Path.{_∙_}
 use native.Mathlib.Omega.{arith}
-use lib.IntN.{pos}
-use Rattle.model.specs.Sets.{holds}
-use Rattle.codec.specs.Bytes.{readConstraint, kindOf}
 use Rattle.bounds.proofs.Reading.{all-mono}
 use borrow.Author.Needs.{needs}
 use Rattle.query.proofs.membership.still.Statement.{statement}

@@ -1,7 +1,5 @@
-use mathlib.Core.Path.{_≡_, refl, sym, ap, _∙_}
+use mathlib.Core.Path.{_∙_}
 use native.Mathlib.Omega.{arith}
-use mir.Syntax.{w32, w64}
-use mir.Val.{SFits}
 use Rattle.integers.specs.Mach.{toZ-ofZ}
 use Rattle.integers.specs.Size.{fits-within, within-fits}
 use Rattle.query.proofs.membership.wide.Statement.{statement}

@@ -1,13 +1,9 @@
-use mathlib.Core.Path.{_≡_, refl, sym, ap, ap₂, _∙_, subst}
-use mathlib.Core.Bool.{Bool, true, false, cond}
-use mathlib.Core.List.{List}
+use mathlib.Core.Path.{_≡_, ap, ap₂, _∙_}
 use native.Mathlib.Omega.{arith}
-use borrow.Author.Tests.{not-true, not-false}
-use Prim.Native.Nat.{ℕ}
-use lib.IntN.{ℤ, pos, natAbs, _+ℤ_, _-ℤ_}
+use lib.IntN.{pos, _+ℤ_}
 use mir.Syntax.{w64}
-use mir.Val.{SFits, toZ, ofZ}
-use lib.ListN.{length, take, length-take, getD, set}
+use mir.Val.{toZ, ofZ}
+use lib.ListN.{getD, set}
 use Rattle.integers.specs.Z.{Within}
 use Rattle.integers.specs.Mach.{toZ-ofZ, toZ-nat}
 use Rattle.integers.specs.Size.{within-mono, within-add, within-fits}

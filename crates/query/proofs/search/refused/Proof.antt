@@ -1,15 +1,8 @@
-use mathlib.Core.Path.{_≡_, refl, sym, ap, ap₂, _∙_, subst, subst₂}
-use mathlib.Core.Bool.{Bool, true, false, _&&_, cond}
-use mathlib.Core.List.{List, []}
-use native.Mathlib.Omega.{arith}
+use mathlib.Core.Path.{ap}
+use mathlib.Core.List.{List}
 use borrow.Author.Needs.{needs}
-use borrow.Author.Tests.{not-true, not-false, le-ltb, lt-ltb, le-leb, lt-leb}
-use Prim.Native.Nat.{ℕ, _+_, _-_, _≤_, _<_}
-use lib.Dec.{ltb, leb}
-use lib.IntN.{ℤ, pos}
-use lib.Signed.{leZ}
-use lib.ListN.{length, take, drop, getD}
-use Rattle.query.specs.declared.search.FirstPoint.{FirstPoint}
+use Prim.Native.Nat.{_-_}
+use lib.IntN.{ℤ}
 use Rattle.query.specs.declared.search.Outcome.the-variants.{Refused}
 use borrow.Author.Needs.{needs}
 use Rattle.query.proofs.search.refused.Statement.{statement}

@@ -1,18 +1,9 @@
 use borrow.Author.Needs.{needs}
 use native.Mathlib.Omega.{arith}
-use mathlib.Core.Path.{_≡_, refl, sym, ap, ap₂, _∙_, subst}
-use mathlib.Core.Bool.{Bool, true, false, _&&_}
-use mathlib.Core.List.{List, [], _∷_}
-use Prim.Native.Nat.{ℕ, _+_, _-_, _*_, _≤_, _<_}
-use lib.ListN.{length, take, drop, getD}
-use lib.IntN.{ℤ, pos, negsuc, _+ℤ_, _-ℤ_, _*ℤ_}
-use mir.Syntax.{w64}
-use mir.Val.{SFits, toZ, ofZ}
-use Rattle.integers.specs.Z.{Within}
-use Rattle.integers.specs.Mach.{toZ-ofZ, toZ-nat, result-is, mach}
-use Rattle.integers.specs.Lin.{lia-fits}
-use Rattle.model.specs.Sets.{dot}
-use Rattle.codec.specs.Bytes.{valueOf, signed, signedList}
+use mathlib.Core.Path.{_∙_}
+use Prim.Native.Nat.{_-_, _≤_}
+use lib.ListN.{length}
+use Rattle.integers.specs.Mach.{toZ-ofZ}
 use Rattle.query.proofs.Reading.{Summed, summed-start, summed-next, summed-end, summed-size, fit-a, fit-x, fit-mul, fit-add}
 use Rattle.query.proofs.values.dot_at.Statement.{statement}
 use Rattle.query.proofs.values.dot_at.Tie as tie

@@ -1,21 +1,14 @@
-use native.Mathlib.Omega.{arith}
-use mathlib.Core.Path.{_≡_, refl, sym, ap, ap₂, _∙_, subst}
-use mathlib.Core.Bool.{Bool, true, false, _&&_}
-use mathlib.Core.List.{List, [], _∷_}
-use Prim.Native.Nat.{ℕ, _+_, _-_, _*_, _≤_, _<_}
-use lib.ListN.{length, take, drop, getD, set, length-set, length-take}
-use lib.Dec.{lt→ltb}
-use lib.IntN.{ℤ, pos, negsuc, _+ℤ_, _-ℤ_, _*ℤ_}
+use mathlib.Core.Path.{sym, ap, _∙_}
+use Prim.Native.Nat.{_-_}
+use lib.IntN.{pos}
 use mir.Syntax.{w64}
-use mir.Val.{SFits, toZ, ofZ}
-use borrow.Author.Tests.{ne-eqb}
-use Rattle.integers.specs.Z.{Within}
-use Rattle.integers.specs.Mach.{toZ-ofZ, toZ-nat, result-is, mach}
-use Rattle.model.specs.Sets.{dot, floorDiv, quotient, Kind, meets, isZero, equality, inequality, value}
-use Rattle.codec.specs.Bytes.{valueOf, signed, signedList, readDivision, readConstraint, kindOf, readCommand, widthOf}
+use mir.Val.{toZ, ofZ}
+use Rattle.integers.specs.Mach.{result-is}
+use Rattle.model.specs.Sets.{Kind, meets, isZero, equality, inequality, value}
+use Rattle.codec.specs.Bytes.{readConstraint}
 use lib.Signed.{nonNeg}
 use Rattle.bounds.proofs.Reading.{nonneg-bits, kind-equality, kind-inequality}
-use Rattle.query.proofs.Reading.{dots-fit, value-fits, zero-bits, value-one}
+use Rattle.query.proofs.Reading.{zero-bits}
 use borrow.Author.Needs.{needs}
 use Rattle.query.proofs.values.holds_at.Statement.{statement}
 use Rattle.query.proofs.values.holds_at.Tie as tie

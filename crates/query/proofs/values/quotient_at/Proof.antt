@@ -1,18 +1,15 @@
 use native.Mathlib.Omega.{arith}
-use mathlib.Core.Path.{_≡_, refl, sym, ap, ap₂, _∙_, subst}
-use mathlib.Core.Bool.{Bool, true, false, _&&_}
-use mathlib.Core.List.{List, [], _∷_}
-use Prim.Native.Nat.{ℕ, _+_, _-_, _*_, _≤_, _<_}
-use lib.ListN.{length, take, drop, getD, set, length-set, length-take}
+use mathlib.Core.Path.{_≡_, sym, ap, ap₂, _∙_, subst}
+use Prim.Native.Nat.{_+_, _-_, _*_, _≤_, _<_}
+use lib.ListN.{take, drop}
 use lib.Dec.{lt→ltb}
-use lib.IntN.{ℤ, natAbs, pos, negsuc, _+ℤ_, _-ℤ_, _*ℤ_}
+use lib.IntN.{ℤ, natAbs, _+ℤ_}
 use mir.Syntax.{w64}
-use mir.Val.{SFits, toZ, ofZ}
-use borrow.Author.Tests.{ne-eqb}
+use mir.Val.{toZ, ofZ}
 use Rattle.integers.specs.Z.{Within}
-use Rattle.integers.specs.Mach.{toZ-ofZ, toZ-nat, result-is, mach}
-use Rattle.model.specs.Sets.{dot, floorDiv, quotient, meets, isZero, equality, inequality, value}
-use Rattle.codec.specs.Bytes.{valueOf, signed, signedList, readDivision, readConstraint, kindOf, readCommand, widthOf}
+use Rattle.integers.specs.Mach.{toZ-ofZ, toZ-nat, result-is}
+use Rattle.model.specs.Sets.{dot, floorDiv, quotient}
+use Rattle.codec.specs.Bytes.{valueOf, signed, signedList, readDivision}
 use Rattle.bounds.proofs.Reading.{all-mono, floor-within}
 use Rattle.query.proofs.Reading.{sum-fits, sum-within}
 use borrow.Author.Needs.{needs}

@@ -1,13 +1,8 @@
-use mathlib.Core.Path.{_≡_, refl, sym, ap, ap₂, _∙_, subst}
-use mathlib.Core.Bool.{true, false}
-use mathlib.Core.List.{List, [], _∷_, _++_}
-use Prim.Native.Nat.{ℕ, _+_, _-_, _≤_, _<_}
+use mathlib.Core.Path.{_≡_, sym, _∙_, subst}
+use Prim.Native.Nat.{_-_, _<_}
 use native.Mathlib.Omega.{arith}
 use borrow.Author.Needs.{needs}
-use borrow.Author.Tests.{not-true, not-false}
-use lib.ListN.{length, getD, set, take, length-set}
-use lib.IntN.{ℤ, pos}
-use Rattle.simplex.specs.declared.Move.the-variants.{Stop, Pivot}
+use Rattle.simplex.specs.declared.Move.the-variants.{Pivot}
 use Rattle.simplex.specs.Table.{moveOf}
 use Rattle.sharing.proofs.Going.{Going, going-start, going-end, going-made, made-less, crosses}
 use Rattle.sharing.proofs.history.go_on.Statement.{statement}

@@ -1,4 +1,4 @@
-use mathlib.Core.Path.{_≡_, refl, ap}
+use mathlib.Core.Path.{refl, ap}
 use mathlib.Core.List.{[]}
 use lib.ListN.{getD, set}
 use borrow.Author.Needs.{needs}

@@ -1,19 +1,16 @@
-use mathlib.Core.Path.{_≡_, refl, sym, ap, ap₂, _∙_, subst}
-use mathlib.Core.Bool.{true, false}
-use mathlib.Core.List.{List, [], _∷_, _++_}
-use Prim.Native.Nat.{ℕ, _+_, _-_, _≤_, _<_}
-use native.Mathlib.Omega.{arith}
+use mathlib.Core.Path.{_≡_, sym, ap, _∙_}
+use mathlib.Core.Bool.{true}
+use Prim.Native.Nat.{_+_, _-_}
 use borrow.Author.Needs.{needs}
 use borrow.Author.Tests.{not-true, not-false}
-use lib.ListN.{length, getD, set, take, length-set}
-use lib.IntN.{ℤ, pos}
+use lib.ListN.{getD, set}
+use lib.IntN.{pos}
 use mir.Syntax.{w64}
-use mir.Val.{toZ, ofZ}
+use mir.Val.{ofZ}
 use Rattle.model.specs.Sets.{isZero}
 use Rattle.tableau.specs.Rows.{small as smallOf, replaceRow}
 use Rattle.tableau.proofs.Lines.{isZero-no, bits-zero, back, wider}
 use Rattle.tableau.proofs.Searches.{small-within}
-use Rattle.sharing.specs.Past.{Passed}
 use Rattle.sharing.proofs.Passes.{pass-zero, pass-wide, pass-put}
 use borrow.Author.Needs.{needs}
 use Rattle.sharing.proofs.history.pass.Statement.{statement}

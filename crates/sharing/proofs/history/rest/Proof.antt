@@ -1,12 +1,8 @@
-use mathlib.Core.Path.{_≡_, refl, sym, ap, ap₂, _∙_, subst}
-use mathlib.Core.Bool.{true, false}
-use mathlib.Core.List.{List, [], _∷_, _++_}
-use Prim.Native.Nat.{ℕ, _+_, _-_, _≤_, _<_}
+use mathlib.Core.Path.{_≡_, refl, sym, ap, _∙_}
+use Prim.Native.Nat.{_-_}
 use native.Mathlib.Omega.{arith}
 use borrow.Author.Needs.{needs}
-use borrow.Author.Tests.{not-true, not-false}
-use lib.ListN.{length, getD, set, take, length-set}
-use lib.IntN.{ℤ, pos}
+use lib.ListN.{length}
 use Rattle.simplex.specs.declared.Move.the-variants.{Stop, Pivot}
 use Rattle.simplex.specs.Table.{moveOf, runTable, Fine}
 use Rattle.simplex.proofs.Moves.{run-stop, run-pivot, pivot-left, pivot-fine, crossing, pivot-length, rows-length}

@@ -1,16 +1,10 @@
-use mathlib.Core.Path.{_≡_, refl, sym, ap, ap₂, _∙_, subst}
-use mathlib.Core.Bool.{true, false}
-use mathlib.Core.List.{List, [], _∷_, _++_}
-use Prim.Native.Nat.{ℕ, _+_, _-_, _*_, _≤_, _<_}
+use mathlib.Core.Path.{sym, ap, _∙_, subst}
+use mathlib.Core.List.{_++_}
+use Prim.Native.Nat.{_+_, _-_, _*_}
 use native.Mathlib.Omega.{arith}
-use borrow.Author.Tests.{not-true, not-false}
-use lib.ListN.{length, getD, set, take, drop, length-set}
-use lib.IntN.{ℤ, pos}
-use mir.Syntax.{w64}
-use mir.Facts.{toZ-ofZ}
+use lib.ListN.{length, take, drop}
 use Rattle.model.specs.Sets.{bounds}
 use Rattle.model.specs.Values.{basicSetOf}
-use Rattle.simplex.specs.Table.{Fine}
 use Rattle.sharing.specs.Trace.{Went}
 use Rattle.sharing.specs.Working.{firstTable, firstPlace, firstKinds}
 use Rattle.sharing.proofs.Firsts.{first-fine}

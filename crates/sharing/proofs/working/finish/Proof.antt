@@ -1,18 +1,16 @@
-use mathlib.Core.Path.{_≡_, refl, sym, ap, ap₂, _∙_, subst}
-use mathlib.Core.Bool.{true, false}
-use mathlib.Core.List.{List, [], _∷_, _++_}
-use Prim.Native.Nat.{ℕ, _+_, _-_, _*_, _≤_, _<_}
+use mathlib.Core.Path.{_≡_, sym, ap, _∙_, subst}
+use mathlib.Core.List.{[], _∷_, _++_}
+use Prim.Native.Nat.{_+_, _-_, _≤_}
 use native.Mathlib.Omega.{arith}
 use borrow.Author.Tests.{not-true, not-false}
-use lib.ListN.{length, getD, set, take, drop, length-set}
-use lib.IntN.{ℤ, pos}
+use lib.ListN.{length, getD, set, take, length-set}
+use lib.IntN.{pos}
 use mir.Syntax.{w64}
 use mir.Facts.{toZ-ofZ}
-use Rattle.tableau.specs.Rows.{violatedBy, helping as helpingOf}
+use Rattle.tableau.specs.Rows.{violatedBy}
 use Rattle.simplex.specs.Table.{runTable}
-use Rattle.sharing.specs.Working.{onward}
 use Rattle.sharing.proofs.Going.{trace-run}
-use Rattle.sharing.proofs.Appending.{seam, rejoined, set-count, lp, ls, fine-more, point-more, dropped-more, finish-is}
+use Rattle.sharing.proofs.Appending.{rejoined, set-count, lp, ls, fine-more, point-more, dropped-more, finish-is}
 use borrow.Author.Needs.{needs}
 use Rattle.sharing.proofs.working.finish.Statement.{statement}
 use Rattle.sharing.proofs.working.finish.Tie as tie

@@ -7,7 +7,7 @@ use Rattle.simplex.proofs.testing.test.Tie as tie
 use Rattle.simplex.proofs.testing.test.Reads as reads
 use Rattle.simplex.proofs.testing.test.Lts as lts
 use Rattle.codec.proofs.check.Reads as check-reads
-use Rattle.codec.proofs.decode_basic.Reads as decode-basic-reads
+use Rattle.records.proofs.decode_basic.Reads as decode-basic-reads
 use Rattle.codec.proofs.start_of.Reads as start-of-reads
 use Rattle.simplex.proofs.testing.test_alone.Reads as test-alone-reads
 

@@ -1,0 +1,3 @@
+mod Filling
+pub mod Emitting
+pub mod RoundTrips

@@ -1,0 +1,44 @@
+use Prim.Native.Nat.{_/_, _%_}
+use native.Mathlib.Omega.{arith}
+use lib.ListN.{length-set}
+use Rattle.records.proofs.Emitting.{emitted-two}
+use borrow.Author.Needs.{needs}
+use Rattle.records.proofs.writing.put_16.Statement.{statement}
+use Rattle.records.proofs.writing.put_16.Tie as tie
+
+cast-out : tie.Need-cast-out
+cast-out c = search needs
+
+slice-write-out : tie.Need-slice-write-out
+slice-write-out c = search needs
+
+cast-out-2 : tie.Need-cast-out-2
+cast-out-2 c = search needs
+
+add-out : tie.Need-add-out
+add-out c = search needs
+
+slice-write-out-2 : tie.Need-slice-write-out-2
+slice-write-out-2 c = simp length-set (omega arith)
+
+add-result : tie.Need-add-result
+add-result c = search needs
+
+same-length : tie.Need-same-length
+same-length c = search needs
+
+returns : tie.Need-returns
+returns c = emitted-two (c .args .out .now) (c .args .at) (c .args .v % 256) (c .args .v / 256 % 256)
+
+pub put-16-spec : {M : Type 1} → statement M
+put-16-spec =
+    tie.close
+    (tie.spec
+    cast-out
+    slice-write-out
+    cast-out-2
+    add-out
+    slice-write-out-2
+    add-result
+    same-length
+    returns)

@@ -1,0 +1,200 @@
+// Bytes put into a lent table. A place runs on past the table's end, as a count.
+ghost use mathlib.Core.Path.{_≡_};
+ghost use mathlib.Core.List.{[], _∷_};
+ghost use Prim.Native.Nat.{_+_, _≤_, _<_, _^_};
+ghost use lib.ListN.{length};
+ghost use Rattle.model.specs.Lists.{concatMap};
+ghost use Rattle.model.specs.Values.{kindIs, divisionOf, constraintOf, basicSetOf};
+ghost use Rattle.codec.specs.Bytes.{bytesOf, signedBytes, unsigned, encodeCommand, encode, division, constraint, opcode};
+ghost use Rattle.records.specs.Writing.{Emitted, Encodable, cleared};
+use model::BasicSet;
+use model::Constraint;
+use model::Division;
+
+// Zeros from a place on: after a refusal from 0, after a result from its end.
+pub fn clear(out: &mut [u8], from: usize)
+    ensures { λ _. ⌜ now (out .exit) ≡ cleared from (now (out .entry)) ⌝ }
+{
+    let mut i = from;
+    while i < out.len() {
+        out[i] = 0;
+        i += 1;
+    }
+}
+
+fn least(a: usize, b: usize) -> usize
+    ensures { λ r. ⌜ (r ≤ a) × (r ≤ b) × ((r < a) → r ≡ b) ⌝ }
+{
+    if a < b {
+        return a;
+    }
+    b
+}
+
+// Bytes as they are; the result is the place behind them.
+pub fn copy_bytes(from: &[u8], out: &mut [u8], at: usize) -> usize
+    requires { ⌜ at + length (now from) < 2 ^ 64 ⌝ }
+    ensures { λ r. ⌜ Emitted (now (from .entry)) (now (out .entry)) at r (now (out .exit)) ⌝ }
+{
+    if out.len() <= at {
+        return at + from.len();
+    }
+    let m = least(from.len(), out.len() - at);
+    let mut i = 0;
+    while i < m {
+        out[at + i] = from[i];
+        i += 1;
+    }
+    at + from.len()
+}
+
+fn half(x: i16) -> u64
+    ensures { λ r. ⌜ r ≡ unsigned 2 x ⌝ }
+{
+    if x < 0 {
+        return (x as i64 + 65536) as u64;
+    }
+    x as u64
+}
+
+fn whole(x: i32) -> u64
+    ensures { λ r. ⌜ r ≡ unsigned 4 x ⌝ }
+{
+    if x < 0 {
+        return (x as i64 + 4294967296) as u64;
+    }
+    x as u64
+}
+
+fn put_8(out: &mut [u8], at: usize, b: u8) -> usize
+    requires { ⌜ at < length (now out) ⌝ }
+    ensures { λ r. ⌜ Emitted (b ∷ []) (now (out .entry)) at r (now (out .exit)) ⌝ }
+{
+    out[at] = b;
+    at + 1
+}
+
+fn put_16(out: &mut [u8], at: usize, v: u64) -> usize
+    requires { ⌜ at + 2 ≤ length (now out) ⌝ }
+    ensures { λ r. ⌜ Emitted (bytesOf 2 v) (now (out .entry)) at r (now (out .exit)) ⌝ }
+{
+    out[at] = (v % 256) as u8;
+    out[at + 1] = (v / 256 % 256) as u8;
+    at + 2
+}
+
+fn put_32(out: &mut [u8], at: usize, v: u64) -> usize
+    requires { ⌜ at + 4 ≤ length (now out) ⌝ }
+    ensures { λ r. ⌜ Emitted (bytesOf 4 v) (now (out .entry)) at r (now (out .exit)) ⌝ }
+{
+    let p = put_16(out, at, v);
+    put_16(out, p, v / 65536)
+}
+
+fn put_coefficients(out: &mut [u8], at: usize, a: [i16; 8]) -> usize
+    requires { ⌜ at + 16 ≤ length (now out) ⌝ }
+    ensures bytes { λ r. ⌜ Emitted (concatMap (signedBytes 2) a) (now (out .entry)) at r (now (out .exit)) ⌝ }
+    ensures size { λ r. ⌜ r ≡ at + 16 ⌝ }
+{
+    let mut p = at;
+    let mut i = 0;
+    while i < 8 {
+        p = put_16(out, p, half(a[i]));
+        i += 1;
+    }
+    p
+}
+
+fn put_division(out: &mut [u8], at: usize, e: Division) -> usize
+    requires { ⌜ at + 23 ≤ length (now out) ⌝ }
+    ensures bytes { λ r. ⌜ Emitted (encodeCommand (division (divisionOf e))) (now (out .entry)) at r (now (out .exit)) ⌝ }
+    ensures size { λ r. ⌜ r ≡ at + 23 ⌝ }
+{
+    let p = put_8(out, at, 18);
+    let p = put_16(out, p, e.divisor as u64);
+    let p = put_32(out, p, whole(e.constant));
+    let a = e.axes;
+    put_coefficients(out, p, a)
+}
+
+fn command(equality: bool) -> u8
+    ensures { λ r. ⌜ r ≡ opcode (kindIs equality) ⌝ }
+{
+    if equality {
+        return 19;
+    }
+    20
+}
+
+fn put_constraint(out: &mut [u8], at: usize, r: Constraint) -> usize
+    requires { ⌜ at + 37 ≤ length (now out) ⌝ }
+    ensures bytes { λ v. ⌜ Emitted (encodeCommand (constraint (constraintOf r))) (now (out .entry)) at v (now (out .exit)) ⌝ }
+    ensures size { λ v. ⌜ v ≡ at + 37 ⌝ }
+{
+    let p = put_8(out, at, command(r.equality));
+    let p = put_32(out, p, whole(r.constant));
+    let a = r.axes;
+    let p = put_coefficients(out, p, a);
+    let e = r.divisions;
+    put_coefficients(out, p, e)
+}
+
+fn emit_opening(out: &mut [u8], at: usize) -> usize
+    requires { ⌜ at < 2 ^ 63 ⌝ }
+    ensures { λ r. ⌜ Emitted (17 ∷ []) (now (out .entry)) at r (now (out .exit)) ⌝ }
+{
+    if out.len() <= at {
+        return at + 1;
+    }
+    out[at] = 17;
+    at + 1
+}
+
+fn emit_division(out: &mut [u8], at: usize, e: Division) -> usize
+    requires { ⌜ at < 2 ^ 63 + 2000 ⌝ }
+    ensures bytes { λ r. ⌜ Emitted (encodeCommand (division (divisionOf e))) (now (out .entry)) at r (now (out .exit)) ⌝ }
+    ensures size { λ r. ⌜ r ≡ at + 23 ⌝ }
+{
+    if at + 23 <= out.len() {
+        return put_division(out, at, e);
+    }
+    let mut b = [0u8; 23];
+    put_division(&mut b, 0, e);
+    copy_bytes(&b, out, at)
+}
+
+fn emit_constraint(out: &mut [u8], at: usize, r: Constraint) -> usize
+    requires { ⌜ at < 2 ^ 63 + 2000 ⌝ }
+    ensures bytes { λ v. ⌜ Emitted (encodeCommand (constraint (constraintOf r))) (now (out .entry)) at v (now (out .exit)) ⌝ }
+    ensures size { λ v. ⌜ v ≡ at + 37 ⌝ }
+{
+    if at + 37 <= out.len() {
+        return put_constraint(out, at, r);
+    }
+    let mut b = [0u8; 37];
+    put_constraint(&mut b, 0, r);
+    copy_bytes(&b, out, at)
+}
+
+// The bytes of a basic set, its `11` first; the result is the place behind them.
+pub fn encode_basic(b: BasicSet, out: &mut [u8], at: usize) -> usize
+    requires { ⌜ Encodable b at ⌝ }
+    ensures { λ r. ⌜ Emitted (encode (basicSetOf b ∷ [])) (now (out .entry)) at r (now (out .exit)) ⌝ }
+{
+    let divs = b.divs;
+    let cons = b.cons;
+    let mut p = emit_opening(out, at);
+    let mut i = 0;
+    while i < divs {
+        let e = b.divisions[i];
+        p = emit_division(out, p, e);
+        i += 1;
+    }
+    let mut j = 0;
+    while j < cons {
+        let r = b.constraints[j];
+        p = emit_constraint(out, p, r);
+        j += 1;
+    }
+    p
+}

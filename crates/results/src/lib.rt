@@ -1,0 +1,10 @@
+// The result of an operation: its basic sets put into the lent table, and the answer of the call; and the basic sets of a set counted.
+mod counts;
+mod results;
+
+pub use counts::count;
+pub use results::Done;
+pub use results::Outcome;
+pub use results::emit;
+pub use results::finish;
+pub use results::refuse;
