@@ -2,10 +2,10 @@
 use Prim.Native.Nat.{ℕ}
 use lib.ListN.{take}
 use Rattle.codec.specs.Bytes.{Answer, refused, gives}
-use Rattle.query.specs.Search.{at, nothing, spent, Tallied}
-use Rattle.query.specs.declared.search.FirstPoint.{FirstPoint}
-use Rattle.query.specs.declared.search.Outcome.{Outcome}
-use Rattle.query.specs.declared.search.Outcome.the-variants.{At, Nothing, Spent, Refused}
+use Rattle.search.specs.Search.{at, nothing, spent, Tallied}
+use Rattle.search.specs.declared.first.FirstPoint.{FirstPoint}
+use Rattle.search.specs.declared.first.Outcome.{Outcome}
+use Rattle.search.specs.declared.first.Outcome.the-variants.{At, Nothing, Spent, Refused}
 
 abbrev pub foundBy : ℕ → FirstPoint → Outcome → Answer Tallied
 foundBy n f At = gives (record { found = at (take n (f .point)); tested = f .tested })

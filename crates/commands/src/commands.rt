@@ -7,7 +7,8 @@ ghost use lib.Dec.{leb, eqb};
 ghost use lib.ListN.{length, take, drop, getD};
 ghost use Rattle.model.specs.Lists.{all};
 ghost use Rattle.codec.specs.Bytes.{decode, axesFit, valueOf};
-ghost use Rattle.query.specs.Search.{memberBytes, searchBytes};
+ghost use Rattle.query.specs.Member.{memberBytes};
+ghost use Rattle.search.specs.Search.{searchBytes};
 ghost use Rattle.session.specs.Script as S;
 ghost use Rattle.session.specs.Script.{room, setNumbers, coordinates, refusedLine, memberLine, searchLine, execute};
 ghost use Rattle.listing.specs.Written.{Writes};
@@ -24,9 +25,9 @@ use listing::counted_line;
 use listing::header;
 use listing::word;
 use operations::Outcome;
-use query::FirstPoint;
 use query::Membership;
-use query::first_point;
+use search::FirstPoint;
+use search::first_point;
 use session::Cursor;
 use session::Listing;
 
@@ -130,10 +131,10 @@ fn found_line(n: usize, f: FirstPoint, out: &mut [u8]) -> usize
     let p = f.point;
     let k = f.tested as u64;
     match seen {
-        query::Outcome::At => at_line(out, n, p, k),
-        query::Outcome::Nothing => counted_line(out, b"none", k),
-        query::Outcome::Spent => counted_line(out, b"spent", k),
-        query::Outcome::Refused(k) => refused_line(out, k),
+        search::Outcome::At => at_line(out, n, p, k),
+        search::Outcome::Nothing => counted_line(out, b"none", k),
+        search::Outcome::Spent => counted_line(out, b"spent", k),
+        search::Outcome::Refused(k) => refused_line(out, k),
     }
 }
 

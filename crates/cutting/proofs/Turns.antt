@@ -19,11 +19,12 @@ use Rattle.model.specs.declared.Constraint.{Constraint as StoredConstraint}
 use Rattle.model.specs.declared.BasicSet.{BasicSet as Stored}
 use Rattle.codec.proofs.Valid.{All, ValidDivision, ValidConstraint, Valid}
 use Rattle.integers.specs.Mach.{clash}
-use Rattle.algebra.specs.Cut.{above, below, cutBy, joinedDivisions, movedConstraints, moveConstraint, keeps, cut, cutFits, candidatesFit}
+use Rattle.algebra.specs.Cut.{above, below, join, cutBy, joinedDivisions, movedConstraints, moveConstraint, keeps, cut, cutFits, candidatesFit}
 use Rattle.cutting.specs.declared.pieces.CutSteps.{CutSteps}
 use Rattle.joining.specs.declared.divisions.Joined.{Joined}
+use Rattle.cutting.specs.declared.candidates.Survivors.{Survivors}
 use Rattle.joining.specs.Joining.{Joining, Placed}
-use Rattle.cutting.specs.Cutting.{noRule, candidate, isEquality, pieceOf, stepsAt, Begun, Turning, Turned, Pair, CutIs, BothIs}
+use Rattle.cutting.specs.Cutting.{noRule, candidate, isEquality, pieceOf, stepsAt, Begun, Extending, Keeping, Pair, CutIs, BothIs}
 use Rattle.joining.proofs.Placing.{noConstraint, All-at, map-pushed}
 use Rattle.algebra.proofs.Closed.{joined-valid, first-valid, second-valid}
 use Rattle.cutting.proofs.Steps.{bit-small, Carved, carved-start, carved-full, carved-next, carved-end}
@@ -50,6 +51,25 @@ gathered-next w rs cons k cs g h l r e =
           ∙ ap (λ (x : List Constraint). x ++ (constraintOf r ∷ [])) (g .is) ∙ append-assoc w (take k rs) (constraintOf r ∷ []) ∙ ap (λ (x : List Constraint). w ++ x) (sym t);
     }
 
+-- a constraint of the cutter may follow the working ones
+pub record Turning (s : CutSteps) (r : StoredConstraint) : Type 0 where
+  pub extending : Extending (s .working) r
+  pub count : s .count ≤ s .working .cons + s .working .cons
+
+-- its kept candidates are told, and it has joined unless there is none
+pub record Turned (s : CutSteps) (r : StoredConstraint) (kept : Survivors) (x : CutSteps) : Type 0 where
+  pub keeping : Keeping (basicSetOf (s .working)) (constraintOf r) kept
+  pub steps : take (x .count) (x .steps) ≡ take (s .count) (s .steps) ++ stepsAt (s .working .cons) (kept .above) (kept .below)
+  pub divisions : map divisionOf (take (x .working .divs) (x .working .divisions)) ≡ map divisionOf (take (s .working .divs) (s .working .divisions))
+  pub constraints :
+      map constraintOf (take (x .working .cons) (x .working .constraints))
+      ≡ cond (kept .above || kept .below) (map constraintOf (take (s .working .cons) (s .working .constraints)) ++ (constraintOf r ∷ [])) (map constraintOf (take (s .working .cons) (s .working .constraints)))
+  pub divs : x .working .divs ≡ s .working .divs
+  pub cons : x .working .cons ≡ s .working .cons + cond (kept .above || kept .below) 1 0
+  pub count : x .count ≡ s .count + (cond (kept .above) 1 0 + cond (kept .below) 1 0)
+  pub fits : x .fits ≡ true
+
+-- k constraints of the cutter are done
 pub record Going (rows₀ : List (List ℤ)) (place₀ kinds₀ : List ℕ) (c : Stored) (m : ℕ) (places : List ℕ) (s₀ : CutSteps)
     (rows : List (List ℤ)) (place kinds : List ℕ) (s : CutSteps) (k : ℕ) : Type 0 where
   pub high : length rows ≡ length rows₀
@@ -266,10 +286,10 @@ module _ (a c : Stored) (j : Joined) (pair : Pair a c) (jn : Joining (basicSetOf
                   count = g .count;
                 }
 
-            pub going-next : (x : CutSteps) → Turned s r x → (rows′ : List (List ℤ)) (place′ kinds′ : List ℕ) → length rows′ ≡ length rows → length place′ ≡ length place → length kinds′ ≡ length kinds → Goes rows′ place′ kinds′ x (k + 1)
-            going-next x t rows′ place′ kinds′ p q v =
-                let ka : Bool = t .kept .above in
-                let kb : Bool = t .kept .below in
+            pub going-next : (o : Survivors) (x : CutSteps) → Turned s r o x → (rows′ : List (List ℤ)) (place′ kinds′ : List ℕ) → length rows′ ≡ length rows → length place′ ≡ length place → length kinds′ ≡ length kinds → Goes rows′ place′ kinds′ x (k + 1)
+            going-next o x t rows′ place′ kinds′ p q v =
+                let ka : Bool = o .above in
+                let kb : Bool = o .below in
                 let d₀ : List Division = basicSetOf (s₀ .working) .divisions in
                 let w : List Constraint = basicSetOf (s .working) .constraints in
                 let b : BasicSet = record { divisions = d₀; constraints = w } in
@@ -288,9 +308,9 @@ module _ (a c : Stored) (j : Joined) (pair : Pair a c) (jn : Joining (basicSetOf
                       (subst (λ (l : List Constraint). Carved keeps d₀ (basicSetOf (s₀ .working) .constraints) (movedTo (take (c .divs) (j .places)) c) (k + 1) l (take (s .count) (s .steps) ++ stepsAt (length w) ka kb)) (sym (t .constraints)) next);
                   divisions = t .divisions ∙ g .divisions;
                   divs = t .divs ∙ g .divs;
-                  cons = let y = t .cons in let z = bit-small (ka || kb) in let o = room in omega arith;
+                  cons = let y = t .cons in let z = bit-small (ka || kb) in let l = room in omega arith;
                   size = ap length (t .constraints) ∙ longer (ka || kb) w (constraintOf r) ∙ ap (λ (n : ℕ). n + cond (ka || kb) 1 0) (g .size) ∙ sym (t .cons);
-                  count = let y = t .cons in let z = t .count in let o = g .count in more ka kb (s .count) (x .count) (s .working .cons) (x .working .cons) o z y;
+                  count = let y = t .cons in let z = t .count in let l = g .count in more ka kb (s .count) (x .count) (s .working .cons) (x .working .cons) l z y;
                   fits = t .fits;
                 }
               where
@@ -303,3 +323,35 @@ module _ (a c : Stored) (j : Joined) (pair : Pair a c) (jn : Joining (basicSetOf
                 more true false n n′ w w′ h e f = omega arith
                 more false true n n′ w w′ h e f = omega arith
                 more false false n n′ w w′ h e f = omega arith
+
+-- ---- the same, from the facts once joined
+
+pub record Opened (a c : Stored) (j : Joined) (s₀ : CutSteps) : Type 0 where
+  pub pair : Pair a c
+  pub join : Joining (basicSetOf a .divisions) (basicSetOf c .divisions) (c .divs) j
+  pub first : length (a .constraints) ≡ 48
+  pub second : length (c .constraints) ≡ 48
+  pub begun : Begun a (j .divisions) (j .divs) (j .fits) s₀
+  pub fits : j .fits ≡ true
+
+module _ {a c : Stored} {j : Joined} {s₀ : CutSteps} (o : Opened a c j s₀) where
+  pub opened-placed : Placed (take (c .divs) (j .places))
+  opened-placed = placed-is a c j (o .pair) (o .join) (o .first) (o .second) (o .fits)
+
+  pub opened-start : (rows : List (List ℤ)) (place kinds : List ℕ) → Going rows place kinds c (c .divs) (j .places) s₀ rows place kinds s₀ 0
+  opened-start = going-start a c j (o .pair) (o .join) (o .first) (o .second) s₀ (o .begun) (o .fits)
+
+  module _ {rows₀ : List (List ℤ)} {place₀ kinds₀ : List ℕ} {rows : List (List ℤ)} {place kinds : List ℕ} {s : CutSteps} {k : ℕ} (g : Going rows₀ place₀ kinds₀ c (c .divs) (j .places) s₀ rows place kinds s k) where
+    pub opened-full : k < c .cons → s .working .cons ≡ 48 → CutIs a c (record { working = s .working; steps = s .steps; count = s .count; fits = false })
+    opened-full = going-full a c j (o .pair) (o .join) (o .first) (o .second) s₀ (o .begun) (o .fits) rows₀ place₀ kinds₀ rows place kinds s k g
+
+    pub opened-end : c .cons ≤ k → CutIs a c s
+    opened-end = going-end a c j (o .pair) (o .join) (o .first) (o .second) s₀ (o .begun) (o .fits) rows₀ place₀ kinds₀ rows place kinds s k g
+
+    module _ (h : k < c .cons) (u : s .working .cons ≡ 48 → ⊥) {r : StoredConstraint} (is : constraintOf r ≡ moveConstraint (take (c .divs) (j .places)) (constraintOf (getD (c .constraints) k noConstraint))) where
+      pub opened-turning : Turning s r
+      opened-turning = going-turning a c j (o .pair) (o .join) (o .first) (o .second) s₀ (o .begun) (o .fits) rows₀ place₀ kinds₀ rows place kinds s k g h u r is
+
+      pub opened-next : {v : Survivors} {x : CutSteps} → Turned s r v x → (rows′ : List (List ℤ)) (place′ kinds′ : List ℕ) → length rows′ ≡ length rows → length place′ ≡ length place → length kinds′ ≡ length kinds
+          → Going rows₀ place₀ kinds₀ c (c .divs) (j .places) s₀ rows′ place′ kinds′ x (k + 1)
+      opened-next {v} {x} = going-next a c j (o .pair) (o .join) (o .first) (o .second) s₀ (o .begun) (o .fits) rows₀ place₀ kinds₀ rows place kinds s k g h u r is v x

@@ -1,13 +1,13 @@
 -- What the functions that cut ask and give.
 use mathlib.Core.Path.{_≡_}
-use mathlib.Core.Bool.{Bool, true, false, _&&_, _||_, cond}
+use mathlib.Core.Bool.{Bool, true, false, _&&_, cond}
 use mathlib.Core.List.{List, [], _∷_, _++_, map}
 use Prim.Native.Nat.{ℕ, _+_, _*_, _/_, _%_, _≤_, _<_}
 use lib.Dec.{eqb}
 use lib.IntN.{ℤ, pos}
 use lib.ListN.{length, take, getD}
 use Rattle.model.specs.Sets.{Kind, equality, inequality, Constraint, BasicSet}
-use Rattle.model.specs.Values.{divisionOf, constraintOf, basicSetOf}
+use Rattle.model.specs.Values.{constraintOf, basicSetOf}
 use Rattle.model.specs.declared.Division.{Division as StoredDivision}
 use Rattle.model.specs.declared.Constraint.{Constraint as StoredConstraint}
 use Rattle.model.specs.declared.BasicSet.{BasicSet as Stored}
@@ -93,6 +93,14 @@ pub record Caught (w : Stored) (h : Standing) (rows : List (List ℤ)) (place ki
   pub size : length (conditions (basicSetOf w)) ≡ 2 * w .divs + w .cons
   pub stands : Stands (w .divs) (conditions (basicSetOf w)) h rows place kinds past columns
 
+-- the tables go on to the test with r where it joined and the cutter has constraints left
+abbrev pub followed : Bool → ℕ → StoredConstraint → List Constraint → List Constraint
+followed joins left r cs = cond joins (cond (eqb left 0) cs (cs ++ (constraintOf r ∷ []))) cs
+
+pub record Followed (k : ℕ) (r : StoredConstraint) (joins : Bool) (left : ℕ) (h : Standing) (rows : List (List ℤ)) (place kinds : List ℕ) (past : List (List ℤ)) (columns : List ℕ)
+    (x : Standing) (rows′ : List (List ℤ)) (place′ kinds′ : List ℕ) (past′ : List (List ℤ)) (columns′ : List ℕ) : Type 0 where
+  pub stands : (cs : List Constraint) → Stands k cs h rows place kinds past columns → Stands k (followed joins left r cs) x rows′ place′ kinds′ past′ columns′
+
 -- a constraint that no list has
 abbrev pub noRule : Constraint
 noRule = record { kind = inequality; constant = pos 0; axes = []; divisions = [] }
@@ -110,22 +118,10 @@ pub record Step (w : List Constraint) (v : ℕ) : Type 0 where
 abbrev pub stepsAt : ℕ → Bool → Bool → List ℕ
 stepsAt at a b = cond a ((at + at + 1) ∷ []) [] ++ cond b ((at + at + 0) ∷ []) []
 
-pub record Turning (s : CutSteps) (r : StoredConstraint) : Type 0 where
-  pub extending : Extending (s .working) r
-  pub count : s .count ≤ s .working .cons + s .working .cons
-
-pub record Turned (s : CutSteps) (r : StoredConstraint) (x : CutSteps) : Type 0 where
-  pub kept : Survivors
-  pub keeping : Keeping (basicSetOf (s .working)) (constraintOf r) kept
-  pub steps : take (x .count) (x .steps) ≡ take (s .count) (s .steps) ++ stepsAt (s .working .cons) (kept .above) (kept .below)
-  pub divisions : map divisionOf (take (x .working .divs) (x .working .divisions)) ≡ map divisionOf (take (s .working .divs) (s .working .divisions))
-  pub constraints :
-      map constraintOf (take (x .working .cons) (x .working .constraints))
-      ≡ cond (kept .above || kept .below) (map constraintOf (take (s .working .cons) (s .working .constraints)) ++ (constraintOf r ∷ [])) (map constraintOf (take (s .working .cons) (s .working .constraints)))
-  pub divs : x .working .divs ≡ s .working .divs
-  pub cons : x .working .cons ≡ s .working .cons + cond (kept .above || kept .below) 1 0
-  pub count : x .count ≡ s .count + (cond (kept .above) 1 0 + cond (kept .below) 1 0)
-  pub fits : x .fits ≡ true
+-- the steps of the kept candidates of a constraint at place `at`, behind the first n
+pub record Marked (n at : ℕ) (k : Survivors) (steps : List ℕ) (m : ℕ) (steps′ : List ℕ) : Type 0 where
+  pub steps-are : take m steps′ ≡ take n steps ++ stepsAt at (k .above) (k .below)
+  pub count : m ≡ n + (cond (k .above) 1 0 + cond (k .below) 1 0)
 
 pub record Begun (a : Stored) (ds : List StoredDivision) (n : ℕ) (f : Bool) (r : CutSteps) : Type 0 where
   pub divisions : r .working .divisions ≡ ds

@@ -2,13 +2,15 @@
 ghost use mathlib.Core.Path.{_≡_};
 ghost use mathlib.Core.Bool.{false};
 ghost use lib.ListN.{length};
-ghost use Rattle.sharing.specs.Working.{Growing};
-ghost use Rattle.cutting.specs.Cutting.{Opposed, Survives, KeptOf, Behind, Caught};
+ghost use Rattle.simplex.specs.Table.{Valid};
+ghost use Rattle.sharing.specs.Working.{Beginning, Growing};
+ghost use Rattle.cutting.specs.Cutting.{Opposed, Survives, KeptOf, Caught, Followed};
 use joining::above;
 use joining::below;
 use model::BasicSet;
 use model::Constraint;
 use sharing::Standing;
+use sharing::begin;
 use sharing::candidate;
 use sharing::grow;
 use simplex::Verdict;
@@ -76,9 +78,8 @@ pub fn kept(
     }
 }
 
-// The test of the working constraints, brought up to all of them.
-pub fn catch_up(
-    h: Standing,
+// The test of the working constraints.
+pub fn start(
     w: BasicSet,
     rows: &mut [[i64; 18]],
     place: &mut [usize],
@@ -86,15 +87,41 @@ pub fn catch_up(
     past: &mut [[i64; 18]],
     columns: &mut [usize],
 ) -> Standing
-    requires { ⌜ Behind w h (now rows) (now place) (now kinds) (now past) (now columns) ⌝ }
+    requires { ⌜ Valid w ⌝ }
+    requires { ⌜ Beginning (now rows) (now place) (now kinds) (now past) (now columns) ⌝ }
     ensures { λ x. ⌜ Caught w x (now (rows .exit)) (now (place .exit)) (now (kinds .exit)) (now (past .exit)) (now (columns .exit)) ⌝ }
 {
     let divs = w.divs;
     let m = 2 * divs + w.cons;
-    let mut x = h;
+    let mut x = begin(w, rows, place, kinds, past, columns);
     while x.rows < m {
         let c = w.constraints[x.rows - 2 * divs];
         x = grow(x, c, divs, rows, place, kinds, past, columns);
     }
     x
+}
+
+// It goes on with the constraint r where r joined and the cutter has constraints left.
+pub fn follow(
+    h: Standing,
+    r: Constraint,
+    k: usize,
+    joins: bool,
+    left: usize,
+    rows: &mut [[i64; 18]],
+    place: &mut [usize],
+    kinds: &mut [u8],
+    past: &mut [[i64; 18]],
+    columns: &mut [usize],
+) -> Standing
+    requires { ⌜ Growing k h (now rows) (now place) (now kinds) (now past) (now columns) ⌝ }
+    ensures { λ x. ⌜ Followed k r joins left h (now (rows .entry)) (now (place .entry)) (now (kinds .entry)) (now (past .entry)) (now (columns .entry)) x (now (rows .exit)) (now (place .exit)) (now (kinds .exit)) (now (past .exit)) (now (columns .exit)) ⌝ }
+{
+    if !joins {
+        return h;
+    }
+    if left == 0 {
+        return h;
+    }
+    grow(h, r, k, rows, place, kinds, past, columns)
 }

@@ -2,13 +2,15 @@
 ghost use mathlib.Core.Path.{_≡_};
 ghost use mathlib.Core.Bool.{true, false, _||_, cond};
 ghost use Prim.Native.Nat.{_+_, _≤_, _<_};
-ghost use Rattle.model.specs.Values.{constraintOf, basicSetOf};
+ghost use lib.ListN.{length};
+ghost use Rattle.model.specs.Values.{basicSetOf};
 ghost use Rattle.algebra.specs.Cut as C;
 ghost use Rattle.records.specs.Sound.{Sound};
-ghost use Rattle.cutting.specs.Cutting.{Begun, Tables, Spares, Putting, Keeping, Turning, Turned, Pair, CutIs, Piece, PieceIs, BothIs};
+ghost use Rattle.cutting.specs.Cutting.{Begun, Tables, Spares, Putting, Marked, Pair, CutIs, Piece, PieceIs, BothIs};
 use crate::candidates::Survivors;
-use crate::candidates::catch_up;
+use crate::candidates::follow;
 use crate::candidates::kept;
+use crate::candidates::start;
 use joining::above;
 use joining::below;
 use joining::join;
@@ -79,27 +81,25 @@ fn step(at: usize, up: usize) -> u8
     (at + at + up) as u8
 }
 
-// One constraint of the cutter: the steps of its kept candidates, and itself joined unless both were dropped.
-fn turn(s: CutSteps, r: Constraint, k: Survivors) -> CutSteps
-    requires { ⌜ Turning s r ⌝ }
-    requires { ⌜ Keeping (basicSetOf (s .working)) (constraintOf r) k ⌝ }
-    ensures { λ x. ⌜ Turned s r x ⌝ }
+// The steps of the kept candidates of the constraint at place `at`, behind the first n; how many steps there are then.
+fn mark(steps: &mut [u8], n: usize, at: usize, k: Survivors) -> usize
+    requires { ⌜ (at < 48) × (n + 1 < length (now steps)) ⌝ }
+    ensures { λ m. ⌜ Marked n at k (now (steps .entry)) m (now (steps .exit)) ⌝ }
 {
-    let mut w = s.working;
-    let at = w.cons;
-    let mut steps = s.steps;
-    let n = s.count;
     let m = n + one(k.above);
     steps[n] = step(at, 1);
     steps[m] = step(at, 0);
-    let count = m + one(k.below);
-    w.constraints[at] = r;
-    w.cons = at + one(either(k));
+    m + one(k.below)
+}
+
+fn told(working: BasicSet, steps: [u8; 96], count: usize, fits: bool) -> CutSteps
+    ensures { λ r. ⌜ r ≡ record { working = working; steps = steps; count = count; fits = fits } ⌝ }
+{
     CutSteps {
-        working: w,
+        working,
         steps,
         count,
-        fits: true,
+        fits,
     }
 }
 
@@ -138,37 +138,34 @@ pub fn cut(
     let all = j.divisions;
     let places = j.places;
     let fits = j.fits;
-    let mut s = begin(a, all, j.divs, fits);
+    let s = begin(a, all, j.divs, fits);
     if !fits {
         return s;
     }
-    let mut columns = [0usize; 200];
-    let mut h = sharing::begin(s.working, rows, place, kinds, past, &mut columns);
+    let mut w = s.working;
+    let mut steps = s.steps;
+    let mut count = s.count;
+    let mut cols = [0usize; 200];
+    let mut h = start(w, rows, place, kinds, past, &mut cols);
     let cons = c.cons;
     let mut k = 0;
     while k < cons {
-        if s.working.cons == 48 {
-            s.fits = false;
-            return s;
+        let at = w.cons;
+        if at == 48 {
+            return told(w, steps, count, false);
         }
         let e = c.constraints[k];
         let r = moved(e, places, m);
-        h = catch_up(h, s.working, rows, place, kinds, past, &mut columns);
-        let x = kept(
-            h,
-            s.working.divs,
-            r,
-            rows,
-            place,
-            kinds,
-            past,
-            &columns,
-            spare,
-        );
-        s = turn(s, r, x);
+        let x = kept(h, w.divs, r, rows, place, kinds, past, &cols, spare);
+        count = mark(&mut steps, count, at, x);
+        let on = either(x);
+        w.constraints[at] = r;
+        w.cons = at + one(on);
         k += 1;
+        let left = cons - k;
+        h = follow(h, r, w.divs, on, left, rows, place, kinds, past, &mut cols);
     }
-    s
+    told(w, steps, count, true)
 }
 
 // The piece of step v.

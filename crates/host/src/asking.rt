@@ -1,7 +1,7 @@
 // Whether a point is in a set.
 ghost use mathlib.Core.Path.{_≡_};
 ghost use mathlib.Core.List.{[], _∷_};
-ghost use Rattle.query.specs.Search.{memberBytes};
+ghost use Rattle.query.specs.Member.{memberBytes};
 ghost use Rattle.query.specs.Holding.{memberIs};
 ghost use Rattle.host.specs.Numbers.{memberNumber};
 

@@ -1,4 +1,4 @@
--- A bound on the size of an expression, found by `search`: `fits-by (search bounds depth 20) (omega arith) : SFits w z`, and `within-by` for `Within n z`.
+-- A bound on the size of an expression, found by `search`: `fits-by (search bounds depth 20) (omega arith) : SFits w z`.
 -- The bound goes through sums, products, negation, literals, and what a machine reads back (`toZ w (ofZ w z)`), down to facts `Within n x`,
 -- `n < m` and `Bits w s x` in reach, also in fields. It forgets signs: where a difference is smaller than a sum, use `lia-fits`. Assumes nothing.
 use mathlib.Core.Path.{sym, subst}

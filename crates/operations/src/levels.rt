@@ -34,7 +34,7 @@ pub fn cut_all(
         return emit(p, out, s);
     }
     let v = decode_basic(b, pos + 1);
-    let next = pos + 1 + 23 * v.divs + 37 * v.cons;
+    let end = pos + 1 + 23 * v.divs + 37 * v.cons;
     let c = cut(p, v, rows, place, kinds, past, spare);
     let fits = c.fits;
     if !fits {
@@ -51,19 +51,7 @@ pub fn cut_all(
     while i < n {
         let v = c.steps[i];
         let q = piece(w, v);
-        t = cut_all(
-            left - 1,
-            q,
-            b,
-            next,
-            out,
-            t,
-            rows,
-            place,
-            kinds,
-            past,
-            spare,
-        );
+        t = cut_all(left - 1, q, b, end, out, t, rows, place, kinds, past, spare);
         let on = t.fits;
         if !on {
             return t;

@@ -131,7 +131,7 @@ pub extern "C" fn probe_tests(n: usize, set: &[u8], times: usize) -> usize {
     tests(b, times, &mut rows, &mut place, &mut kinds)
 }
 
-// query::first_point: 0 at a point, 1 none, 2 spent, 100 and the number of a refusal.
+// search::first_point: 0 at a point, 1 none, 2 spent, 100 and the number of a refusal.
 #[no_mangle]
 pub extern "C" fn probe_search(
     n: usize,
@@ -154,7 +154,7 @@ pub extern "C" fn probe_search(
     h7: i32,
     h8: i32,
 ) -> u64 {
-    let r = query::first_point(
+    let r = search::first_point(
         n,
         set,
         [l1, l2, l3, l4, l5, l6, l7, l8],
@@ -163,10 +163,10 @@ pub extern "C" fn probe_search(
     );
     let o = r.outcome;
     match o {
-        query::Outcome::At => 0,
-        query::Outcome::Nothing => 1,
-        query::Outcome::Spent => 2,
-        query::Outcome::Refused(k) => 100 + k as u64,
+        search::Outcome::At => 0,
+        search::Outcome::Nothing => 1,
+        search::Outcome::Spent => 2,
+        search::Outcome::Refused(k) => 100 + k as u64,
     }
 }
 
@@ -193,7 +193,7 @@ pub extern "C" fn probe_tally(
     h7: i32,
     h8: i32,
 ) -> u32 {
-    let r = query::first_point(
+    let r = search::first_point(
         n,
         set,
         [l1, l2, l3, l4, l5, l6, l7, l8],
@@ -227,7 +227,7 @@ pub extern "C" fn probe_coordinate(
     h8: i32,
     i: usize,
 ) -> i64 {
-    let r = query::first_point(
+    let r = search::first_point(
         n,
         set,
         [l1, l2, l3, l4, l5, l6, l7, l8],

@@ -13,7 +13,7 @@ use Rattle.codec.specs.Bytes.{Answer, refused, gives, decode, number}
 use Rattle.codec.specs.Places.{setFrom}
 use Rattle.codec.proofs.Parsing.{decode-bad, axes-over}
 use Rattle.codec.proofs.Boundaries.{decode-is}
-use Rattle.query.specs.Search.{memberBytes, pointFits}
+use Rattle.query.specs.Member.{memberBytes, pointFits}
 use Rattle.query.specs.Holder.{firstHolding}
 
 refused-of : {A : Type 0} (a : Answer A) (m : ℕ) → m ≡ number a → (m ≡ 0 → ⊥) → a ≡ refused m

@@ -12,7 +12,7 @@ use lib.ListN.{length, getD, take}
 use Rattle.model.specs.Sets.{BasicSet, Set, inBasic, inSet}
 use Rattle.codec.specs.Bytes.{Answer, refused, gives, decode}
 use Rattle.codec.proofs.Decoded.{no-way}
-use Rattle.query.specs.Search.{pointFits}
+use Rattle.query.specs.Member.{pointFits}
 use Rattle.query.specs.Holder.{firstHolding, first, second, Holder, nobody, inSecond, inEither, holderOf, onBoth, holderBytes}
 use Rattle.model.proofs.Count.{no-suc, suc-inj, to-T}
 

@@ -1,7 +1,4 @@
-pub mod Walks
-pub mod Searched
 pub mod Held
-pub mod Tallied
 pub mod Reading
 pub mod Holding
 pub mod Points
@@ -9,7 +6,3 @@ pub mod Answers
 pub mod Means
 pub mod Handed
 pub mod Seats
-pub mod Parts
-pub mod Lives
-pub mod Levels
-pub mod Searching

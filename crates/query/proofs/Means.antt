@@ -14,7 +14,7 @@ use Rattle.model.proofs.Values.{divides, fits}
 use Rattle.model.proofs.Existential.{exists-in-set, in-set-exists}
 use Rattle.codec.specs.Bytes.{Answer, refused, gives, decode}
 use Rattle.codec.proofs.Decoded.{decode-formed, no-way}
-use Rattle.query.specs.Search.{pointFits, memberBytes}
+use Rattle.query.specs.Member.{pointFits, memberBytes}
 
 divisors : (s : Set) → T (all wellFormed s) → T (all (λ (b : BasicSet). all divides (b .divisions)) s)
 divisors [] t = tt

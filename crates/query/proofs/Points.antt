@@ -15,7 +15,7 @@ use Rattle.integers.specs.Lin.{le, lt, lin, lia-no}
 use Rattle.integers.specs.Mach.{leZ-true}
 use Rattle.model.specs.Lists.{all}
 use Rattle.model.specs.Sets.{isZero, absent}
-use Rattle.query.specs.Search.{coordinate, pointFits}
+use Rattle.query.specs.Member.{coordinate, pointFits}
 use Rattle.query.specs.Holding.{AllWithin, coordinateFits}
 use Rattle.bounds.proofs.Reading.{within-all}
 

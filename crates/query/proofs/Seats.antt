@@ -10,7 +10,7 @@ use Rattle.model.specs.Sets.{Set}
 use Rattle.codec.specs.Bytes.{Answer, refused, decode, number}
 use Rattle.codec.specs.Places.{setFrom}
 use Rattle.codec.proofs.Boundaries.{decode-is}
-use Rattle.query.specs.Search.{pointFits}
+use Rattle.query.specs.Member.{pointFits}
 use Rattle.query.specs.Holder.{firstHolding, first, second, nobody, inEither, holderOf, onBoth, holderBytes}
 
 pub either-first : (k j : ℕ) → (k ≡ 0 → ⊥) → record { table = first; number = k } ≡ inEither k j

@@ -7,7 +7,7 @@ use lib.ListN.{take}
 use Rattle.model.specs.Sets.{Set, inBasic}
 use Rattle.codec.specs.Bytes.{Answer, refused, gives, decode}
 use Rattle.codec.specs.Parts.{Part, partOf}
-use Rattle.query.specs.Search.{pointFits}
+use Rattle.query.specs.Member.{pointFits}
 
 -- the number, counted from k, of the first basic set that holds x; 0: none does
 abbrev pub firstHolding : ℕ → List ℤ → Set → ℕ

@@ -8,7 +8,7 @@ use lib.IntN.{ℤ}
 use lib.ListN.{length, take, drop}
 use Rattle.model.specs.Lists.{all}
 use Rattle.model.specs.Sets.{Constraint, BasicSet, isZero, quotients}
-use Rattle.query.specs.Search.{coordinate}
+use Rattle.query.specs.Member.{coordinate}
 use Rattle.codec.specs.Bytes.{Answer, refused, gives}
 use Rattle.codec.specs.Places.{built, basicAt, endOf}
 pub use Rattle.bounds.specs.Ends.{AllWithin, Tail}

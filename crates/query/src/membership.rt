@@ -7,7 +7,7 @@ ghost use lib.ListN.{length};
 ghost use Rattle.model.specs.Sets as M;
 ghost use Rattle.codec.specs.Bytes.{readConstraint, kindOf};
 ghost use Rattle.codec.specs.Places.{Opened, Accepted, setFrom};
-ghost use Rattle.query.specs.Search.{memberBytes, pointFits};
+ghost use Rattle.query.specs.Member.{memberBytes, pointFits};
 ghost use Rattle.query.specs.Holder.{firstHolding};
 ghost use Rattle.query.specs.Holding.{AllWithin, Point, Values, Tail, Divided, Judged, Spanned, memberIs, coordinateFits};
 use crate::values::holds_at;

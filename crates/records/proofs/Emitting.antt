@@ -132,9 +132,6 @@ emitted-more {l} {m} {o} {o₁} {o₂} {at} {a} {e} p q =
       bytes = q .bytes ∙ ap₂ (λ (i : ℕ) (r : List ℕ). put i m r) (p .ends) (p .bytes) ∙ sym (put-more at l m o);
     }
 
-pub emitted-length : {l o o′ : List ℕ} {at e : ℕ} → Emitted l o at e o′ → length o′ ≡ length o
-emitted-length {l} {o} {o′} {at} {e} p = ap length (p .bytes) ∙ put-length at l o
-
 -- ---- the bits of a signed number x of width w, k bytes
 unsigned-nonneg : (k : ℕ) (z : ℤ) → pos 0 ≤ℤ z → z ≡ pos (unsigned k z)
 unsigned-nonneg k (pos n) h = refl

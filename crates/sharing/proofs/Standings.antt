@@ -29,7 +29,7 @@ row-whole k c few = let f = first-fine k (c ∷ []) few (omega arith) in record 
 clash-point : Point ≡ Wide → ⊥
 clash-point e = clash-wide (sym e)
 
-module _ (k : ℕ) (cs : List Constraint) (h : Standing) (rows : List (List ℤ)) (place kinds : List ℕ) (past : List (List ℤ)) (columns : List ℕ) (g : Stands k cs h rows place kinds past columns) where
+module _ {k : ℕ} {cs : List Constraint} {h : Standing} {rows : List (List ℤ)} {place kinds : List ℕ} {past : List (List ℤ)} {columns : List ℕ} (g : Stands k cs h rows place kinds past columns) where
   abbrev m : ℕ
   m = h .rows
 

@@ -108,43 +108,34 @@ pub fn grow(
     let m = h.rows;
     let made = h.pivots;
     let x = h.verdict;
+    let v = 8 + k + m;
+    let n = k + 10;
+    let more = m + 1;
     let equality = c.equality;
     let kind = kind_of(equality);
     let mut r = [0i64; 18];
     constraint_row(&mut r, c, k);
-    if !replay(&mut r, k + 10, past, columns, made) {
+    if !replay(&mut r, n, past, columns, made) {
         return Standing {
-            rows: m + 1,
+            rows: more,
             pivots: 0,
             verdict: Verdict::Wide,
         };
     }
     match x {
-        Verdict::Point => append(
-            m,
-            8 + k + m,
-            made,
-            k + 10,
-            r,
-            kind,
-            rows,
-            place,
-            kinds,
-            past,
-            columns,
-        ),
+        Verdict::Point => append(m, v, made, n, r, kind, rows, place, kinds, past, columns),
         Verdict::Dropped => Standing {
-            rows: m + 1,
+            rows: more,
             pivots: made,
             verdict: Verdict::Dropped,
         },
         Verdict::Long => Standing {
-            rows: m + 1,
+            rows: more,
             pivots: made,
             verdict: Verdict::Long,
         },
         Verdict::Wide => Standing {
-            rows: m + 1,
+            rows: more,
             pivots: 0,
             verdict: Verdict::Wide,
         },

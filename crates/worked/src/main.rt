@@ -40,7 +40,7 @@ fn without(words: &[u8], a: &[u8]) {
 
 fn searched(words: &[u8], set: &[u8], limit: u32) {
     say(words);
-    found(query::first_point(1, set, [0; 8], [1, 0, 0, 0, 0, 0, 0, 0], limit));
+    found(search::first_point(1, set, [0; 8], [1, 0, 0, 0, 0, 0, 0, 0], limit));
 }
 
 // A is 0 <= x <= 2186.

@@ -91,7 +91,7 @@ pub fn operations() {
 
 fn searched(words: &[u8], low: i32, high: i32, limit: u32) {
     say(words);
-    found(query::first_point(
+    found(search::first_point(
         1,
         b"\x11",
         [low, 0, 0, 0, 0, 0, 0, 0],

@@ -1,8 +1,8 @@
 // Answers, as lines of text.
 use libc::STDOUT_FILENO;
 use operations::Outcome;
-use query::FirstPoint;
 use query::Membership;
+use search::FirstPoint;
 use simplex::Tested;
 use simplex::Verdict;
 
@@ -53,19 +53,19 @@ pub fn found(f: FirstPoint) {
     let outcome = f.outcome;
     let n = f.tested;
     match outcome {
-        query::Outcome::At => {
+        search::Outcome::At => {
             say(b"found, ");
             tally(n);
         }
-        query::Outcome::Nothing => {
+        search::Outcome::Nothing => {
             say(b"none, ");
             tally(n);
         }
-        query::Outcome::Spent => {
+        search::Outcome::Spent => {
             say(b"spent, ");
             tally(n);
         }
-        query::Outcome::Refused(k) => refused(k),
+        search::Outcome::Refused(k) => refused(k),
     }
 }
 

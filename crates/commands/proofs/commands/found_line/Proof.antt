@@ -7,7 +7,7 @@ use Rattle.listing.specs.Text.{codes}
 use Rattle.session.specs.Script.{searchLine}
 use Rattle.commands.specs.Contracts.{tells}
 use Rattle.commands.specs.Found.{foundBy}
-use Rattle.query.specs.declared.search.Outcome.{Outcome}
+use Rattle.search.specs.declared.first.Outcome.{Outcome}
 use borrow.Author.Needs.{needs}
 use Rattle.commands.proofs.commands.found_line.Statement.{statement}
 use Rattle.commands.proofs.commands.found_line.Tie as tie

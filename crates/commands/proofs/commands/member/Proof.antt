@@ -4,7 +4,7 @@ use native.Mathlib.Omega.{arith}
 use Rattle.listing.proofs.Writing.{writes-same}
 use Rattle.session.specs.Script.{memberLine}
 use Rattle.commands.specs.Contracts.{tells}
-use Rattle.query.specs.Search.{memberBytes}
+use Rattle.query.specs.Member.{memberBytes}
 use Rattle.query.specs.Holding.{memberIs}
 use Rattle.query.specs.declared.membership.Membership.{Membership}
 use borrow.Author.Needs.{needs}

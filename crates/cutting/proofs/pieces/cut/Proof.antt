@@ -1,238 +1,235 @@
-use mathlib.Core.Path.{_≡_, refl, sym, _∙_}
+use mathlib.Core.Path.{_≡_, refl, sym, _∙_, subst}
 use mathlib.Core.Bool.{true}
-use Prim.Native.Nat.{_-_, _≤_}
+use Prim.Native.Nat.{_+_, _-_, _*_, _≤_, _<_}
 use native.Mathlib.Omega.{arith}
-use lib.ListN.{length, length-map}
+use lib.ListN.{length, length-set, length-map}
 use Rattle.model.specs.Values.{basicSetOf}
-use Rattle.algebra.specs.Cut as C
 use borrow.Author.Tests.{not-true, not-false}
-use Rattle.cutting.specs.Cutting.{Behind}
-use Rattle.cutting.proofs.Turns.{Going, unjoined, placed-is, going-start, going-full, going-end, going-turning, going-next}
-use Rattle.cutting.proofs.Catching.{opposed, behind-start, caught-holds, caught-growing, behind-turned}
+use Rattle.cutting.specs.Cutting.{Behind, Caught, CutIs}
+use Rattle.cutting.proofs.Steps.{bit-small}
+use Rattle.cutting.proofs.Turns.{Turning, Turned, Going, Opened, unjoined, opened-placed, opened-start, opened-full, opened-end, opened-turning, opened-next}
+use Rattle.cutting.proofs.Catching.{opposed, behind-end, caught-holds, caught-growing, stepped, lengthened, turned, behind-followed, caught-behind, caught-all}
 use borrow.Author.Needs.{needs}
 use Rattle.cutting.proofs.pieces.cut.Statement.{statement}
 use Rattle.cutting.proofs.pieces.cut.Tie as tie
 use Rattle.cutting.proofs.pieces.cut.Reads as reads
 use Rattle.cutting.proofs.pieces.cut.Lts as lts
-use Rattle.cutting.proofs.candidates.catch_up.Reads as catch-up-reads
+use Rattle.cutting.proofs.candidates.follow.Reads as follow-reads
 use Rattle.cutting.proofs.candidates.kept.Reads as kept-reads
+use Rattle.cutting.proofs.candidates.start.Reads as start-reads
 use Rattle.joining.proofs.join.Reads as join-reads
 use Rattle.joining.proofs.moved.Reads as moved-reads
-use Rattle.cutting.proofs.pieces.begin.Reads as pieces-begin-reads
-use Rattle.cutting.proofs.pieces.turn.Reads as turn-reads
-use Rattle.sharing.proofs.begin.Reads as working-begin-reads
+use Rattle.cutting.proofs.pieces.begin.Reads as begin-reads
+use Rattle.cutting.proofs.pieces.either.Reads as either-reads
+use Rattle.cutting.proofs.pieces.mark.Reads as mark-reads
+use Rattle.cutting.proofs.pieces.one.Reads as one-reads
+use Rattle.cutting.proofs.pieces.told.Reads as told-reads
 
 abbrev Inv-loop : tie.InvT-loop
-Inv-loop rows₀ place₀ kinds₀ past₀ spare₀ c n m places fits s₀ columns₀ h₀ cons k₀ rows place kinds past spare s columns h k = Going rows₀ place₀ kinds₀ c m places s₀ rows place kinds s k × Behind (s .working) h rows place kinds past columns × (length spare ≡ length spare₀)
+Inv-loop rows₀ place₀ kinds₀ past₀ spare₀ c n m places fits w₀ steps₀ count₀ cols₀ h₀ cons k₀ rows place kinds past spare w steps count cols h k =
+    Going rows₀ place₀ kinds₀ c m places (stepped w₀ steps₀ count₀) rows place kinds (stepped w steps count) k × Behind w h rows place kinds past cols × (length spare ≡ length spare₀) × (k < cons → 2 * w .divs + w .cons ≤ h .rows)
+    × (length (w .constraints) ≡ 48) × (length steps ≡ 96)
 
 abbrev μ-loop : tie.MeasureT-loop
-μ-loop rows₀ place₀ kinds₀ past₀ spare₀ c n m places fits s₀ columns₀ h₀ cons k₀ rows place kinds past spare s columns h k = cons - k
+μ-loop rows₀ place₀ kinds₀ past₀ spare₀ c n m places fits w₀ steps₀ count₀ cols₀ h₀ cons k₀ rows place kinds past spare w steps count cols h k = cons - k
+
+first-long : (c : tie.Start Inv-loop μ-loop) → length (c .args .a .constraints) ≡ 48
+first-long c = simp length-map at (c .good .0 .1 .1 .1 .0 .1 .0 .1)
+
+second-long : (c : tie.Start Inv-loop μ-loop) → length (c .args .t2 .constraints) ≡ 48
+second-long c = simp length-map at (c .good .1 .0 .1 .1 .1 .0 .1 .0 .1)
+
+-- once joined
+opened : (c : tie.Else1 Inv-loop μ-loop) → Opened (c .before .before .before .before .before .before .before .before .before .args .a) (c .before .before .before .before .before .before .before .before .before .args .t2) (c .before .before .before .before .join .result) (stepped (c .before .begin .result .working) (c .before .begin .result .steps) (c .before .begin .result .count))
+opened c =
+    let st = c .before .before .before .before .before .before .before .before .before in
+    let p1 = c .before .before .before .before in
+    let b = c .before .begin .ensures in
+    let f : p1 .join .result .fits ≡ true = not-false (p1 .join .result .fits) (c .if1 .left) in
+    record {
+      pair = st .pre .0;
+      join = p1 .join .ensures;
+      first = first-long (st);
+      second = second-long (st);
+      begun = record { divisions = b .divisions; constraints = b .constraints; divs = b .divs; cons = b .cons; count = b .count; fits = sym f };
+      fits = f;
+    }
+
+-- at a constraint of the cutter
+caught : (c : tie.In-loop Inv-loop μ-loop) → Caught (c .before .loop .w) (c .before .loop .h) (c .before .loop .rows) (c .before .loop .place) (c .before .loop .kinds) (c .before .loop .past) (c .before .loop .cols)
+caught c = behind-end (c .before .loop .inv .1) (c .before .loop .inv .3 (c .loop-test .taken))
+
+turning : (c : tie.After-moved Inv-loop μ-loop) → Turning (stepped (c .before .before .before .before .loop .w) (c .before .before .before .before .loop .steps) (c .before .before .before .before .loop .count)) (c .moved .result)
+turning c = opened-turning (opened (c .before .before .before .before .before .before .before .before .before .before .before .before .before .before .before .before .before .before .before .before)) (c .before .before .before .before .loop .inv .0) (c .before .before .before .loop-test .taken) (c .before .before .if2 .left) (c .moved .ensures)
+
+-- once it has joined, or has not
+turn : (c : tie.After-one Inv-loop μ-loop) → Turned (stepped (c .before .before .before .before .before .before .before .before .before .before .before .before .before .before .before .before .before .loop .w) (c .before .before .before .before .before .before .before .before .before .before .before .before .before .before .before .before .before .loop .steps) (c .before .before .before .before .before .before .before .before .before .before .before .before .before .before .before .before .before .loop .count)) (c .before .before .before .before .before .before .before .before .before .before .before .before .before .moved .result) (c .before .before .before .before .before .before .kept .result) (stepped (lengthened (c .before .before .before .before .before .before .before .before .before .before .before .before .before .before .before .before .before .loop .w) (c .before .before .before .before .before .before .before .before .before .before .before .before .before .moved .result) (c .one .result)) (c .before .before .before .mark .last .0) (c .before .before .before .mark .result))
+turn c =
+    let st = c .before .before .before .before .before .before .before .before .before .before .before .before .before .before .before .before .before in
+    let t = turning (c .before .before .before .before .before .before .before .before .before .before .before .before .before) in
+    let l = st .loop .inv .4 in
+    let m = t .extending .cons in
+    turned (omega arith) (c .before .before .before .before .before .before .kept .ensures .is (basicSetOf (st .loop .w)) (caught-holds (caught (c .before .before .before .before .before .before .before .before .before .before .before .before .before .before .before .before)))) (c .before .before .before .mark .ensures) (c .before .either .result) (c .before .either .ensures) (c .one .result) (c .one .ensures)
 
 join-requires : tie.Need-join-requires Inv-loop μ-loop
-join-requires c κs = (c .before .before .before .before .pre .0 .divs, c .before .before .before .before .pre .0 .divs′)
+join-requires c κs =
+    let st = c .before .before .before .before in
+    (st .pre .0 .divs, st .pre .0 .divs′)
 
 begin-requires : tie.Need-begin-requires Inv-loop μ-loop
 begin-requires c κs = tt
 
 returns : tie.Need-returns Inv-loop μ-loop
 returns c =
-    let a = c .before .before .before .before .before .before .before .before .before .args .a in
-    let d = c .before .before .before .before .before .before .before .before .before .args .t2 in
-    let la : length (a .constraints) ≡ 48 = simp length-map at (c .before .before .before .before .before .before .before .before .before .good .0 .1 .1 .1 .0 .1 .0 .1) in
-    let lc : length (d .constraints) ≡ 48 = simp length-map at (c .before .before .before .before .before .before .before .before .before .good .1 .0 .1 .1 .1 .0 .1 .0 .1) in
-    let j = c .before .before .before .before .join in
-    let s₀ = c .before .begin in
-    unjoined a d (j .result) (c .before .before .before .before .before .before .before .before .before .pre .0) (j .ensures) la lc (s₀ .result) (s₀ .ensures) (not-true (j .result .fits) (c .if1 .taken))
+    let st = c .before .before .before .before .before .before .before .before .before in
+    let p1 = c .before .before .before .before in
+    unjoined (st .args .a) (st .args .t2) (p1 .join .result) (st .pre .0) (p1 .join .ensures) (first-long (st)) (second-long (st)) (c .before .begin .result) (c .before .begin .ensures)
+    (not-true (p1 .join .result .fits) (c .if1 .taken))
 
-slice-aggregate-begin : tie.Need-slice-aggregate-begin Inv-loop μ-loop
-slice-aggregate-begin c = refl
+slice-aggregate-start : tie.Need-slice-aggregate-start Inv-loop μ-loop
+slice-aggregate-start c = refl
 
-begin-requires-2 : tie.Need-begin-requires-2 Inv-loop μ-loop
-begin-requires-2 c κs =
-    let a = c .before .before .before .before .before .before .before .before .before .before .before .before .before .before .args .a in
-    let d = c .before .before .before .before .before .before .before .before .before .before .before .before .before .before .args .t2 in
-    let la : length (a .constraints) ≡ 48 = simp length-map at (c .before .before .before .before .before .before .before .before .before .before .before .before .before .before .good .0 .1 .1 .1 .0 .1 .0 .1) in
-    let lc : length (d .constraints) ≡ 48 = simp length-map at (c .before .before .before .before .before .before .before .before .before .before .before .before .before .before .good .1 .0 .1 .1 .1 .0 .1 .0 .1) in
-    let j = c .before .before .before .before .before .before .before .before .before .join in
-    let s₀ = c .before .before .before .before .before .before .begin in
-    let w = s₀ .result .working in
-    let ld : length (w .divisions) ≡ 8 = simp length-map at (s₀ .ok .1 .1 .0 .1 .1 .0 .1 .0 .1) in
-    let lw : length (w .constraints) ≡ 48 = simp length-map at (s₀ .ok .1 .1 .0 .1 .1 .1 .0 .1 .0 .1) in
-    let hd : w .divs ≤ 8 = let e = s₀ .ensures .divs in let z = j .ensures .few in omega arith in
-    let hc : w .cons ≤ 48 = let e = s₀ .ensures .cons in let z = c .before .before .before .before .before .before .before .before .before .before .before .before .before .before .pre .0 .cons in omega arith in
-    (record { divs = hd; cons = hc; divisions = ld; constraints = lw }, record { high = c .before .before .before .before .before .before .before .before .before .before .before .before .before .before .pre .1 .high; long = c .before .before .before .before .before .before .before .before .before .before .before .before .before .before .pre .1 .long; wide = c .before .before .before .before .before .before .before .before .before .before .before .before .before .before .pre .1 .wide; many = c .before .before .before .before .before .before .before .before .before .before .before .before .before .before .pre .2 .many; many′ = refl })
+start-requires : tie.Need-start-requires Inv-loop μ-loop
+start-requires c κs =
+    let b = c .before .before .before .before .before .before .before .before .begin in
+    let p = c .before .before .before .before .before .before .before .before .before .before .before .before .before .before .before .before .pre in (
+      record {
+        divs = let e = b .ensures .divs in let z = c .before .before .before .before .before .before .before .before .before .before .before .join .ensures .few in omega arith;
+        cons = let e = b .ensures .cons in let z = p .0 .cons in omega arith;
+        divisions = simp length-map at (b .ok .1 .1 .0 .1 .1 .0 .1 .0 .1);
+        constraints = simp length-map at (b .ok .1 .1 .0 .1 .1 .1 .0 .1 .0 .1);
+      },
+      record { high = p .1 .high; long = p .1 .long; wide = p .1 .wide; many = p .2 .many; many′ = refl },
+    )
 
 loop-holds : tie.Need-loop-holds Inv-loop μ-loop
 loop-holds c =
-    let a = c .before .before .before .before .before .before .before .before .before .before .before .before .before .before .before .before .before .before .before .before .before .before .args .a in
-    let d = c .before .before .before .before .before .before .before .before .before .before .before .before .before .before .before .before .before .before .before .before .before .before .args .t2 in
-    let la : length (a .constraints) ≡ 48 = simp length-map at (c .before .before .before .before .before .before .before .before .before .before .before .before .before .before .before .before .before .before .before .before .before .before .good .0 .1 .1 .1 .0 .1 .0 .1) in
-    let lc : length (d .constraints) ≡ 48 = simp length-map at (c .before .before .before .before .before .before .before .before .before .before .before .before .before .before .before .before .before .before .before .before .before .before .good .1 .0 .1 .1 .1 .0 .1 .0 .1) in
-    let j = c .before .before .before .before .before .before .before .before .before .before .before .before .before .before .before .before .before .join in
-    let s₀ = c .before .before .before .before .before .before .before .before .before .before .before .before .before .before .begin in
-    let f : j .result .fits ≡ true = not-false (j .result .fits) (c .before .before .before .before .before .before .before .before .before .before .before .before .before .if1 .left) in
-    let w = s₀ .result .working in
-    let ld : length (w .divisions) ≡ 8 = simp length-map at (s₀ .ok .1 .1 .0 .1 .1 .0 .1 .0 .1) in
-    let lw : length (w .constraints) ≡ 48 = simp length-map at (s₀ .ok .1 .1 .0 .1 .1 .1 .0 .1 .0 .1) in
-    let hd : w .divs ≤ 8 = let e = s₀ .ensures .divs in let z = j .ensures .few in omega arith in
-    let hc : w .cons ≤ 48 = let e = s₀ .ensures .cons in let z = c .before .before .before .before .before .before .before .before .before .before .before .before .before .before .before .before .before .before .before .before .before .before .pre .0 .cons in omega arith in
-    let b₀ = c .before .before .before .before .before .before .before .begin2 in
-    (going-start a d (j .result) (c .before .before .before .before .before .before .before .before .before .before .before .before .before .before .before .before .before .before .before .before .before .before .pre .0) (j .ensures) la lc (s₀ .result) (s₀ .ensures) f (b₀ .last .1 .0) (b₀ .last .1 .1 .0) (b₀ .last .1 .1 .1 .0), behind-start w ld lw hd hc (b₀ .result) (b₀ .last .1 .0) (b₀ .last .1 .1 .0) (b₀ .last .1 .1 .1 .0) (b₀ .last .1 .1 .1 .1 .0) (b₀ .last .1 .1 .1 .1 .1 .0) (b₀ .ensures), refl)
+    let u = c .before .before .before .before .before .before .before .start in
+    let b = c .before .before .before .before .before .before .before .before .before .before .before .before .before .before .before .before .begin in
+    let g = u .ensures in
+    let hd : b .result .working .divs ≤ 8 = let e = b .ensures .divs in let z = c .before .before .before .before .before .before .before .before .before .before .before .before .before .before .before .before .before .before .before .join .ensures .few in omega arith in
+    let hc : b .result .working .cons ≤ 48 = let e = b .ensures .cons in let z = c .before .before .before .before .before .before .before .before .before .before .before .before .before .before .before .before .before .before .before .before .before .before .before .before .pre .0 .cons in omega arith in
+    (opened-start (opened (c .before .before .before .before .before .before .before .before .before .before .before .before .before .before .before)) (u .last .1 .0) (u .last .1 .1 .0) (u .last .1 .1 .1 .0), caught-behind g hd hc, refl, λ z. caught-all g, simp length-map at (b .ok .1 .1 .0 .1 .1 .1 .0 .1 .0 .1), simp length-map at (b .ok .1 .1 .1 .0 .1 .0 .1))
+
+told-requires : tie.Need-told-requires Inv-loop μ-loop
+told-requires c κs = search needs
 
 same-length : tie.Need-same-length Inv-loop μ-loop
-same-length c = c .before .before .before .loop .inv .0 .high ∙ c .before .before .before .before .before .before .before .before .before .before .before .begin2 .kept .1 .0
+same-length c = c .before .before .before .loop .inv .0 .high ∙ c .before .before .before .before .before .before .before .before .before .before .before .start .kept .1 .0
 
 same-length-2 : tie.Need-same-length-2 Inv-loop μ-loop
-same-length-2 c = c .before .before .before .loop .inv .0 .long ∙ c .before .before .before .before .before .before .before .before .before .before .before .begin2 .kept .1 .1 .0
+same-length-2 c = c .before .before .before .loop .inv .0 .long ∙ c .before .before .before .before .before .before .before .before .before .before .before .start .kept .1 .1 .0
 
 same-length-3 : tie.Need-same-length-3 Inv-loop μ-loop
-same-length-3 c = c .before .before .before .loop .inv .0 .wide ∙ c .before .before .before .before .before .before .before .before .before .before .before .begin2 .kept .1 .1 .1 .0
+same-length-3 c = c .before .before .before .loop .inv .0 .wide ∙ c .before .before .before .before .before .before .before .before .before .before .before .start .kept .1 .1 .1 .0
 
 same-length-4 : tie.Need-same-length-4 Inv-loop μ-loop
-same-length-4 c = c .before .before .before .loop .inv .1 .stands .many ∙ sym (c .before .before .before .before .before .before .before .before .before .before .before .before .before .before .before .before .before .before .before .before .before .before .before .before .before .before .pre .2 .many)
+same-length-4 c = c .before .before .before .loop .inv .1 .stands .many ∙ sym (c .before .before .before .before .before .before .before .before .before .before .before .before .before .before .before .before .before .before .before .before .before .before .before .before .before .before .before .before .pre .2 .many)
 
 same-length-5 : tie.Need-same-length-5 Inv-loop μ-loop
 same-length-5 c = c .before .before .before .loop .inv .2
 
 returns-2 : tie.Need-returns-2 Inv-loop μ-loop
 returns-2 c =
-    let a = c .before .before .before .before .before .before .before .before .before .before .before .before .before .before .before .before .before .before .before .before .before .before .before .before .before .before .args .a in
-    let d = c .before .before .before .before .before .before .before .before .before .before .before .before .before .before .before .before .before .before .before .before .before .before .before .before .before .before .args .t2 in
-    let la : length (a .constraints) ≡ 48 = simp length-map at (c .before .before .before .before .before .before .before .before .before .before .before .before .before .before .before .before .before .before .before .before .before .before .before .before .before .before .good .0 .1 .1 .1 .0 .1 .0 .1) in
-    let lc : length (d .constraints) ≡ 48 = simp length-map at (c .before .before .before .before .before .before .before .before .before .before .before .before .before .before .before .before .before .before .before .before .before .before .before .before .before .before .good .1 .0 .1 .1 .1 .0 .1 .0 .1) in
-    let j = c .before .before .before .before .before .before .before .before .before .before .before .before .before .before .before .before .before .before .before .before .before .join in
-    let s₀ = c .before .before .before .before .before .before .before .before .before .before .before .before .before .before .before .before .before .before .begin in
-    let f : j .result .fits ≡ true = not-false (j .result .fits) (c .before .before .before .before .before .before .before .before .before .before .before .before .before .before .before .before .before .if1 .left) in
-    let l = c .before .before .before .loop in
-    let b₀ = c .before .before .before .before .before .before .before .before .before .before .before .begin2 in
-    let R = b₀ .last .1 .0 in
-    let P = b₀ .last .1 .1 .0 in
-    let K = b₀ .last .1 .1 .1 .0 in
-    going-full a d (j .result) (c .before .before .before .before .before .before .before .before .before .before .before .before .before .before .before .before .before .before .before .before .before .before .before .before .before .before .pre .0) (j .ensures) la lc (s₀ .result) (s₀ .ensures) f R P K (l .rows) (l .place) (l .kinds) (l .s) (l .k) (l .inv .0) (c .before .before .loop-test .taken) (c .if2 .taken)
+    let st = c .before .before .before .before .before .before .before .before .before .before .before .before .before .before .before .before .before .before .before .before .before .before .before .before .before .before .before .before in
+    subst (CutIs (st .args .a) (st .args .t2)) (sym (c .told .ensures)) (opened-full (opened (c .before .before .before .before .before .before .before .before .before .before .before .before .before .before .before .before .before .before .before)) (c .before .before .before .loop .inv .0) (c .before .before .loop-test .taken) (c .before .if2 .taken))
 
 mul-e : tie.Need-mul-e Inv-loop μ-loop
-mul-e c = let h = c .before .before .before .before .before .before .before .before .before .before .before .before .before .before .before .before .before .before .before .before .before .before .before .before .before .before .pre .0 .cons′ in search needs
+mul-e c = let h = c .before .before .before .before .before .before .before .before .before .before .before .before .before .before .before .before .before .before .before .before .before .before .before .before .before .before .before .pre .0 .cons′ in search needs
 
 element-copy-out-e : tie.Need-element-copy-out-e Inv-loop μ-loop
-element-copy-out-e c = let h = c .before .before .before .before .before .before .before .before .before .before .before .before .before .before .before .before .before .before .before .before .before .before .before .before .before .before .pre .0 .cons′ in let z = c .before .before .loop-test .taken in omega arith
+element-copy-out-e c = let h = c .before .before .before .before .before .before .before .before .before .before .before .before .before .before .before .before .before .before .before .before .before .before .before .before .before .before .before .pre .0 .cons′ in let z = c .before .loop-test .taken in omega arith
 
 moved-requires : tie.Need-moved-requires Inv-loop μ-loop
-moved-requires c κs =
-    let a = c .before .before .before .before .before .before .before .before .before .before .before .before .before .before .before .before .before .before .before .before .before .before .before .before .before .before .before .args .a in
-    let d = c .before .before .before .before .before .before .before .before .before .before .before .before .before .before .before .before .before .before .before .before .before .before .before .before .before .before .before .args .t2 in
-    let la : length (a .constraints) ≡ 48 = simp length-map at (c .before .before .before .before .before .before .before .before .before .before .before .before .before .before .before .before .before .before .before .before .before .before .before .before .before .before .before .good .0 .1 .1 .1 .0 .1 .0 .1) in
-    let lc : length (d .constraints) ≡ 48 = simp length-map at (c .before .before .before .before .before .before .before .before .before .before .before .before .before .before .before .before .before .before .before .before .before .before .before .before .before .before .before .good .1 .0 .1 .1 .1 .0 .1 .0 .1) in
-    let j = c .before .before .before .before .before .before .before .before .before .before .before .before .before .before .before .before .before .before .before .before .before .before .join in
-    let s₀ = c .before .before .before .before .before .before .before .before .before .before .before .before .before .before .before .before .before .before .before .begin in
-    let f : j .result .fits ≡ true = not-false (j .result .fits) (c .before .before .before .before .before .before .before .before .before .before .before .before .before .before .before .before .before .before .if1 .left) in
-    (c .before .before .before .before .before .before .before .before .before .before .before .before .before .before .before .before .before .before .before .before .before .before .before .before .before .before .before .pre .0 .divs′, placed-is a d (j .result) (c .before .before .before .before .before .before .before .before .before .before .before .before .before .before .before .before .before .before .before .before .before .before .before .before .before .before .before .pre .0) (j .ensures) la lc f)
-
-slice-aggregate-catch-up : tie.Need-slice-aggregate-catch-up Inv-loop μ-loop
-slice-aggregate-catch-up c = sym (c .before .before .before .before .before .before .before .before .before .before .loop .inv .1 .stands .many′)
-
-catch-up-requires : tie.Need-catch-up-requires Inv-loop μ-loop
-catch-up-requires c κs = c .before .before .before .before .before .before .before .before .before .before .loop .inv .1
+moved-requires c κs = (c .before .before .before .before .before .before .before .before .before .before .before .before .before .before .before .before .before .before .before .before .before .before .before .before .before .before .before .before .pre .0 .divs′, opened-placed (opened (c .before .before .before .before .before .before .before .before .before .before .before .before .before .before .before .before .before .before .before)))
 
 slice-aggregate-kept : tie.Need-slice-aggregate-kept Inv-loop μ-loop
-slice-aggregate-kept c = sym (c .before .before .before .before .before .before .before .before .before .before .before .before .catch-up .ensures .stands .many′)
+slice-aggregate-kept c = sym (c .before .before .before .before .before .before .before .before .before .loop .inv .1 .stands .many′)
 
 kept-requires : tie.Need-kept-requires Inv-loop μ-loop
 kept-requires c κs =
-    let a = c .before .before .before .before .before .before .before .before .before .before .before .before .before .before .before .before .before .before .before .before .before .before .before .before .before .before .before .before .before .before .before .before .before .before .before .before .before .before .before .before .before .before .before .before .before .before .before .args .a in
-    let d = c .before .before .before .before .before .before .before .before .before .before .before .before .before .before .before .before .before .before .before .before .before .before .before .before .before .before .before .before .before .before .before .before .before .before .before .before .before .before .before .before .before .before .before .before .before .before .before .args .t2 in
-    let la : length (a .constraints) ≡ 48 = simp length-map at (c .before .before .before .before .before .before .before .before .before .before .before .before .before .before .before .before .before .before .before .before .before .before .before .before .before .before .before .before .before .before .before .before .before .before .before .before .before .before .before .before .before .before .before .before .before .before .before .good .0 .1 .1 .1 .0 .1 .0 .1) in
-    let lc : length (d .constraints) ≡ 48 = simp length-map at (c .before .before .before .before .before .before .before .before .before .before .before .before .before .before .before .before .before .before .before .before .before .before .before .before .before .before .before .before .before .before .before .before .before .before .before .before .before .before .before .before .before .before .before .before .before .before .before .good .1 .0 .1 .1 .1 .0 .1 .0 .1) in
-    let j = c .before .before .before .before .before .before .before .before .before .before .before .before .before .before .before .before .before .before .before .before .before .before .before .before .before .before .before .before .before .before .before .before .before .before .before .before .before .before .before .before .before .before .join in
-    let s₀ = c .before .before .before .before .before .before .before .before .before .before .before .before .before .before .before .before .before .before .before .before .before .before .before .before .before .before .before .before .before .before .before .before .before .before .before .before .before .before .before .begin in
-    let f : j .result .fits ≡ true = not-false (j .result .fits) (c .before .before .before .before .before .before .before .before .before .before .before .before .before .before .before .before .before .before .before .before .before .before .before .before .before .before .before .before .before .before .before .before .before .before .before .before .before .before .if1 .left) in
-    let l = c .before .before .before .before .before .before .before .before .before .before .before .before .before .before .before .before .before .before .before .before .before .before .before .before .loop in
-    let b₀ = c .before .before .before .before .before .before .before .before .before .before .before .before .before .before .before .before .before .before .before .before .before .before .before .before .before .before .before .before .before .before .before .before .begin2 in
-    let R = b₀ .last .1 .0 in
-    let P = b₀ .last .1 .1 .0 in
-    let K = b₀ .last .1 .1 .1 .0 in
-    let t = going-turning a d (j .result) (c .before .before .before .before .before .before .before .before .before .before .before .before .before .before .before .before .before .before .before .before .before .before .before .before .before .before .before .before .before .before .before .before .before .before .before .before .before .before .before .before .before .before .before .before .before .before .before .pre .0) (j .ensures) la lc (s₀ .result) (s₀ .ensures) f R P K (l .rows) (l .place) (l .kinds) (l .s) (l .k) (l .inv .0) (c .before .before .before .before .before .before .before .before .before .before .before .before .before .before .before .before .before .before .before .before .before .before .before .loop-test .taken) (c .before .before .before .before .before .before .before .before .before .before .before .before .before .before .before .before .before .before .before .before .before .if2 .left) (c .before .before .before .before .before .before .before .before .before .before .before .before .before .before .before .before .before .before .before .moved .result) (c .before .before .before .before .before .before .before .before .before .before .before .before .before .before .before .before .before .before .before .moved .ensures) in
-    let u = c .before .before .before .before .before .before .before .before .before .before .before .before .before .catch-up in
-    let g = u .ensures in
-    (caught-growing g (t .extending .divs) (t .extending .cons), (opposed (t .extending .n) _ (c .before .before .before .before .before .before .before .before .before .before .before .before .before .before .before .before .before .before .before .moved .result) (t .extending .new), l .inv .2 ∙ c .before .before .before .before .before .before .before .before .before .before .before .before .before .before .before .before .before .before .before .before .before .before .before .before .before .before .before .before .before .before .before .before .before .before .before .before .before .before .before .before .before .before .before .before .before .before .before .pre .2 .high))
+    let st = c .before .before .before .before .before .before in
+    let t = turning (st) in
+    (caught-growing (caught (c .before .before .before .before .before .before .before .before .before)) (t .extending .divs) (t .extending .cons), (opposed (t .extending .n) _ (st .moved .result) (t .extending .new), c .before .before .before .before .before .before .before .before .before .before .loop .inv .2 ∙ c .before .before .before .before .before .before .before .before .before .before .before .before .before .before .before .before .before .before .before .before .before .before .before .before .before .before .before .before .before .before .before .before .before .before .before .pre .2 .high))
 
-turn-requires : tie.Need-turn-requires Inv-loop μ-loop
-turn-requires c κs =
-    let a = c .before .before .before .before .before .before .before .before .before .before .before .before .before .before .before .before .before .before .before .before .before .before .before .before .before .before .before .before .before .before .before .before .before .before .before .before .before .before .before .before .before .before .before .before .before .before .before .before .before .args .a in
-    let d = c .before .before .before .before .before .before .before .before .before .before .before .before .before .before .before .before .before .before .before .before .before .before .before .before .before .before .before .before .before .before .before .before .before .before .before .before .before .before .before .before .before .before .before .before .before .before .before .before .before .args .t2 in
-    let la : length (a .constraints) ≡ 48 = simp length-map at (c .before .before .before .before .before .before .before .before .before .before .before .before .before .before .before .before .before .before .before .before .before .before .before .before .before .before .before .before .before .before .before .before .before .before .before .before .before .before .before .before .before .before .before .before .before .before .before .before .before .good .0 .1 .1 .1 .0 .1 .0 .1) in
-    let lc : length (d .constraints) ≡ 48 = simp length-map at (c .before .before .before .before .before .before .before .before .before .before .before .before .before .before .before .before .before .before .before .before .before .before .before .before .before .before .before .before .before .before .before .before .before .before .before .before .before .before .before .before .before .before .before .before .before .before .before .before .before .good .1 .0 .1 .1 .1 .0 .1 .0 .1) in
-    let j = c .before .before .before .before .before .before .before .before .before .before .before .before .before .before .before .before .before .before .before .before .before .before .before .before .before .before .before .before .before .before .before .before .before .before .before .before .before .before .before .before .before .before .before .before .join in
-    let s₀ = c .before .before .before .before .before .before .before .before .before .before .before .before .before .before .before .before .before .before .before .before .before .before .before .before .before .before .before .before .before .before .before .before .before .before .before .before .before .before .before .before .before .begin in
-    let f : j .result .fits ≡ true = not-false (j .result .fits) (c .before .before .before .before .before .before .before .before .before .before .before .before .before .before .before .before .before .before .before .before .before .before .before .before .before .before .before .before .before .before .before .before .before .before .before .before .before .before .before .before .if1 .left) in
-    let l = c .before .before .before .before .before .before .before .before .before .before .before .before .before .before .before .before .before .before .before .before .before .before .before .before .before .before .loop in
-    let b₀ = c .before .before .before .before .before .before .before .before .before .before .before .before .before .before .before .before .before .before .before .before .before .before .before .before .before .before .before .before .before .before .before .before .before .before .begin2 in
-    let R = b₀ .last .1 .0 in
-    let P = b₀ .last .1 .1 .0 in
-    let K = b₀ .last .1 .1 .1 .0 in
-    let t = going-turning a d (j .result) (c .before .before .before .before .before .before .before .before .before .before .before .before .before .before .before .before .before .before .before .before .before .before .before .before .before .before .before .before .before .before .before .before .before .before .before .before .before .before .before .before .before .before .before .before .before .before .before .before .before .pre .0) (j .ensures) la lc (s₀ .result) (s₀ .ensures) f R P K (l .rows) (l .place) (l .kinds) (l .s) (l .k) (l .inv .0) (c .before .before .before .before .before .before .before .before .before .before .before .before .before .before .before .before .before .before .before .before .before .before .before .before .before .loop-test .taken) (c .before .before .before .before .before .before .before .before .before .before .before .before .before .before .before .before .before .before .before .before .before .before .before .if2 .left) (c .before .before .before .before .before .before .before .before .before .before .before .before .before .before .before .before .before .before .before .before .before .moved .result) (c .before .before .before .before .before .before .before .before .before .before .before .before .before .before .before .before .before .before .before .before .before .moved .ensures) in
-    let u = c .before .before .before .before .before .before .before .before .before .before .before .before .before .before .before .catch-up in
-    let g = u .ensures in
-    (t, c .before .kept .ensures .is (basicSetOf (l .s .working)) (caught-holds g))
+slice-aggregate-mark : tie.Need-slice-aggregate-mark Inv-loop μ-loop
+slice-aggregate-mark c = sym (c .before .before .before .before .before .before .before .before .before .before .before .before .before .loop .inv .5)
+
+mark-requires : tie.Need-mark-requires Inv-loop μ-loop
+mark-requires c κs = let t = turning (c .before .before .before .before .before .before .before .before .before) in let m = t .extending .cons in let n = t .count in let l = c .before .before .before .before .before .before .before .before .before .before .before .before .before .loop .inv .5 in (m, omega arith)
+
+either-requires : tie.Need-either-requires Inv-loop μ-loop
+either-requires c κs = search needs
+
+mul-r : tie.Need-mul-r Inv-loop μ-loop
+mul-r c = let m = turning (c .before .before .before .before .before .before .before .before .before .before .before .before) .extending .cons in search needs
+
+element-set-from-r : tie.Need-element-set-from-r Inv-loop μ-loop
+element-set-from-r c = let m = turning (c .before .before .before .before .before .before .before .before .before .before .before .before) .extending .cons in search needs
+
+one-requires : tie.Need-one-requires Inv-loop μ-loop
+one-requires c κs = search needs
+
+add-w : tie.Need-add-w Inv-loop μ-loop
+add-w c = let m = turning (c .before .before .before .before .before .before .before .before .before .before .before .before .before) .extending .cons in let k = c .one .ensures in let j = bit-small (c .before .either .result) in omega arith
 
 add-k : tie.Need-add-k Inv-loop μ-loop
-add-k c = let h = c .before .before .before .before .before .before .before .before .before .before .before .before .before .before .before .before .before .before .before .before .before .before .before .before .before .before .before .before .before .before .before .before .before .before .before .before .before .before .before .before .before .before .before .before .before .before .before .before .before .before .pre .0 .cons′ in omega (arith, c .before .before .before .before .before .before .before .before .before .before .before .before .before .before .before .before .before .before .before .before .before .before .before .before .before .before .loop-test .taken)
+add-k c = let h = c .before .before .before .before .before .before .before .before .before .before .before .before .before .before .before .before .before .before .before .before .before .before .before .before .before .before .before .before .before .before .before .before .before .before .before .before .before .before .before .before .before .before .pre .0 .cons′ in omega (arith, c .before .before .before .before .before .before .before .before .before .before .before .before .before .before .before .before .loop-test .taken)
+
+sub-left : tie.Need-sub-left Inv-loop μ-loop
+sub-left c = omega (arith, c .before .before .before .before .before .before .before .before .before .before .before .before .before .before .before .before .loop-test .taken)
+
+slice-aggregate-follow : tie.Need-slice-aggregate-follow Inv-loop μ-loop
+slice-aggregate-follow c = sym (c .before .before .before .before .before .before .before .before .before .before .before .before .before .before .before .before .before .before .before .before .before .before .loop .inv .1 .stands .many′)
+
+follow-requires : tie.Need-follow-requires Inv-loop μ-loop
+follow-requires c κs = let t = turning (c .before .before .before .before .before .before .before .before .before .before .before .before .before .before .before .before .before .before) in caught-growing (caught (c .before .before .before .before .before .before .before .before .before .before .before .before .before .before .before .before .before .before .before .before .before)) (t .extending .divs) (t .extending .cons)
 
 loop-less : tie.Need-loop-less Inv-loop μ-loop
-loop-less c = omega (arith, c .before .before .before .before .before .before .before .before .before .before .before .before .before .before .before .before .before .before .before .before .before .before .before .before .before .before .loop-test .taken)
+loop-less c = omega (arith, c .before .before .before .before .before .before .before .before .before .before .before .before .before .before .before .before .before .before .before .before .before .before .before .before .before .before .before .before .before .loop-test .taken)
 
 loop-again : tie.Need-loop-again Inv-loop μ-loop
 loop-again c =
-    let a = c .before .before .before .before .before .before .before .before .before .before .before .before .before .before .before .before .before .before .before .before .before .before .before .before .before .before .before .before .before .before .before .before .before .before .before .before .before .before .before .before .before .before .before .before .before .before .before .before .before .before .args .a in
-    let d = c .before .before .before .before .before .before .before .before .before .before .before .before .before .before .before .before .before .before .before .before .before .before .before .before .before .before .before .before .before .before .before .before .before .before .before .before .before .before .before .before .before .before .before .before .before .before .before .before .before .before .args .t2 in
-    let la : length (a .constraints) ≡ 48 = simp length-map at (c .before .before .before .before .before .before .before .before .before .before .before .before .before .before .before .before .before .before .before .before .before .before .before .before .before .before .before .before .before .before .before .before .before .before .before .before .before .before .before .before .before .before .before .before .before .before .before .before .before .before .good .0 .1 .1 .1 .0 .1 .0 .1) in
-    let lc : length (d .constraints) ≡ 48 = simp length-map at (c .before .before .before .before .before .before .before .before .before .before .before .before .before .before .before .before .before .before .before .before .before .before .before .before .before .before .before .before .before .before .before .before .before .before .before .before .before .before .before .before .before .before .before .before .before .before .before .before .before .before .good .1 .0 .1 .1 .1 .0 .1 .0 .1) in
-    let j = c .before .before .before .before .before .before .before .before .before .before .before .before .before .before .before .before .before .before .before .before .before .before .before .before .before .before .before .before .before .before .before .before .before .before .before .before .before .before .before .before .before .before .before .before .before .join in
-    let s₀ = c .before .before .before .before .before .before .before .before .before .before .before .before .before .before .before .before .before .before .before .before .before .before .before .before .before .before .before .before .before .before .before .before .before .before .before .before .before .before .before .before .before .before .begin in
-    let f : j .result .fits ≡ true = not-false (j .result .fits) (c .before .before .before .before .before .before .before .before .before .before .before .before .before .before .before .before .before .before .before .before .before .before .before .before .before .before .before .before .before .before .before .before .before .before .before .before .before .before .before .before .before .if1 .left) in
-    let l = c .before .before .before .before .before .before .before .before .before .before .before .before .before .before .before .before .before .before .before .before .before .before .before .before .before .before .before .loop in
-    let b₀ = c .before .before .before .before .before .before .before .before .before .before .before .before .before .before .before .before .before .before .before .before .before .before .before .before .before .before .before .before .before .before .before .before .before .before .before .begin2 in
-    let R = b₀ .last .1 .0 in
-    let P = b₀ .last .1 .1 .0 in
-    let K = b₀ .last .1 .1 .1 .0 in
-    let t = going-turning a d (j .result) (c .before .before .before .before .before .before .before .before .before .before .before .before .before .before .before .before .before .before .before .before .before .before .before .before .before .before .before .before .before .before .before .before .before .before .before .before .before .before .before .before .before .before .before .before .before .before .before .before .before .before .pre .0) (j .ensures) la lc (s₀ .result) (s₀ .ensures) f R P K (l .rows) (l .place) (l .kinds) (l .s) (l .k) (l .inv .0) (c .before .before .before .before .before .before .before .before .before .before .before .before .before .before .before .before .before .before .before .before .before .before .before .before .before .before .loop-test .taken) (c .before .before .before .before .before .before .before .before .before .before .before .before .before .before .before .before .before .before .before .before .before .before .before .before .if2 .left) (c .before .before .before .before .before .before .before .before .before .before .before .before .before .before .before .before .before .before .before .before .before .before .moved .result) (c .before .before .before .before .before .before .before .before .before .before .before .before .before .before .before .before .before .before .before .before .before .before .moved .ensures) in
-    let u = c .before .before .before .before .before .before .before .before .before .before .before .before .before .before .before .before .catch-up in
-    let g = u .ensures in
-    let x = c .turn in (
-      going-next a d (j .result) (c .before .before .before .before .before .before .before .before .before .before .before .before .before .before .before .before .before .before .before .before .before .before .before .before .before .before .before .before .before .before .before .before .before .before .before .before .before .before .before .before .before .before .before .before .before .before .before .before .before .before .pre .0) (j .ensures) la lc (s₀ .result) (s₀ .ensures) f R P K (l .rows) (l .place) (l .kinds) (l .s) (l .k) (l .inv .0) (c .before .before .before .before .before .before .before .before .before .before .before .before .before .before .before .before .before .before .before .before .before .before .before .before .before .before .loop-test .taken) (c .before .before .before .before .before .before .before .before .before .before .before .before .before .before .before .before .before .before .before .before .before .before .before .before .if2 .left) (c .before .before .before .before .before .before .before .before .before .before .before .before .before .before .before .before .before .before .before .before .before .before .moved .result) (c .before .before .before .before .before .before .before .before .before .before .before .before .before .before .before .before .before .before .before .before .before .before .moved .ensures) (x .result) (x .ensures) (u .last .1 .1 .0) (u .last .1 .1 .1 .0) (u .last .1 .1 .1 .1 .0) (u .kept .1 .1 .0) (u .kept .1 .1 .1 .0) (u .kept .1 .1 .1 .1 .0),
-      behind-turned (l .s) (c .before .before .before .before .before .before .before .before .before .before .before .before .before .before .before .before .before .before .before .before .before .before .moved .result) (x .result) (x .ensures) (u .result) (u .last .1 .1 .0) (u .last .1 .1 .1 .0) (u .last .1 .1 .1 .1 .0) (u .last .1 .1 .1 .1 .1 .0) (u .last .1 .1 .1 .1 .1 .1 .0) g (t .extending .divs) (t .extending .cons),
-      c .before .before .kept .kept .1 .1 .1 .1 .1 .1 .1 .1 .0 ∙ l .inv .2,
+    let st = c .before .before .before .before .before .before .before .before .before .before .before .before .before .before .before .before .before .before .before .before .before .before .before .before .before .before .before .before .before in
+    let p1 = c .before .before .before .before .before .before .before .before .before .before .before .before .before .before .before .before .before .before .before .before .before .before .before .before .before .before in
+    let p2 = c .before .before .before .before .before .before .before .before .before .before .before .before .before .before in
+    let l = c .before .before .before .before .before .before .before .before .before .before .before .before .before .before .before .before .before .before .before .before .before .before .before .before .before .before .before .before .before .before .loop in
+    let i = l .inv in
+    let u = c .before .before .before .before .before .before .before .follow in
+    let v = turning (p1) in
+    let t = turn (c .before .before .before .before .before .before .before .before .before .before .before .before .before) in
+    let f = behind-followed t (caught (st)) (v .extending .divs) (v .extending .cons) (p2 .either .result) (p2 .either .ensures) (c .before .before .before .before .before .before .before .before .before .before .before .before .before .before .before .before .before .before .before .before .before .before .before .before .before .before .before .before .before .before .before .before .before .before .before .before .before .before .before .before .before .before .before .before .before .before .before .before .before .before .before .before .before .before .before .args .t2 .cons - (l .k + 1)) (u .ensures) in (
+      opened-next (opened (c .before .before .before .before .before .before .before .before .before .before .before .before .before .before .before .before .before .before .before .before .before .before .before .before .before .before .before .before .before .before .before .before .before .before .before .before .before .before .before .before .before .before .before .before .before .before)) (i .0) (st .loop-test .taken) (c .before .before .before .before .before .before .before .before .before .before .before .before .before .before .before .before .before .before .before .before .before .before .before .before .before .before .before .before .if2 .left) (p1 .moved .ensures) t (u .last .1 .1 .1 .1 .1 .0) (u .last .1 .1 .1 .1 .1 .1 .0) (u .last .1 .1 .1 .1 .1 .1 .1 .0)
+          (u .kept .1 .1 .1 .1 .1 .0) (u .kept .1 .1 .1 .1 .1 .1 .0) (u .kept .1 .1 .1 .1 .1 .1 .1 .0),
+      f .0,
+      c .before .before .before .before .before .before .before .before .before .before .before .before .before .before .before .before .before .before .before .kept .kept .1 .1 .1 .1 .1 .1 .1 .1 .0 ∙ i .2,
+      λ y. f .1 (omega arith),
+      length-set (l .w .constraints) (l .w .cons) (p1 .moved .result) ∙ i .4,
+      c .before .before .before .before .before .before .before .before .before .before .before .before .before .before .before .before .mark .kept .0 ∙ i .5,
     )
 
+told-requires-2 : tie.Need-told-requires-2 Inv-loop μ-loop
+told-requires-2 c κs = search needs
+
 same-length-6 : tie.Need-same-length-6 Inv-loop μ-loop
-same-length-6 c = c .before .loop .inv .0 .high ∙ c .before .before .before .before .before .before .before .before .before .begin2 .kept .1 .0
+same-length-6 c = c .before .before .loop .inv .0 .high ∙ c .before .before .before .before .before .before .before .before .before .before .start .kept .1 .0
 
 same-length-7 : tie.Need-same-length-7 Inv-loop μ-loop
-same-length-7 c = c .before .loop .inv .0 .long ∙ c .before .before .before .before .before .before .before .before .before .begin2 .kept .1 .1 .0
+same-length-7 c = c .before .before .loop .inv .0 .long ∙ c .before .before .before .before .before .before .before .before .before .before .start .kept .1 .1 .0
 
 same-length-8 : tie.Need-same-length-8 Inv-loop μ-loop
-same-length-8 c = c .before .loop .inv .0 .wide ∙ c .before .before .before .before .before .before .before .before .before .begin2 .kept .1 .1 .1 .0
+same-length-8 c = c .before .before .loop .inv .0 .wide ∙ c .before .before .before .before .before .before .before .before .before .before .start .kept .1 .1 .1 .0
 
 same-length-9 : tie.Need-same-length-9 Inv-loop μ-loop
-same-length-9 c = c .before .loop .inv .1 .stands .many ∙ sym (c .before .before .before .before .before .before .before .before .before .before .before .before .before .before .before .before .before .before .before .before .before .before .before .before .pre .2 .many)
+same-length-9 c = c .before .before .loop .inv .1 .stands .many ∙ sym (c .before .before .before .before .before .before .before .before .before .before .before .before .before .before .before .before .before .before .before .before .before .before .before .before .before .before .before .pre .2 .many)
 
 same-length-10 : tie.Need-same-length-10 Inv-loop μ-loop
-same-length-10 c = c .before .loop .inv .2
+same-length-10 c = c .before .before .loop .inv .2
 
 returns-3 : tie.Need-returns-3 Inv-loop μ-loop
 returns-3 c =
-    let a = c .before .before .before .before .before .before .before .before .before .before .before .before .before .before .before .before .before .before .before .before .before .before .before .before .args .a in
-    let d = c .before .before .before .before .before .before .before .before .before .before .before .before .before .before .before .before .before .before .before .before .before .before .before .before .args .t2 in
-    let la : length (a .constraints) ≡ 48 = simp length-map at (c .before .before .before .before .before .before .before .before .before .before .before .before .before .before .before .before .before .before .before .before .before .before .before .before .good .0 .1 .1 .1 .0 .1 .0 .1) in
-    let lc : length (d .constraints) ≡ 48 = simp length-map at (c .before .before .before .before .before .before .before .before .before .before .before .before .before .before .before .before .before .before .before .before .before .before .before .before .good .1 .0 .1 .1 .1 .0 .1 .0 .1) in
-    let j = c .before .before .before .before .before .before .before .before .before .before .before .before .before .before .before .before .before .before .before .join in
-    let s₀ = c .before .before .before .before .before .before .before .before .before .before .before .before .before .before .before .before .begin in
-    let f : j .result .fits ≡ true = not-false (j .result .fits) (c .before .before .before .before .before .before .before .before .before .before .before .before .before .before .before .if1 .left) in
-    let l = c .before .loop in
-    let b₀ = c .before .before .before .before .before .before .before .before .before .begin2 in
-    let R = b₀ .last .1 .0 in
-    let P = b₀ .last .1 .1 .0 in
-    let K = b₀ .last .1 .1 .1 .0 in
-    going-end a d (j .result) (c .before .before .before .before .before .before .before .before .before .before .before .before .before .before .before .before .before .before .before .before .before .before .before .before .pre .0) (j .ensures) la lc (s₀ .result) (s₀ .ensures) f R P K (l .rows) (l .place) (l .kinds) (l .s) (l .k) (l .inv .0) (c .loop-test .left)
+    let st = c .before .before .before .before .before .before .before .before .before .before .before .before .before .before .before .before .before .before .before .before .before .before .before .before .before .before .before in
+    subst (CutIs (st .args .a) (st .args .t2)) (sym (c .told2 .ensures)) (opened-end (opened (c .before .before .before .before .before .before .before .before .before .before .before .before .before .before .before .before .before .before)) (c .before .before .loop .inv .0) (c .before .loop-test .left))
 
 pub cut-spec : {M : Type 1} → statement M
 cut-spec =
@@ -243,9 +240,10 @@ cut-spec =
     join-requires
     begin-requires
     returns
-    slice-aggregate-begin
-    begin-requires-2
+    slice-aggregate-start
+    start-requires
     loop-holds
+    told-requires
     same-length
     same-length-2
     same-length-3
@@ -255,14 +253,22 @@ cut-spec =
     mul-e
     element-copy-out-e
     moved-requires
-    slice-aggregate-catch-up
-    catch-up-requires
     slice-aggregate-kept
     kept-requires
-    turn-requires
+    slice-aggregate-mark
+    mark-requires
+    either-requires
+    mul-r
+    element-set-from-r
+    one-requires
+    add-w
     add-k
+    sub-left
+    slice-aggregate-follow
+    follow-requires
     loop-less
     loop-again
+    told-requires-2
     same-length-6
     same-length-7
     same-length-8

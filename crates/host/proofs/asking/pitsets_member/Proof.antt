@@ -4,7 +4,7 @@ use lib.IntN.{ℤ}
 use mir.Syntax.{w64}
 use Rattle.host.proofs.Laws.{back}
 use Rattle.integers.specs.Mach.{result-is}
-use Rattle.query.specs.Search.{memberBytes}
+use Rattle.query.specs.Member.{memberBytes}
 use Rattle.host.specs.Numbers.{memberNumber}
 use borrow.Author.Needs.{needs}
 use Rattle.host.proofs.asking.pitsets_member.Statement.{statement}

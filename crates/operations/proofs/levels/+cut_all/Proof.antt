@@ -55,7 +55,9 @@ pieced t c =
     }
 
 emit-requires : (t : ℕ) → lts.Need-emit-requires (callees t) (at t) cut-all.Post Inv-loop μ-loop
-emit-requires t c κs = (level-sound (c .before .before .before .before .before .before .pre .1 .0), c .before .before .before .before .before .before .pre .1 .1)
+emit-requires t c κs =
+    let st = c .before .before .before .before .before .before in
+    (level-sound (st .pre .1 .0), st .pre .1 .1)
 
 same-length : (t : ℕ) → lts.Need-same-length (callees t) (at t) cut-all.Post Inv-loop μ-loop
 same-length t c = search needs
@@ -69,23 +71,25 @@ add-decode-basic t c = let h = level-inside (c .before .before .before .before .
 decode-basic-requires : (t : ℕ) → lts.Need-decode-basic-requires (callees t) (at t) cut-all.Post Inv-loop μ-loop
 decode-basic-requires t c κs = level-opened (c .before .before .before .before .before .pre .1 .0) (c .if1 .left)
 
-add-next : (t : ℕ) → lts.Need-add-next (callees t) (at t) cut-all.Post Inv-loop μ-loop
-add-next t c = let h = level-turn (c .before .before .before .before .before .before .pre .1 .0) (c .before .if1 .left) (c .decode-basic .ensures) .there .here .inside in omega arith
+add-end : (t : ℕ) → lts.Need-add-end (callees t) (at t) cut-all.Post Inv-loop μ-loop
+add-end t c = let h = level-turn (c .before .before .before .before .before .before .pre .1 .0) (c .before .if1 .left) (c .decode-basic .ensures) .there .here .inside in omega arith
 
-mul-next : (t : ℕ) → lts.Need-mul-next (callees t) (at t) cut-all.Post Inv-loop μ-loop
-mul-next t c = let h = level-turn (c .before .before .before .before .before .before .before .pre .1 .0) (c .before .before .if1 .left) (c .before .decode-basic .ensures) .there .here .inside in omega arith
+mul-end : (t : ℕ) → lts.Need-mul-end (callees t) (at t) cut-all.Post Inv-loop μ-loop
+mul-end t c = let h = level-turn (c .before .before .before .before .before .before .before .pre .1 .0) (c .before .before .if1 .left) (c .before .decode-basic .ensures) .there .here .inside in omega arith
 
-add-next-2 : (t : ℕ) → lts.Need-add-next-2 (callees t) (at t) cut-all.Post Inv-loop μ-loop
-add-next-2 t c = let h = level-turn (c .before .before .before .before .before .before .before .pre .1 .0) (c .before .before .if1 .left) (c .before .decode-basic .ensures) .there .here .inside in omega arith
+add-end-2 : (t : ℕ) → lts.Need-add-end-2 (callees t) (at t) cut-all.Post Inv-loop μ-loop
+add-end-2 t c = let h = level-turn (c .before .before .before .before .before .before .before .pre .1 .0) (c .before .before .if1 .left) (c .before .decode-basic .ensures) .there .here .inside in omega arith
 
-mul-next-2 : (t : ℕ) → lts.Need-mul-next-2 (callees t) (at t) cut-all.Post Inv-loop μ-loop
-mul-next-2 t c = let h = level-turn (c .before .before .before .before .before .before .before .before .pre .1 .0) (c .before .before .before .if1 .left) (c .before .before .decode-basic .ensures) .there .here .inside in omega arith
+mul-end-2 : (t : ℕ) → lts.Need-mul-end-2 (callees t) (at t) cut-all.Post Inv-loop μ-loop
+mul-end-2 t c = let h = level-turn (c .before .before .before .before .before .before .before .before .pre .1 .0) (c .before .before .before .if1 .left) (c .before .before .decode-basic .ensures) .there .here .inside in omega arith
 
-add-next-3 : (t : ℕ) → lts.Need-add-next-3 (callees t) (at t) cut-all.Post Inv-loop μ-loop
-add-next-3 t c = let h = level-turn (c .before .before .before .before .before .before .before .before .pre .1 .0) (c .before .before .before .if1 .left) (c .before .before .decode-basic .ensures) .there .here .inside in omega arith
+add-end-3 : (t : ℕ) → lts.Need-add-end-3 (callees t) (at t) cut-all.Post Inv-loop μ-loop
+add-end-3 t c = let h = level-turn (c .before .before .before .before .before .before .before .before .pre .1 .0) (c .before .before .before .if1 .left) (c .before .before .decode-basic .ensures) .there .here .inside in omega arith
 
 cut-requires : (t : ℕ) → lts.Need-cut-requires (callees t) (at t) cut-all.Post Inv-loop μ-loop
-cut-requires t c κs = (level-pair (c .before .before .before .before .before .before .before .before .before .before .before .before .before .pre .1 .0) (c .before .before .before .before .before .before .before .before .if1 .left) (c .before .before .before .before .before .before .before .decode-basic .ensures), c .before .before .before .before .before .before .before .before .before .before .before .before .before .pre .1 .2, c .before .before .before .before .before .before .before .before .before .before .before .before .before .pre .1 .3)
+cut-requires t c κs =
+    let st = c .before .before .before .before .before .before .before .before .before .before .before .before .before in
+    (level-pair (st .pre .1 .0) (c .before .before .before .before .before .before .before .before .if1 .left) (c .before .before .before .before .before .before .before .decode-basic .ensures), st .pre .1 .2, st .pre .1 .3)
 
 same-length-2 : (t : ℕ) → lts.Need-same-length-2 (callees t) (at t) cut-all.Post Inv-loop μ-loop
 same-length-2 t c = c .before .before .before .before .before .before .before .before .cut .kept .1 .1 .0
@@ -103,7 +107,10 @@ same-length-6 : (t : ℕ) → lts.Need-same-length-6 (callees t) (at t) cut-all.
 same-length-6 t c = c .before .before .before .before .before .before .before .before .cut .kept .1 .1 .1 .1 .1 .1 .0
 
 returns-2 : (t : ℕ) → lts.Need-returns-2 (callees t) (at t) cut-all.Post Inv-loop μ-loop
-returns-2 t c = level-over (c .before .before .before .before .before .before .before .before .before .before .before .before .before .before .before .before .before .before .before .before .before .before .pre .1 .0) (c .before .before .before .before .before .before .before .before .before .before .before .before .before .before .before .before .before .if1 .left) (c .before .before .before .before .before .before .before .before .before .before .before .before .before .before .before .before .decode-basic .ensures) (c .before .before .before .before .before .before .before .before .cut .ensures) (not-true (c .before .before .before .before .before .before .before .before .cut .result .fits) (c .if2 .taken)) (c .before .before .before .before .before .before .before .before .before .before .before .before .before .before .before .before .before .before .before .before .before .before .args .out .now) (c .before .before .before .before .before .before .before .before .before .before .before .before .before .before .before .before .before .before .before .before .before .before .args .out .now) (c .before .before .before .before .before .before .before .before .before .before .before .before .before .before .before .before .before .before .before .before .before .before .args .s) _ _
+returns-2 t c =
+    let st = c .before .before .before .before .before .before .before .before .before .before .before .before .before .before .before .before .before .before .before .before .before .before in
+    let p1 = c .before .before .before .before .before .before .before .before in
+    level-over (st .pre .1 .0) (c .before .before .before .before .before .before .before .before .before .before .before .before .before .before .before .before .before .if1 .left) (c .before .before .before .before .before .before .before .before .before .before .before .before .before .before .before .before .decode-basic .ensures) (p1 .cut .ensures) (not-true (p1 .cut .result .fits) (c .if2 .taken)) (st .args .out .now) (st .args .out .now) (st .args .s) _ _
 
 loop-holds : (t : ℕ) → lts.Need-loop-holds (callees t) (at t) cut-all.Post Inv-loop μ-loop
 loop-holds t c = (refl, refl, refl, refl, refl, refl, onward-start (c .before .before .before .before .before .before .before .before .before .before .before .before .before .before .before .before .before .before .before .before .before .before .before .pre .1 .1))
@@ -119,8 +126,9 @@ sub-cut-all t c = let some = c .before .before .before .before .before .before .
 
 cut-all-requires : (t : ℕ) → lts.Need-cut-all-requires (callees t) (at t) cut-all.Post Inv-loop μ-loop
 cut-all-requires t c κs =
-    let k = c .before .before .before .before .before .before .before .before .before .before .before .before .before .before .before .before .before .before .before .cut in let lo = c .before .before .before .before .before .before .before .before .before .loop in let m = c .before .before .before .before .before .before .before .before .before .before .before .before .before .before .before .before .before .before .before .before .before .before .before .before .before .before .before .before .before .before .before .before .before .pre .0 in let some = c .before .before .before .before .before .before .before .before .before .before .before .before .before .before .before .before .before .before .before .before .before .before .before .before .before .before .before .before .if1 .left in
-    (omega arith, (pieced-level (pieced t (c .before .before .before .before .before .before .before .before .before .before)) (c .before .before .before .before .before .before .before .before .loop-test .taken) (c .before .before .before .before .before .before .piece .ensures), lo .inv .6 .ready, tables-kept (c .before .before .before .before .before .before .before .before .before .before .before .before .before .before .before .before .before .before .before .before .before .before .before .before .before .before .before .before .before .before .before .before .before .pre .1 .2) (lo .inv .1 ∙ k .kept .1 .1 .0) (lo .inv .2 ∙ k .kept .1 .1 .1 .0) (lo .inv .3 ∙ k .kept .1 .1 .1 .1 .0), record { many = lo .inv .4 ∙ k .kept .1 .1 .1 .1 .1 .0 ∙ c .before .before .before .before .before .before .before .before .before .before .before .before .before .before .before .before .before .before .before .before .before .before .before .before .before .before .before .before .before .before .before .before .before .pre .1 .3 .many; high = lo .inv .5 ∙ k .kept .1 .1 .1 .1 .1 .1 .0 ∙ c .before .before .before .before .before .before .before .before .before .before .before .before .before .before .before .before .before .before .before .before .before .before .before .before .before .before .before .before .before .before .before .before .before .pre .1 .3 .high }))
+    let st = c .before .before .before .before .before .before .before .before .before .before .before .before .before .before .before .before .before .before .before .before .before .before .before .before .before .before .before .before .before .before .before .before .before in
+    let k = c .before .before .before .before .before .before .before .before .before .before .before .before .before .before .before .before .before .before .before .cut in let lo = c .before .before .before .before .before .before .before .before .before .loop in let m = st .pre .0 in let some = c .before .before .before .before .before .before .before .before .before .before .before .before .before .before .before .before .before .before .before .before .before .before .before .before .before .before .before .before .if1 .left in
+    (omega arith, (pieced-level (pieced t (c .before .before .before .before .before .before .before .before .before .before)) (c .before .before .before .before .before .before .before .before .loop-test .taken) (c .before .before .before .before .before .before .piece .ensures), lo .inv .6 .ready, tables-kept (st .pre .1 .2) (lo .inv .1 ∙ k .kept .1 .1 .0) (lo .inv .2 ∙ k .kept .1 .1 .1 .0) (lo .inv .3 ∙ k .kept .1 .1 .1 .1 .0), record { many = lo .inv .4 ∙ k .kept .1 .1 .1 .1 .1 .0 ∙ st .pre .1 .3 .many; high = lo .inv .5 ∙ k .kept .1 .1 .1 .1 .1 .1 .0 ∙ st .pre .1 .3 .high }))
 
 same-length-7 : (t : ℕ) → lts.Need-same-length-7 (callees t) (at t) cut-all.Post Inv-loop μ-loop
 same-length-7 t c = c .before .before .before .before .before .before .before .before .before .before .cut-all .kept .1 .1 .1 .1 .0 ∙ c .before .before .before .before .before .before .before .before .before .before .before .before .before .before .before .before .before .before .before .before .loop .inv .0
@@ -142,8 +150,9 @@ same-length-12 t c = c .before .before .before .before .before .before .before .
 
 returns-3 : (t : ℕ) → lts.Need-returns-3 (callees t) (at t) cut-all.Post Inv-loop μ-loop
 returns-3 t c =
+    let st = c .before .before .before .before .before .before .before .before .before .before in
     let x = pieced t (c .before .before .before .before .before .before .before .before .before .before .before .before .before .before .before .before .before .before .before .before .before) in
-    pieced-whole x (onward-stop (pieced-next x (c .before .before .before .before .before .before .before .before .before .before .before .before .before .before .before .before .before .before .before .loop-test .taken) (c .before .before .before .before .before .before .before .before .before .before .before .before .before .before .before .before .before .piece .ensures)) (c .before .before .before .before .before .before .before .before .before .before .before .before .before .before .before .before .before .before .before .before .loop .inv .6) (c .before .before .before .before .before .before .before .before .before .before .cut-all .ensures) (not-true (c .before .before .before .before .before .before .before .before .before .before .cut-all .result .fits) (c .if3 .taken)))
+    pieced-whole x (onward-stop (pieced-next x (c .before .before .before .before .before .before .before .before .before .before .before .before .before .before .before .before .before .before .before .loop-test .taken) (c .before .before .before .before .before .before .before .before .before .before .before .before .before .before .before .before .before .piece .ensures)) (c .before .before .before .before .before .before .before .before .before .before .before .before .before .before .before .before .before .before .before .before .loop .inv .6) (st .cut-all .ensures) (not-true (st .cut-all .result .fits) (c .if3 .taken)))
 
 add-i : (t : ℕ) → lts.Need-add-i (callees t) (at t) cut-all.Post Inv-loop μ-loop
 add-i t c = let x = pieced t (c .before .before .before .before .before .before .before .before .before .before .before .before .before .before .before .before .before .before .before .before .before) in let h = x .cut .count (x .fits) in omega (arith, c .before .before .before .before .before .before .before .before .before .before .before .before .before .before .before .before .before .before .before .loop-test .taken)
@@ -153,14 +162,16 @@ loop-less t c = omega (arith, c .before .before .before .before .before .before 
 
 loop-again : (t : ℕ) → lts.Need-loop-again (callees t) (at t) cut-all.Post Inv-loop μ-loop
 loop-again t c =
-    let x = pieced t (c .before .before .before .before .before .before .before .before .before .before .before .before .before .before .before .before .before .before .before .before .before) in let v = c .before .before .before .before .before .before .before .before .before .before .before .before .before .before .before .before .before .before .before .before .loop .inv in let r = c .before .before .before .before .before .before .before .before .before .before .cut-all in (
+    let st = c .before .before .before .before .before .before .before .before .before .before .before .before .before .before .before .before .before .before .before .before in
+    let p1 = c .before .before .before .before .before .before .before .before .before .before in
+    let x = pieced t (c .before .before .before .before .before .before .before .before .before .before .before .before .before .before .before .before .before .before .before .before .before) in let v = st .loop .inv in let r = p1 .cut-all in (
       r .kept .1 .1 .1 .1 .0 ∙ v .0,
       r .kept .1 .1 .1 .1 .1 .1 .0 ∙ v .1,
       r .kept .1 .1 .1 .1 .1 .1 .1 .0 ∙ v .2,
       r .kept .1 .1 .1 .1 .1 .1 .1 .1 .0 ∙ v .3,
       r .kept .1 .1 .1 .1 .1 .1 .1 .1 .1 .0 ∙ v .4,
       r .kept .1 .1 .1 .1 .1 .1 .1 .1 .1 .1 .0 ∙ v .5,
-      onward-next (pieced-next x (c .before .before .before .before .before .before .before .before .before .before .before .before .before .before .before .before .before .before .before .loop-test .taken) (c .before .before .before .before .before .before .before .before .before .before .before .before .before .before .before .before .before .piece .ensures)) (c .before .before .before .before .before .before .before .before .before .before .before .before .before .before .before .before .before .before .before .before .loop .inv .6) (c .before .before .before .before .before .before .before .before .before .before .cut-all .ensures) (not-false (r .result .fits) (c .if3 .left)),
+      onward-next (pieced-next x (c .before .before .before .before .before .before .before .before .before .before .before .before .before .before .before .before .before .before .before .loop-test .taken) (c .before .before .before .before .before .before .before .before .before .before .before .before .before .before .before .before .before .piece .ensures)) (st .loop .inv .6) (p1 .cut-all .ensures) (not-false (r .result .fits) (c .if3 .left)),
     )
 
 same-length-13 : (t : ℕ) → lts.Need-same-length-13 (callees t) (at t) cut-all.Post Inv-loop μ-loop
@@ -188,4 +199,4 @@ pub +cut-all-spec : {M : Type 1} → statement M
 +cut-all-spec =
     close μ-cut-all
     (λ t.
-    lts.spec (callees t) (at t) cut-all.Post Inv-loop μ-loop (emit-requires t) (same-length t) (returns t) (add-decode-basic t) (decode-basic-requires t) (add-next t) (mul-next t) (add-next-2 t) (mul-next-2 t) (add-next-3 t) (cut-requires t) (same-length-2 t) (same-length-3 t) (same-length-4 t) (same-length-5 t) (same-length-6 t) (returns-2 t) (loop-holds t) (element-copy-out-v t) (piece-requires t) (sub-cut-all t) (cut-all-requires t) (same-length-7 t) (same-length-8 t) (same-length-9 t) (same-length-10 t) (same-length-11 t) (same-length-12 t) (returns-3 t) (add-i t) (loop-less t) (loop-again t) (same-length-13 t) (same-length-14 t) (same-length-15 t) (same-length-16 t) (same-length-17 t) (same-length-18 t) (returns-4 t))
+    lts.spec (callees t) (at t) cut-all.Post Inv-loop μ-loop (emit-requires t) (same-length t) (returns t) (add-decode-basic t) (decode-basic-requires t) (add-end t) (mul-end t) (add-end-2 t) (mul-end-2 t) (add-end-3 t) (cut-requires t) (same-length-2 t) (same-length-3 t) (same-length-4 t) (same-length-5 t) (same-length-6 t) (returns-2 t) (loop-holds t) (element-copy-out-v t) (piece-requires t) (sub-cut-all t) (cut-all-requires t) (same-length-7 t) (same-length-8 t) (same-length-9 t) (same-length-10 t) (same-length-11 t) (same-length-12 t) (returns-3 t) (add-i t) (loop-less t) (loop-again t) (same-length-13 t) (same-length-14 t) (same-length-15 t) (same-length-16 t) (same-length-17 t) (same-length-18 t) (returns-4 t))

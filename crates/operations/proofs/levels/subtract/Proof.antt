@@ -55,11 +55,12 @@ slice-aggregate-cut-all-5 c = sym (c .before .before .before .before .before .be
 
 cut-all-requires : tie.Need-cut-all-requires Inv-loop μ-loop
 cut-all-requires c κs =
+    let st = c .before .before .before .before .before .before .before .before in
     let a = c .before .before .before .before .before .before .before .before .before .before .before .before .before .args in
-    let x = c .before .before .before .before .before .before .before .before .loop .inv .0 in
+    let x = st .loop .inv .0 in
     let d = c .before .before .before .before .before .before .decode-basic .ensures in
     let v = along-valid x (c .before .before .before .before .before .before .before .loop-test .taken) d (bytes-of (a .a .now) (λ i. c .before .before .before .before .before .before .before .before .before .before .before .before .shared-slice-known .given i .fits)) in
-    (level-start (bytes-of (a .b .now) (λ i. c .before .before .before .before .before .before .before .before .before .before .before .shared-slice-known2 .given i .fits)) (x .known) v (d .divs) (d .cons) (c .before .before .before .before .before .before .before .before .before .count .ensures), x .onward .ready, x .tables, c .before .before .before .before .before .before .before .before .loop .inv .1)
+    (level-start (bytes-of (a .b .now) (λ i. c .before .before .before .before .before .before .before .before .before .before .before .shared-slice-known2 .given i .fits)) (x .known) v (d .divs) (d .cons) (c .before .before .before .before .before .before .before .before .before .count .ensures), x .onward .ready, x .tables, st .loop .inv .1)
 
 same-length : tie.Need-same-length Inv-loop μ-loop
 same-length c = c .before .before .before .before .before .before .before .before .cut-all .kept .1 .1 .1 .1 .0 ∙ c .before .before .before .before .before .before .before .before .before .before .before .before .before .before .before .before .before .loop .inv .0 .same
@@ -87,8 +88,9 @@ loop-less c = let h = c .before .before .before .before .before .before .before 
 
 loop-again : tie.Need-loop-again Inv-loop μ-loop
 loop-again c =
+    let st = c .before .before .before .before .before .before .before .before .before .before .before .before .before .before .before .before .before .before .before in
     let m = c .before .before .before .before .before .before .before .before .before .before .cut-all in
-    (along-next (c .before .before .before .before .before .before .before .before .before .before .before .before .before .before .before .before .before .before .before .loop .inv .0) (c .before .before .before .before .before .before .before .before .before .before .before .before .before .before .before .before .before .before .loop-test .taken) (c .before .before .before .before .before .before .before .before .before .before .before .before .before .before .before .before .before .decode-basic .ensures) (m .ensures) (m .kept .1 .1 .1 .1 .0) (m .kept .1 .1 .1 .1 .1 .1 .0) (m .kept .1 .1 .1 .1 .1 .1 .1 .0) (m .kept .1 .1 .1 .1 .1 .1 .1 .1 .0) (not-false (m .result .fits) (c .before .before .if1 .left)), record { many = m .kept .1 .1 .1 .1 .1 .1 .1 .1 .1 .0 ∙ c .before .before .before .before .before .before .before .before .before .before .before .before .before .before .before .before .before .before .before .loop .inv .1 .many; high = m .kept .1 .1 .1 .1 .1 .1 .1 .1 .1 .1 .0 ∙ c .before .before .before .before .before .before .before .before .before .before .before .before .before .before .before .before .before .before .before .loop .inv .1 .high })
+    (along-next (st .loop .inv .0) (c .before .before .before .before .before .before .before .before .before .before .before .before .before .before .before .before .before .before .loop-test .taken) (c .before .before .before .before .before .before .before .before .before .before .before .before .before .before .before .before .before .decode-basic .ensures) (m .ensures) (m .kept .1 .1 .1 .1 .0) (m .kept .1 .1 .1 .1 .1 .1 .0) (m .kept .1 .1 .1 .1 .1 .1 .1 .0) (m .kept .1 .1 .1 .1 .1 .1 .1 .1 .0) (not-false (m .result .fits) (c .before .before .if1 .left)), record { many = m .kept .1 .1 .1 .1 .1 .1 .1 .1 .1 .0 ∙ st .loop .inv .1 .many; high = m .kept .1 .1 .1 .1 .1 .1 .1 .1 .1 .1 .0 ∙ st .loop .inv .1 .high })
 
 same-length-2 : tie.Need-same-length-2 Inv-loop μ-loop
 same-length-2 c = c .before .loop .inv .0 .same

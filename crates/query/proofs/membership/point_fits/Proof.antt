@@ -8,7 +8,7 @@ use native.Mathlib.Omega.{arith}
 use borrow.Author.Needs.{needs}
 use Prim.Native.Nat.{_-_, _≤_}
 use lib.ListN.{length, drop}
-use Rattle.query.specs.Search.{pointFits}
+use Rattle.query.specs.Member.{pointFits}
 use Rattle.query.specs.Holding.{coordinateFits}
 use Rattle.query.proofs.Points.{fitsFrom, fits-start, fits-next, fits-stop, fits-end}
 use Rattle.query.proofs.membership.point_fits.Statement.{statement}

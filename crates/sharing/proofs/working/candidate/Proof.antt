@@ -30,16 +30,18 @@ add-replay c = search needs
 
 replay-requires : tie.Need-replay-requires
 replay-requires c κs =
-    let g = c .before .before .before .before .before .before .pre .0 .stands in
-    (subst (Whole (c .before .before .before .before .before .before .args .k + 10)) (sym (c .before .constraint-row .ensures)) (row-whole (c .before .before .before .before .before .before .args .k) (constraintOf (c .before .before .before .before .before .before .args .c)) (g .few)), (fits-past (c .before .before .before .before .before .before .args .k) (c .before .before .before .before .before .before .pre .0 .cs) (c .before .before .before .before .before .before .args .h) (c .before .before .before .before .before .before .args .rows .now) (c .before .before .before .before .before .before .args .place .now) (c .before .before .before .before .before .before .args .kinds .now) (c .before .before .before .before .before .before .args .past .now) (c .before .before .before .before .before .before .args .columns .now) (c .before .before .before .before .before .before .pre .0 .stands), g .kept))
+    let st = c .before .before .before .before .before .before in
+    let g = st .pre .0 .stands in
+    (subst (Whole (st .args .k + 10)) (sym (c .before .constraint-row .ensures)) (row-whole (st .args .k) (constraintOf (st .args .c)) (g .few)), (fits-past (st .pre .0 .stands), g .kept))
 
 returns : tie.Need-returns
 returns c =
-    let qs = take (c .before .before .before .before .before .before .before .before .args .h .pivots) (c .before .before .before .before .before .before .before .before .args .past .now) in
-    let js = take (c .before .before .before .before .before .before .before .before .args .h .pivots) (c .before .before .before .before .before .before .before .before .args .columns .now) in
-    let c₀ = constraintOf (c .before .before .before .before .before .before .before .before .args .c) in
-    let e : through qs js (startRow (c .before .before .before .before .before .before .before .before .args .k) c₀) ≡ false = sym (ap (through qs js) (c .before .before .before .constraint-row .ensures)) ∙ sym (c .before .replay .ensures .all) ∙ not-true _ (c .if1 .taken) in
-    record { tried = λ cs g. sym (wide-any (c .before .before .before .before .before .before .before .before .args .k) cs (c .before .before .before .before .before .before .before .before .args .h) (c .before .before .before .before .before .before .before .before .args .rows .now) (c .before .before .before .before .before .before .before .before .args .place .now) (c .before .before .before .before .before .before .before .before .args .kinds .now) (c .before .before .before .before .before .before .before .before .args .past .now) (c .before .before .before .before .before .before .before .before .args .columns .now) g (c .before .before .before .before .before .before .before .before .pre .0 .less) c₀ e) }
+    let st = c .before .before .before .before .before .before .before .before in
+    let qs = take (st .args .h .pivots) (st .args .past .now) in
+    let js = take (st .args .h .pivots) (st .args .columns .now) in
+    let c₀ = constraintOf (st .args .c) in
+    let e : through qs js (startRow (st .args .k) c₀) ≡ false = sym (ap (through qs js) (c .before .before .before .constraint-row .ensures)) ∙ sym (c .before .replay .ensures .all) ∙ not-true _ (c .if1 .taken) in
+    record { tried = λ cs g. sym (wide-any g (st .pre .0 .less) c₀ e) }
 
 enum-told : tie.Need-enum-told
 enum-told c = search needs
@@ -58,13 +60,15 @@ add-finish-3 c = search needs
 
 finish-requires : tie.Need-finish-requires
 finish-requires c κs =
-    let qs = take (c .before .before .before .before .before .before .before .before .before .before .before .args .h .pivots) (c .before .before .before .before .before .before .before .before .before .before .before .args .past .now) in
-    let js = take (c .before .before .before .before .before .before .before .before .before .before .before .args .h .pivots) (c .before .before .before .before .before .before .before .before .before .before .before .args .columns .now) in
-    let c₀ = constraintOf (c .before .before .before .before .before .before .before .before .before .before .before .args .c) in
-    let r = c .before .before .before .before .replay .last .0 in
-    let is : r ≡ brought qs js (startRow (c .before .before .before .before .before .before .before .before .before .before .before .args .k) c₀) = c .before .before .before .before .replay .ensures .row ∙ ap (brought qs js) (c .before .before .before .before .before .before .constraint-row .ensures) in
-    let p : c .before .before .before .before .before .before .before .before .before .before .before .args .h .verdict ≡ Point = search needs in
-    (calm-now (c .before .before .before .before .before .before .before .before .before .before .before .args .k) (c .before .before .before .before .before .before .before .before .before .before .before .pre .0 .cs) (c .before .before .before .before .before .before .before .before .before .before .before .args .h) (c .before .before .before .before .before .before .before .before .before .before .before .args .rows .now) (c .before .before .before .before .before .before .before .before .before .before .before .args .place .now) (c .before .before .before .before .before .before .before .before .before .before .before .args .kinds .now) (c .before .before .before .before .before .before .before .before .before .before .before .args .past .now) (c .before .before .before .before .before .before .before .before .before .before .before .args .columns .now) (c .before .before .before .before .before .before .before .before .before .before .before .pre .0 .stands) (c .before .before .before .before .before .before .before .before .before .before .before .pre .0 .less) c₀ p r is, c .before .before .before .before .before .before .before .before .before .before .before .pre .1 .1)
+    let st = c .before .before .before .before .before .before .before .before .before .before .before in
+    let p1 = c .before .before .before .before in
+    let qs = take (st .args .h .pivots) (st .args .past .now) in
+    let js = take (st .args .h .pivots) (st .args .columns .now) in
+    let c₀ = constraintOf (st .args .c) in
+    let r = p1 .replay .last .0 in
+    let is : r ≡ brought qs js (startRow (st .args .k) c₀) = p1 .replay .ensures .row ∙ ap (brought qs js) (c .before .before .before .before .before .before .constraint-row .ensures) in
+    let p : st .args .h .verdict ≡ Point = search needs in
+    (calm-now (st .pre .0 .stands) (st .pre .0 .less) c₀ p r is, st .pre .1 .1)
 
 enum-told-2 : tie.Need-enum-told-2
 enum-told-2 c = search needs
@@ -80,43 +84,49 @@ same-length c = search needs
 
 returns-2 : tie.Need-returns-2
 returns-2 c =
-    let qs = take (c .before .before .before .before .before .before .before .before .before .before .before .before .before .args .h .pivots) (c .before .before .before .before .before .before .before .before .before .before .before .before .before .args .past .now) in
-    let js = take (c .before .before .before .before .before .before .before .before .before .before .before .before .before .args .h .pivots) (c .before .before .before .before .before .before .before .before .before .before .before .before .before .args .columns .now) in
-    let c₀ = constraintOf (c .before .before .before .before .before .before .before .before .before .before .before .before .before .args .c) in
-    let e : through qs js (startRow (c .before .before .before .before .before .before .before .before .before .before .before .before .before .args .k) c₀) ≡ true = sym (ap (through qs js) (c .before .before .before .before .before .before .before .before .constraint-row .ensures)) ∙ sym (c .before .before .before .before .before .before .replay .ensures .all) ∙ not-false _ (c .before .before .before .before .before .if1 .left) in
-    let r = c .before .before .before .before .before .before .replay .last .0 in
-    let is : r ≡ brought qs js (startRow (c .before .before .before .before .before .before .before .before .before .before .before .before .before .args .k) c₀) = c .before .before .before .before .before .before .replay .ensures .row ∙ ap (brought qs js) (c .before .before .before .before .before .before .before .before .constraint-row .ensures) in
-    let p : c .before .before .before .before .before .before .before .before .before .before .before .before .before .args .h .verdict ≡ Point = search needs in
+    let st = c .before .before .before .before .before .before .before .before .before .before .before .before .before in
+    let p1 = c .before .before .before .before .before .before .before .before in
+    let p2 = c .before .before .before .before .before .before in
+    let qs = take (st .args .h .pivots) (st .args .past .now) in
+    let js = take (st .args .h .pivots) (st .args .columns .now) in
+    let c₀ = constraintOf (st .args .c) in
+    let e : through qs js (startRow (st .args .k) c₀) ≡ true = sym (ap (through qs js) (p1 .constraint-row .ensures)) ∙ sym (p2 .replay .ensures .all) ∙ not-false _ (c .before .before .before .before .before .if1 .left) in
+    let r = p2 .replay .last .0 in
+    let is : r ≡ brought qs js (startRow (st .args .k) c₀) = p2 .replay .ensures .row ∙ ap (brought qs js) (p1 .constraint-row .ensures) in
+    let p : st .args .h .verdict ≡ Point = search needs in
     record {
       tried = λ cs g.
           c .before .finish .ensures
-          ∙ ap (λ b. onward (200 - c .before .before .before .before .before .before .before .before .before .before .before .before .before .args .h .pivots) (c .before .before .before .before .before .before .before .before .before .before .before .before .before .args .h .rows) (8 + c .before .before .before .before .before .before .before .before .before .before .before .before .before .args .k + c .before .before .before .before .before .before .before .before .before .before .before .before .before .args .h .rows) (Rattle.simplex.specs.Table.kindNumber (mathlib.Core.Option.some (Rattle.model.specs.Values.kindIs b))) r (c .before .before .before .before .before .before .before .before .before .before .before .before .before .args .rows .now) (c .before .before .before .before .before .before .before .before .before .before .before .before .before .args .place .now) (c .before .before .before .before .before .before .before .before .before .before .before .before .before .args .kinds .now) .verdict) (sym (c .before .before .before .before .before .before .before .before .before .before .before .before .before .pre .1 .0))
-          ∙ sym (ap (λ (y : Traced). y .verdict) (onward-is (c .before .before .before .before .before .before .before .before .before .before .before .before .before .args .k) cs (c .before .before .before .before .before .before .before .before .before .before .before .before .before .args .h) (c .before .before .before .before .before .before .before .before .before .before .before .before .before .args .rows .now) (c .before .before .before .before .before .before .before .before .before .before .before .before .before .args .place .now) (c .before .before .before .before .before .before .before .before .before .before .before .before .before .args .kinds .now) (c .before .before .before .before .before .before .before .before .before .before .before .before .before .args .past .now) (c .before .before .before .before .before .before .before .before .before .before .before .before .before .args .columns .now) g (c .before .before .before .before .before .before .before .before .before .before .before .before .before .pre .0 .less) c₀ p r is e));
+          ∙ ap (λ b. onward (200 - st .args .h .pivots) (st .args .h .rows) (8 + st .args .k + st .args .h .rows) (Rattle.simplex.specs.Table.kindNumber (mathlib.Core.Option.some (Rattle.model.specs.Values.kindIs b))) r (st .args .rows .now) (st .args .place .now) (st .args .kinds .now) .verdict) (sym (st .pre .1 .0))
+          ∙ sym (ap (λ (y : Traced). y .verdict) (onward-is g (st .pre .0 .less) c₀ p r is e));
     }
 
 returns-3 : tie.Need-returns-3
 returns-3 c =
-    let qs = take (c .before .before .before .before .before .before .before .before .before .before .args .h .pivots) (c .before .before .before .before .before .before .before .before .before .before .args .past .now) in
-    let js = take (c .before .before .before .before .before .before .before .before .before .before .args .h .pivots) (c .before .before .before .before .before .before .before .before .before .before .args .columns .now) in
-    let c₀ = constraintOf (c .before .before .before .before .before .before .before .before .before .before .args .c) in
-    let e : through qs js (startRow (c .before .before .before .before .before .before .before .before .before .before .args .k) c₀) ≡ true = sym (ap (through qs js) (c .before .before .before .before .before .constraint-row .ensures)) ∙ sym (c .before .before .before .replay .ensures .all) ∙ not-false _ (c .before .before .if1 .left) in
-    let p : c .before .before .before .before .before .before .before .before .before .before .args .h .verdict ≡ Dropped = search needs in
-    record { tried = λ cs g. sym (ended-now (c .before .before .before .before .before .before .before .before .before .before .args .k) cs (c .before .before .before .before .before .before .before .before .before .before .args .h) (c .before .before .before .before .before .before .before .before .before .before .args .rows .now) (c .before .before .before .before .before .before .before .before .before .before .args .place .now) (c .before .before .before .before .before .before .before .before .before .before .args .kinds .now) (c .before .before .before .before .before .before .before .before .before .before .args .past .now) (c .before .before .before .before .before .before .before .before .before .before .args .columns .now) g (c .before .before .before .before .before .before .before .before .before .before .pre .0 .less) c₀ (λ z. let q = sym p ∙ z in let w : _≡_ {A = ℕ} 0 1 = cc in omega arith) e (λ z. clash-dropped (sym p ∙ z)) .0 ∙ p) }
+    let st = c .before .before .before .before .before .before .before .before .before .before in
+    let qs = take (st .args .h .pivots) (st .args .past .now) in
+    let js = take (st .args .h .pivots) (st .args .columns .now) in
+    let c₀ = constraintOf (st .args .c) in
+    let e : through qs js (startRow (st .args .k) c₀) ≡ true = sym (ap (through qs js) (c .before .before .before .before .before .constraint-row .ensures)) ∙ sym (c .before .before .before .replay .ensures .all) ∙ not-false _ (c .before .before .if1 .left) in
+    let p : st .args .h .verdict ≡ Dropped = search needs in
+    record { tried = λ cs g. sym (ended-now g (st .pre .0 .less) c₀ (λ z. let q = sym p ∙ z in let w : _≡_ {A = ℕ} 0 1 = cc in omega arith) e (λ z. clash-dropped (sym p ∙ z)) .0 ∙ p) }
 
 returns-4 : tie.Need-returns-4
 returns-4 c =
-    let qs = take (c .before .before .before .before .before .before .before .before .before .before .args .h .pivots) (c .before .before .before .before .before .before .before .before .before .before .args .past .now) in
-    let js = take (c .before .before .before .before .before .before .before .before .before .before .args .h .pivots) (c .before .before .before .before .before .before .before .before .before .before .args .columns .now) in
-    let c₀ = constraintOf (c .before .before .before .before .before .before .before .before .before .before .args .c) in
-    let e : through qs js (startRow (c .before .before .before .before .before .before .before .before .before .before .args .k) c₀) ≡ true = sym (ap (through qs js) (c .before .before .before .before .before .constraint-row .ensures)) ∙ sym (c .before .before .before .replay .ensures .all) ∙ not-false _ (c .before .before .if1 .left) in
-    let p : c .before .before .before .before .before .before .before .before .before .before .args .h .verdict ≡ Long = search needs in
-    record { tried = λ cs g. sym (ended-now (c .before .before .before .before .before .before .before .before .before .before .args .k) cs (c .before .before .before .before .before .before .before .before .before .before .args .h) (c .before .before .before .before .before .before .before .before .before .before .args .rows .now) (c .before .before .before .before .before .before .before .before .before .before .args .place .now) (c .before .before .before .before .before .before .before .before .before .before .args .kinds .now) (c .before .before .before .before .before .before .before .before .before .before .args .past .now) (c .before .before .before .before .before .before .before .before .before .before .args .columns .now) g (c .before .before .before .before .before .before .before .before .before .before .pre .0 .less) c₀ (λ z. let q = sym p ∙ z in let w : _≡_ {A = ℕ} 0 1 = cc in omega arith) e (λ z. clash-long (sym p ∙ z)) .0 ∙ p) }
+    let st = c .before .before .before .before .before .before .before .before .before .before in
+    let qs = take (st .args .h .pivots) (st .args .past .now) in
+    let js = take (st .args .h .pivots) (st .args .columns .now) in
+    let c₀ = constraintOf (st .args .c) in
+    let e : through qs js (startRow (st .args .k) c₀) ≡ true = sym (ap (through qs js) (c .before .before .before .before .before .constraint-row .ensures)) ∙ sym (c .before .before .before .replay .ensures .all) ∙ not-false _ (c .before .before .if1 .left) in
+    let p : st .args .h .verdict ≡ Long = search needs in
+    record { tried = λ cs g. sym (ended-now g (st .pre .0 .less) c₀ (λ z. let q = sym p ∙ z in let w : _≡_ {A = ℕ} 0 1 = cc in omega arith) e (λ z. clash-long (sym p ∙ z)) .0 ∙ p) }
 
 returns-5 : tie.Need-returns-5
 returns-5 c =
-    let c₀ = constraintOf (c .before .before .before .before .before .before .before .before .before .before .args .c) in
-    let p : c .before .before .before .before .before .before .before .before .before .before .args .h .verdict ≡ Wide = search needs in
-    record { tried = λ cs g. sym (wide-stays (c .before .before .before .before .before .before .before .before .before .before .args .k) cs (c .before .before .before .before .before .before .before .before .before .before .args .h) (c .before .before .before .before .before .before .before .before .before .before .args .rows .now) (c .before .before .before .before .before .before .before .before .before .before .args .place .now) (c .before .before .before .before .before .before .before .before .before .before .args .kinds .now) (c .before .before .before .before .before .before .before .before .before .before .args .past .now) (c .before .before .before .before .before .before .before .before .before .before .args .columns .now) g (c .before .before .before .before .before .before .before .before .before .before .pre .0 .less) c₀ p) }
+    let st = c .before .before .before .before .before .before .before .before .before .before in
+    let c₀ = constraintOf (st .args .c) in
+    let p : st .args .h .verdict ≡ Wide = search needs in
+    record { tried = λ cs g. sym (wide-stays g (st .pre .0 .less) c₀ p) }
 
 pub candidate-spec : {M : Type 1} → statement M
 candidate-spec =

@@ -22,22 +22,29 @@ use Rattle.sharing.proofs.working.append.Reads as append-reads
 use Rattle.simplex.proofs.fill.constraint_row.Reads as constraint-row-reads
 use Rattle.simplex.proofs.fill.kind_of.Reads as kind-of-reads
 
+add-v : tie.Need-add-v
+add-v c = search needs
+
+add-v-2 : tie.Need-add-v-2
+add-v-2 c = search needs
+
+add-n : tie.Need-add-n
+add-n c = search needs
+
+add-more : tie.Need-add-more
+add-more c = search needs
+
 kind-of-requires : tie.Need-kind-of-requires
 kind-of-requires c κs = search needs
 
 constraint-row-requires : tie.Need-constraint-row-requires
 constraint-row-requires c κs = search needs
 
-add-replay : tie.Need-add-replay
-add-replay c = search needs
-
 replay-requires : tie.Need-replay-requires
 replay-requires c κs =
-    let g = c .before .before .before .before .before .before .before .before .before .pre .stands in
-    (subst (Whole (c .before .before .before .before .before .before .before .before .before .args .k + 10)) (sym (c .before .before .before .constraint-row .ensures)) (row-whole (c .before .before .before .before .before .before .before .before .before .args .k) (constraintOf (c .before .before .before .before .before .before .before .before .before .args .c)) (g .few)), (fits-past (c .before .before .before .before .before .before .before .before .before .args .k) (c .before .before .before .before .before .before .before .before .before .pre .cs) (c .before .before .before .before .before .before .before .before .before .args .h) (c .before .before .before .before .before .before .before .before .before .args .rows .now) (c .before .before .before .before .before .before .before .before .before .args .place .now) (c .before .before .before .before .before .before .before .before .before .args .kinds .now) (c .before .before .before .before .before .before .before .before .before .args .past .now) (c .before .before .before .before .before .before .before .before .before .args .columns .now) (c .before .before .before .before .before .before .before .before .before .pre .stands), g .kept))
-
-add-t25 : tie.Need-add-t25
-add-t25 c = search needs
+    let st = c .before .before .before .before .before .before .before .before .before in
+    let g = st .pre .stands in
+    (subst (Whole (st .args .k + 10)) (sym (c .before .before .before .constraint-row .ensures)) (row-whole (st .args .k) (constraintOf (st .args .c)) (g .few)), (fits-past (st .pre .stands), g .kept))
 
 same-length : tie.Need-same-length
 same-length c = search needs
@@ -47,52 +54,37 @@ same-length-2 c = search needs
 
 returns : tie.Need-returns
 returns c =
-    let qs = take (c .before .before .before .before .before .before .before .before .before .before .before .args .h .pivots) (c .before .before .before .before .before .before .before .before .before .before .before .args .past .now) in
-    let js = take (c .before .before .before .before .before .before .before .before .before .before .before .args .h .pivots) (c .before .before .before .before .before .before .before .before .before .before .before .args .columns .now) in
-    let c₀ = constraintOf (c .before .before .before .before .before .before .before .before .before .before .before .args .c) in
-    let e : through qs js (startRow (c .before .before .before .before .before .before .before .before .before .before .before .args .k) c₀) ≡ false = sym (ap (through qs js) (c .before .before .before .before .before .constraint-row .ensures)) ∙ sym (c .before .replay .ensures .all) ∙ not-true _ (c .if1 .taken) in
-    record { grown = λ cs g. grown-wide (c .before .before .before .before .before .before .before .before .before .before .before .args .k) cs (c .before .before .before .before .before .before .before .before .before .before .before .args .h) (c .before .before .before .before .before .before .before .before .before .before .before .args .rows .now) (c .before .before .before .before .before .before .before .before .before .before .before .args .place .now) (c .before .before .before .before .before .before .before .before .before .before .before .args .kinds .now) (c .before .before .before .before .before .before .before .before .before .before .before .args .past .now) (c .before .before .before .before .before .before .before .before .before .before .before .args .columns .now) g (c .before .before .before .before .before .before .before .before .before .before .before .pre .less) c₀ (wide-any (c .before .before .before .before .before .before .before .before .before .before .before .args .k) cs (c .before .before .before .before .before .before .before .before .before .before .before .args .h) (c .before .before .before .before .before .before .before .before .before .before .before .args .rows .now) (c .before .before .before .before .before .before .before .before .before .before .before .args .place .now) (c .before .before .before .before .before .before .before .before .before .before .before .args .kinds .now) (c .before .before .before .before .before .before .before .before .before .before .before .args .past .now) (c .before .before .before .before .before .before .before .before .before .before .before .args .columns .now) g (c .before .before .before .before .before .before .before .before .before .before .before .pre .less) c₀ e) }
+    let st = c .before .before .before .before .before .before .before .before .before .before .before in
+    let qs = take (st .args .h .pivots) (st .args .past .now) in
+    let js = take (st .args .h .pivots) (st .args .columns .now) in
+    let c₀ = constraintOf (st .args .c) in
+    let e : through qs js (startRow (st .args .k) c₀) ≡ false = sym (ap (through qs js) (c .before .before .before .before .before .constraint-row .ensures)) ∙ sym (c .before .replay .ensures .all) ∙ not-true _ (c .if1 .taken) in
+    record { grown = λ cs g. grown-wide g (st .pre .less) c₀ (wide-any g (st .pre .less) c₀ e) }
 
 enum-told : tie.Need-enum-told
 enum-told c = search needs
 
-add-append : tie.Need-add-append
-add-append c = search needs
-
-add-append-2 : tie.Need-add-append-2
-add-append-2 c = search needs
-
-add-append-3 : tie.Need-add-append-3
-add-append-3 c = search needs
-
 append-requires : tie.Need-append-requires
 append-requires c κs =
-    let qs = take (c .before .before .before .before .before .before .before .before .before .before .before .before .before .before .before .before .before .before .args .h .pivots) (c .before .before .before .before .before .before .before .before .before .before .before .before .before .before .before .before .before .before .args .past .now) in
-    let js = take (c .before .before .before .before .before .before .before .before .before .before .before .before .before .before .before .before .before .before .args .h .pivots) (c .before .before .before .before .before .before .before .before .before .before .before .before .before .before .before .before .before .before .args .columns .now) in
-    let c₀ = constraintOf (c .before .before .before .before .before .before .before .before .before .before .before .before .before .before .before .before .before .before .args .c) in
-    let r = c .before .before .before .before .before .before .before .before .replay .last .0 in
-    let is : r ≡ brought qs js (startRow (c .before .before .before .before .before .before .before .before .before .before .before .before .before .before .before .before .before .before .args .k) c₀) = c .before .before .before .before .before .before .before .before .replay .ensures .row ∙ ap (brought qs js) (c .before .before .before .before .before .before .before .before .before .before .before .before .constraint-row .ensures) in
-    let p : c .before .before .before .before .before .before .before .before .before .before .before .before .before .before .before .before .before .before .args .h .verdict ≡ Point = search needs in
-    let g = c .before .before .before .before .before .before .before .before .before .before .before .before .before .before .before .before .before .before .pre .stands in
-    (calm-now (c .before .before .before .before .before .before .before .before .before .before .before .before .before .before .before .before .before .before .args .k) (c .before .before .before .before .before .before .before .before .before .before .before .before .before .before .before .before .before .before .pre .cs) (c .before .before .before .before .before .before .before .before .before .before .before .before .before .before .before .before .before .before .args .h) (c .before .before .before .before .before .before .before .before .before .before .before .before .before .before .before .before .before .before .args .rows .now) (c .before .before .before .before .before .before .before .before .before .before .before .before .before .before .before .before .before .before .args .place .now) (c .before .before .before .before .before .before .before .before .before .before .before .before .before .before .before .before .before .before .args .kinds .now) (c .before .before .before .before .before .before .before .before .before .before .before .before .before .before .before .before .before .before .args .past .now) (c .before .before .before .before .before .before .before .before .before .before .before .before .before .before .before .before .before .before .args .columns .now) (c .before .before .before .before .before .before .before .before .before .before .before .before .before .before .before .before .before .before .pre .stands) (c .before .before .before .before .before .before .before .before .before .before .before .before .before .before .before .before .before .before .pre .less) c₀ p r is, (g .most, g .many, g .many′))
+    let st = c .before .before .before .before .before .before .before .before .before .before .before .before .before .before .before .before .before .before in
+    let p1 = c .before .before .before .before .before .before .before .before in
+    let qs = take (st .args .h .pivots) (st .args .past .now) in
+    let js = take (st .args .h .pivots) (st .args .columns .now) in
+    let c₀ = constraintOf (st .args .c) in
+    let r = p1 .replay .last .0 in
+    let is : r ≡ brought qs js (startRow (st .args .k) c₀) = p1 .replay .ensures .row ∙ ap (brought qs js) (c .before .before .before .before .before .before .before .before .before .before .before .before .constraint-row .ensures) in
+    let p : st .args .h .verdict ≡ Point = search needs in
+    let g = st .pre .stands in
+    (calm-now (st .pre .stands) (st .pre .less) c₀ p r is, (g .most, g .many, g .many′))
 
 enum-told-2 : tie.Need-enum-told-2
 enum-told-2 c = search needs
 
-add-t42 : tie.Need-add-t42
-add-t42 c = search needs
-
 enum-told-3 : tie.Need-enum-told-3
 enum-told-3 c = search needs
 
-add-t44 : tie.Need-add-t44
-add-t44 c = search needs
-
 enum-told-4 : tie.Need-enum-told-4
 enum-told-4 c = search needs
-
-add-t46 : tie.Need-add-t46
-add-t46 c = search needs
 
 same-length-3 : tie.Need-same-length-3
 same-length-3 c = search needs
@@ -111,13 +103,16 @@ same-length-7 c = search needs
 
 returns-2 : tie.Need-returns-2
 returns-2 c =
-    let qs = take (c .before .before .before .before .before .before .before .before .before .before .before .before .before .before .before .before .before .before .before .before .before .before .before .before .before .before .before .args .h .pivots) (c .before .before .before .before .before .before .before .before .before .before .before .before .before .before .before .before .before .before .before .before .before .before .before .before .before .before .before .args .past .now) in
-    let js = take (c .before .before .before .before .before .before .before .before .before .before .before .before .before .before .before .before .before .before .before .before .before .before .before .before .before .before .before .args .h .pivots) (c .before .before .before .before .before .before .before .before .before .before .before .before .before .before .before .before .before .before .before .before .before .before .before .before .before .before .before .args .columns .now) in
-    let c₀ = constraintOf (c .before .before .before .before .before .before .before .before .before .before .before .before .before .before .before .before .before .before .before .before .before .before .before .before .before .before .before .args .c) in
-    let e : through qs js (startRow (c .before .before .before .before .before .before .before .before .before .before .before .before .before .before .before .before .before .before .before .before .before .before .before .before .before .before .before .args .k) c₀) ≡ true = sym (ap (through qs js) (c .before .before .before .before .before .before .before .before .before .before .before .before .before .before .before .before .before .before .before .before .before .constraint-row .ensures)) ∙ sym (c .before .before .before .before .before .before .before .before .before .before .before .before .before .before .before .before .before .replay .ensures .all) ∙ not-false _ (c .before .before .before .before .before .before .before .before .before .before .before .before .before .before .before .before .if1 .left) in
-    let r = c .before .before .before .before .before .before .before .before .before .before .before .before .before .before .before .before .before .replay .last .0 in
-    let is : r ≡ brought qs js (startRow (c .before .before .before .before .before .before .before .before .before .before .before .before .before .before .before .before .before .before .before .before .before .before .before .before .before .before .before .args .k) c₀) = c .before .before .before .before .before .before .before .before .before .before .before .before .before .before .before .before .before .replay .ensures .row ∙ ap (brought qs js) (c .before .before .before .before .before .before .before .before .before .before .before .before .before .before .before .before .before .before .before .before .before .constraint-row .ensures) in
-    let p : c .before .before .before .before .before .before .before .before .before .before .before .before .before .before .before .before .before .before .before .before .before .before .before .before .before .before .before .args .h .verdict ≡ Point = search needs in
+    let st = c .before .before .before .before .before .before .before .before .before .before .before .before .before .before .before .before .before .before .before .before .before .before .before .before .before .before .before in
+    let p1 = c .before .before .before .before .before .before .before .before .before .before .before .before .before .before .before .before .before .before .before .before .before in
+    let p2 = c .before .before .before .before .before .before .before .before .before .before .before .before .before .before .before .before .before in
+    let qs = take (st .args .h .pivots) (st .args .past .now) in
+    let js = take (st .args .h .pivots) (st .args .columns .now) in
+    let c₀ = constraintOf (st .args .c) in
+    let e : through qs js (startRow (st .args .k) c₀) ≡ true = sym (ap (through qs js) (p1 .constraint-row .ensures)) ∙ sym (p2 .replay .ensures .all) ∙ not-false _ (c .before .before .before .before .before .before .before .before .before .before .before .before .before .before .before .before .if1 .left) in
+    let r = p2 .replay .last .0 in
+    let is : r ≡ brought qs js (startRow (st .args .k) c₀) = p2 .replay .ensures .row ∙ ap (brought qs js) (p1 .constraint-row .ensures) in
+    let p : st .args .h .verdict ≡ Point = c .before .before .before .before .before .before .before .before .before .before .before .before .before .before .enum-told .given .1 in
     let a = c .before .before .before .before .before .before .before .before .append in
     let R = a .last .1 .1 .1 .1 .1 .1 .0 in
     let P = a .last .1 .1 .1 .1 .1 .1 .1 .0 in
@@ -125,8 +120,8 @@ returns-2 c =
     let A = a .last .1 .1 .1 .1 .1 .1 .1 .1 .1 .0 in
     let C = a .last .1 .1 .1 .1 .1 .1 .1 .1 .1 .1 .0 in
     record {
-      grown = λ cs g. grown-on (c .before .before .before .before .before .before .before .before .before .before .before .before .before .before .before .before .before .before .before .before .before .before .before .before .before .before .before .args .k) cs (c .before .before .before .before .before .before .before .before .before .before .before .before .before .before .before .before .before .before .before .before .before .before .before .before .before .before .before .args .h) (c .before .before .before .before .before .before .before .before .before .before .before .before .before .before .before .before .before .before .before .before .before .before .before .before .before .before .before .args .rows .now) (c .before .before .before .before .before .before .before .before .before .before .before .before .before .before .before .before .before .before .before .before .before .before .before .before .before .before .before .args .place .now) (c .before .before .before .before .before .before .before .before .before .before .before .before .before .before .before .before .before .before .before .before .before .before .before .before .before .before .before .args .kinds .now) (c .before .before .before .before .before .before .before .before .before .before .before .before .before .before .before .before .before .before .before .before .before .before .before .before .before .before .before .args .past .now) (c .before .before .before .before .before .before .before .before .before .before .before .before .before .before .before .before .before .before .before .before .before .before .before .before .before .before .before .args .columns .now) g (c .before .before .before .before .before .before .before .before .before .before .before .before .before .before .before .before .before .before .before .before .before .before .before .before .before .before .before .pre .less) c₀ p r is e (a .result) R P K A C (a .kept .1 .1 .1 .1 .1 .1 .0) (a .kept .1 .1 .1 .1 .1 .1 .1 .0) (a .kept .1 .1 .1 .1 .1 .1 .1 .1 .0) (a .kept .1 .1 .1 .1 .1 .1 .1 .1 .1 .0) (a .kept .1 .1 .1 .1 .1 .1 .1 .1 .1 .1 .0)
-          (subst (λ i. Appended (c .before .before .before .before .before .before .before .before .before .before .before .before .before .before .before .before .before .before .before .before .before .before .before .before .before .before .before .args .h .rows) (8 + c .before .before .before .before .before .before .before .before .before .before .before .before .before .before .before .before .before .before .before .before .before .before .before .before .before .before .before .args .k + c .before .before .before .before .before .before .before .before .before .before .before .before .before .before .before .before .before .before .before .before .before .before .before .before .before .before .before .args .h .rows) (c .before .before .before .before .before .before .before .before .before .before .before .before .before .before .before .before .before .before .before .before .before .before .before .before .before .before .before .args .h .pivots) i r (c .before .before .before .before .before .before .before .before .before .before .before .before .before .before .before .before .before .before .before .before .before .before .before .before .before .before .before .args .rows .now) (c .before .before .before .before .before .before .before .before .before .before .before .before .before .before .before .before .before .before .before .before .before .before .before .before .before .before .before .args .place .now) (c .before .before .before .before .before .before .before .before .before .before .before .before .before .before .before .before .before .before .before .before .before .before .before .before .before .before .before .args .kinds .now) (c .before .before .before .before .before .before .before .before .before .before .before .before .before .before .before .before .before .before .before .before .before .before .before .before .before .before .before .args .past .now) (c .before .before .before .before .before .before .before .before .before .before .before .before .before .before .before .before .before .before .before .before .before .before .before .before .before .before .before .args .columns .now) (a .result) R P K A C) (c .before .before .before .before .before .before .before .before .before .before .before .before .before .before .before .before .before .before .before .before .before .before .before .kind-of .ensures) (a .ensures));
+      grown = λ cs g. grown-on g (st .pre .less) c₀ p r is e (a .result) R P K A C (a .kept .1 .1 .1 .1 .1 .1 .0) (a .kept .1 .1 .1 .1 .1 .1 .1 .0) (a .kept .1 .1 .1 .1 .1 .1 .1 .1 .0) (a .kept .1 .1 .1 .1 .1 .1 .1 .1 .1 .0) (a .kept .1 .1 .1 .1 .1 .1 .1 .1 .1 .1 .0)
+          (subst (λ i. Appended (st .args .h .rows) (8 + st .args .k + st .args .h .rows) (st .args .h .pivots) i r (st .args .rows .now) (st .args .place .now) (st .args .kinds .now) (st .args .past .now) (st .args .columns .now) (a .result) R P K A C) (c .before .before .before .before .before .before .before .before .before .before .before .before .before .before .before .before .before .before .before .before .before .before .before .kind-of .ensures) (a .ensures));
     }
 
 same-length-8 : tie.Need-same-length-8
@@ -137,12 +132,13 @@ same-length-9 c = search needs
 
 returns-3 : tie.Need-returns-3
 returns-3 c =
-    let qs = take (c .before .before .before .before .before .before .before .before .before .before .before .before .before .args .h .pivots) (c .before .before .before .before .before .before .before .before .before .before .before .before .before .args .past .now) in
-    let js = take (c .before .before .before .before .before .before .before .before .before .before .before .before .before .args .h .pivots) (c .before .before .before .before .before .before .before .before .before .before .before .before .before .args .columns .now) in
-    let c₀ = constraintOf (c .before .before .before .before .before .before .before .before .before .before .before .before .before .args .c) in
-    let e : through qs js (startRow (c .before .before .before .before .before .before .before .before .before .before .before .before .before .args .k) c₀) ≡ true = sym (ap (through qs js) (c .before .before .before .before .before .before .before .constraint-row .ensures)) ∙ sym (c .before .before .before .replay .ensures .all) ∙ not-false _ (c .before .before .if1 .left) in
-    let p : c .before .before .before .before .before .before .before .before .before .before .before .before .before .args .h .verdict ≡ Dropped = search needs in
-    record { grown = λ cs g. grown-ended (c .before .before .before .before .before .before .before .before .before .before .before .before .before .args .k) cs (c .before .before .before .before .before .before .before .before .before .before .before .before .before .args .h) (c .before .before .before .before .before .before .before .before .before .before .before .before .before .args .rows .now) (c .before .before .before .before .before .before .before .before .before .before .before .before .before .args .place .now) (c .before .before .before .before .before .before .before .before .before .before .before .before .before .args .kinds .now) (c .before .before .before .before .before .before .before .before .before .before .before .before .before .args .past .now) (c .before .before .before .before .before .before .before .before .before .before .before .before .before .args .columns .now) g (c .before .before .before .before .before .before .before .before .before .before .before .before .before .pre .less) c₀ Dropped p (λ z. let w : _≡_ {A = ℕ} 0 1 = cc in omega arith) clash-dropped e }
+    let st = c .before .before .before .before .before .before .before .before .before .before .before .before .before in
+    let qs = take (st .args .h .pivots) (st .args .past .now) in
+    let js = take (st .args .h .pivots) (st .args .columns .now) in
+    let c₀ = constraintOf (st .args .c) in
+    let e : through qs js (startRow (st .args .k) c₀) ≡ true = sym (ap (through qs js) (c .before .before .before .before .before .before .before .constraint-row .ensures)) ∙ sym (c .before .before .before .replay .ensures .all) ∙ not-false _ (c .before .before .if1 .left) in
+    let p : st .args .h .verdict ≡ Dropped = search needs in
+    record { grown = λ cs g. grown-ended g (st .pre .less) c₀ Dropped p (λ z. let w : _≡_ {A = ℕ} 0 1 = cc in omega arith) clash-dropped e }
 
 same-length-10 : tie.Need-same-length-10
 same-length-10 c = search needs
@@ -152,12 +148,13 @@ same-length-11 c = search needs
 
 returns-4 : tie.Need-returns-4
 returns-4 c =
-    let qs = take (c .before .before .before .before .before .before .before .before .before .before .before .before .before .args .h .pivots) (c .before .before .before .before .before .before .before .before .before .before .before .before .before .args .past .now) in
-    let js = take (c .before .before .before .before .before .before .before .before .before .before .before .before .before .args .h .pivots) (c .before .before .before .before .before .before .before .before .before .before .before .before .before .args .columns .now) in
-    let c₀ = constraintOf (c .before .before .before .before .before .before .before .before .before .before .before .before .before .args .c) in
-    let e : through qs js (startRow (c .before .before .before .before .before .before .before .before .before .before .before .before .before .args .k) c₀) ≡ true = sym (ap (through qs js) (c .before .before .before .before .before .before .before .constraint-row .ensures)) ∙ sym (c .before .before .before .replay .ensures .all) ∙ not-false _ (c .before .before .if1 .left) in
-    let p : c .before .before .before .before .before .before .before .before .before .before .before .before .before .args .h .verdict ≡ Long = search needs in
-    record { grown = λ cs g. grown-ended (c .before .before .before .before .before .before .before .before .before .before .before .before .before .args .k) cs (c .before .before .before .before .before .before .before .before .before .before .before .before .before .args .h) (c .before .before .before .before .before .before .before .before .before .before .before .before .before .args .rows .now) (c .before .before .before .before .before .before .before .before .before .before .before .before .before .args .place .now) (c .before .before .before .before .before .before .before .before .before .before .before .before .before .args .kinds .now) (c .before .before .before .before .before .before .before .before .before .before .before .before .before .args .past .now) (c .before .before .before .before .before .before .before .before .before .before .before .before .before .args .columns .now) g (c .before .before .before .before .before .before .before .before .before .before .before .before .before .pre .less) c₀ Long p (λ z. let w : _≡_ {A = ℕ} 0 1 = cc in omega arith) clash-long e }
+    let st = c .before .before .before .before .before .before .before .before .before .before .before .before .before in
+    let qs = take (st .args .h .pivots) (st .args .past .now) in
+    let js = take (st .args .h .pivots) (st .args .columns .now) in
+    let c₀ = constraintOf (st .args .c) in
+    let e : through qs js (startRow (st .args .k) c₀) ≡ true = sym (ap (through qs js) (c .before .before .before .before .before .before .before .constraint-row .ensures)) ∙ sym (c .before .before .before .replay .ensures .all) ∙ not-false _ (c .before .before .if1 .left) in
+    let p : st .args .h .verdict ≡ Long = search needs in
+    record { grown = λ cs g. grown-ended g (st .pre .less) c₀ Long p (λ z. let w : _≡_ {A = ℕ} 0 1 = cc in omega arith) clash-long e }
 
 same-length-12 : tie.Need-same-length-12
 same-length-12 c = search needs
@@ -167,33 +164,30 @@ same-length-13 c = search needs
 
 returns-5 : tie.Need-returns-5
 returns-5 c =
-    let c₀ = constraintOf (c .before .before .before .before .before .before .before .before .before .before .before .before .before .args .c) in
-    let p : c .before .before .before .before .before .before .before .before .before .before .before .before .before .args .h .verdict ≡ Wide = search needs in
-    record { grown = λ cs g. grown-wide (c .before .before .before .before .before .before .before .before .before .before .before .before .before .args .k) cs (c .before .before .before .before .before .before .before .before .before .before .before .before .before .args .h) (c .before .before .before .before .before .before .before .before .before .before .before .before .before .args .rows .now) (c .before .before .before .before .before .before .before .before .before .before .before .before .before .args .place .now) (c .before .before .before .before .before .before .before .before .before .before .before .before .before .args .kinds .now) (c .before .before .before .before .before .before .before .before .before .before .before .before .before .args .past .now) (c .before .before .before .before .before .before .before .before .before .before .before .before .before .args .columns .now) g (c .before .before .before .before .before .before .before .before .before .before .before .before .before .pre .less) c₀ (wide-stays (c .before .before .before .before .before .before .before .before .before .before .before .before .before .args .k) cs (c .before .before .before .before .before .before .before .before .before .before .before .before .before .args .h) (c .before .before .before .before .before .before .before .before .before .before .before .before .before .args .rows .now) (c .before .before .before .before .before .before .before .before .before .before .before .before .before .args .place .now) (c .before .before .before .before .before .before .before .before .before .before .before .before .before .args .kinds .now) (c .before .before .before .before .before .before .before .before .before .before .before .before .before .args .past .now) (c .before .before .before .before .before .before .before .before .before .before .before .before .before .args .columns .now) g (c .before .before .before .before .before .before .before .before .before .before .before .before .before .pre .less) c₀ p) }
+    let st = c .before .before .before .before .before .before .before .before .before .before .before .before .before in
+    let c₀ = constraintOf (st .args .c) in
+    let p : st .args .h .verdict ≡ Wide = search needs in
+    record { grown = λ cs g. grown-wide g (st .pre .less) c₀ (wide-stays g (st .pre .less) c₀ p) }
 
 pub grow-spec : {M : Type 1} → statement M
 grow-spec =
     tie.close
     (tie.spec
+    add-v
+    add-v-2
+    add-n
+    add-more
     kind-of-requires
     constraint-row-requires
-    add-replay
     replay-requires
-    add-t25
     same-length
     same-length-2
     returns
     enum-told
-    add-append
-    add-append-2
-    add-append-3
     append-requires
     enum-told-2
-    add-t42
     enum-told-3
-    add-t44
     enum-told-4
-    add-t46
     same-length-3
     same-length-4
     same-length-5

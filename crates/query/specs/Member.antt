@@ -1,0 +1,24 @@
+-- Member (document 01, "Asking").
+use mathlib.Core.Bool.{Bool, _&&_, cond}
+use mathlib.Core.List.{List}
+use Prim.Native.Nat.{ℕ}
+use lib.IntN.{ℤ, pos, negsuc}
+use lib.ListN.{take}
+use Rattle.model.specs.Lists.{all}
+use Rattle.model.specs.Sets.{Set, absent, inSet}
+use Rattle.codec.specs.Bytes.{Answer, refused, gives, decode, within}
+
+-- "coordinates from −1,048,576 to 1,048,576"
+abbrev pub coordinate : ℤ → Bool
+coordinate z = within (negsuc 1048575) (pos 1048576) z
+
+-- 12: "coordinate out of range .. absent axis not 0", of a point of 8 places
+abbrev pub pointFits : ℕ → List ℤ → Bool
+pointFits n x = all coordinate x && absent n x
+
+unfoldable pub memberBytes : ℕ → List ℕ → List ℤ → Answer Bool
+memberBytes n a x = onSet (decode n a)
+  where
+    onSet : Answer Set → Answer Bool
+    onSet (refused m) = refused m
+    onSet (gives s) = cond (pointFits n x) (gives (inSet (take n x) s)) (refused 12)

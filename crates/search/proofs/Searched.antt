@@ -1,0 +1,179 @@
+-- What a first-point search tells (document 01, "Asking"): a prefix that fails has no member below it; spent exactly when the walk is
+-- longer than the limit; else none exactly when the box has no member, or the first one; and the tally is the number of prefixes walked.
+use mathlib.Core.Path.{_≡_, refl, sym, ap, _∙_, subst}
+use mathlib.Core.Bool.{Bool, true, false, not, _&&_, cond}
+use mathlib.Core.List.{List, [], _∷_, _++_, map}
+use mathlib.Core.Option.{Option, none, some}
+use Prim.Native.Nat.{ℕ, zero, suc, _≤_, _<_}
+use native.Mathlib.Omega.{arith}
+use native.Mathlib.Nat.{not-suc-le-zero}
+use lib.Dec.{T, leb, ltb, leb→le, ltb→lt, nleb→lt}
+use lib.IntN.{ℤ}
+use lib.ListN.{length, take}
+use Rattle.model.specs.Lists.{all}
+use Rattle.model.specs.Sets.{Set, inSet, wellFormed}
+use Rattle.codec.specs.Bytes.{Answer, refused, gives, number, decode, axesFit}
+use Rattle.codec.proofs.Decoded.{decode-formed, no-way}
+use Rattle.codec.proofs.Parsing.{decode-bad}
+use Rattle.search.specs.Search.{Interval, only, passes, walk, Found, at, nothing, spent, Tallied, foundOf, firstPoint, boxOf, boxFits, searchBytes}
+use Rattle.model.proofs.Count.{and-left, and-right, from-T, to-T}
+use Rattle.search.proofs.Walks.{In, Says, can-pass, in-prefix, search-right}
+
+-- ---- prefixes
+
+-- a prefix p that fails, over the open sides bs, has no member below it
+pub prefix-fails : (s : Set) → T (all wellFormed s) → (p : List ℤ) (bs : List Interval) → passes s p bs ≡ false → (zs : List ℤ) → In zs bs → ¬ T (inSet (p ++ zs) s)
+prefix-fails s formed p bs e zs h t = subst T e (can-pass (p ++ zs) (map only p ++ bs) s formed (in-prefix p zs bs h) t)
+
+-- ---- spent, and the tally
+
+found-not-spent : (o : Option (List ℤ)) {X : Type 0} → foundOf o ≡ spent → X
+found-not-spent none e = let z : _≡_ {A = ℕ} 0 1 = cc in no-way z
+found-not-spent (some p) e = let z : _≡_ {A = ℕ} 0 1 = cc in no-way z
+
+-- how the answer comes from the unlimited walk
+pub data Walked (s : Set) (box : List Interval) (limit : ℕ) : Tallied → Type 0 where
+  within : walk s [] box .tested ≤ limit → Walked s box limit (record { found = foundOf (walk s [] box .found); tested = walk s [] box .tested })
+  beyond : limit < walk s [] box .tested → Walked s box limit (record { found = spent; tested = limit })
+
+pub walked : (s : Set) (box : List Interval) (limit : ℕ) → Walked s box limit (firstPoint s box limit)
+unfolding firstPoint
+walked s box limit = by (leb (walk s [] box .tested) limit) refl
+  where
+    by : (c : Bool) → leb (walk s [] box .tested) limit ≡ c
+        → Walked s box limit (cond c (record { found = foundOf (walk s [] box .found); tested = walk s [] box .tested }) (record { found = spent; tested = limit }))
+    by true e = within (leb→le (walk s [] box .tested) limit (to-T (leb (walk s [] box .tested) limit) e))
+    by false e = beyond (nleb→lt (walk s [] box .tested) limit (subst (λ (b : Bool). T (not b)) (sym e) tt))
+
+module _ (s : Set) (box : List Interval) (limit : ℕ) where
+  pub spent-longer : firstPoint s box limit .found ≡ spent → limit < walk s [] box .tested
+  spent-longer = by (firstPoint s box limit) (walked s box limit)
+    where
+      by : (t : Tallied) → Walked s box limit t → t .found ≡ spent → limit < walk s [] box .tested
+      by _ (within h) e = found-not-spent (walk s [] box .found) e
+      by _ (beyond h) e = h
+
+  pub longer-spent : limit < walk s [] box .tested → firstPoint s box limit ≡ record { found = spent; tested = limit }
+  longer-spent l = by (firstPoint s box limit) (walked s box limit)
+    where
+      by : (t : Tallied) → Walked s box limit t → t ≡ record { found = spent; tested = limit }
+      by _ (within h) = absurd (clash (walk s [] box .tested) limit l h)
+        where
+          clash : (m n : ℕ) → n < m → m ≤ n → ⊥
+          clash m n l h = omega arith
+      by _ (beyond h) = refl
+
+  -- not spent: the answer and the tally are those of the unlimited walk
+  pub unspent-walk : ¬ (firstPoint s box limit .found ≡ spent)
+      → (firstPoint s box limit .found ≡ foundOf (walk s [] box .found)) × (firstPoint s box limit .tested ≡ walk s [] box .tested)
+  unspent-walk = by (firstPoint s box limit) (walked s box limit)
+    where
+      by : (t : Tallied) → Walked s box limit t → ¬ (t .found ≡ spent) → (t .found ≡ foundOf (walk s [] box .found)) × (t .tested ≡ walk s [] box .tested)
+      by _ (within h) n = (refl, refl)
+      by _ (beyond h) n = absurd (n refl)
+
+-- ---- none exactly when the box has no member
+
+module _ (s : Set) (formed : T (all wellFormed s)) (b : Interval) (bs : List Interval) (limit : ℕ) where
+  pub none-empty : firstPoint s (b ∷ bs) limit .found ≡ nothing → (zs : List ℤ) → In zs (b ∷ bs) → ¬ T (inSet zs s)
+  none-empty e = subst (Says s (b ∷ bs)) e (search-right s formed b bs limit .0)
+
+  pub empty-none : ¬ (firstPoint s (b ∷ bs) limit .found ≡ spent) → ((zs : List ℤ) → In zs (b ∷ bs) → ¬ T (inSet zs s)) → firstPoint s (b ∷ bs) limit .found ≡ nothing
+  empty-none unspent void = by (firstPoint s (b ∷ bs) limit .found) refl (search-right s formed b bs limit .0)
+    where
+      by : (f : Found) → firstPoint s (b ∷ bs) limit .found ≡ f → Says s (b ∷ bs) f → f ≡ nothing
+      by (at q) e r = absurd (void q (r .0) (r .1))
+      by nothing e r = refl
+      by spent e r = absurd (unspent e)
+
+-- where s is the difference of two sets: none exactly when every point of the first set in the box is in the second
+module _ (d s t : Set) (formed : T (all wellFormed d)) (points : (x : List ℤ) → length x ≤ 8 → inSet x d ≡ (inSet x s && not (inSet x t)))
+    (b : Interval) (bs : List Interval) (few : length (b ∷ bs) ≤ 8) (limit : ℕ) where
+  in-length : (zs : List ℤ) (ss : List Interval) → In zs ss → length zs ≡ length ss
+  in-length [] [] h = refl
+  in-length [] (r ∷ ss) h = absurd h
+  in-length (z ∷ zs) [] h = absurd h
+  in-length (z ∷ zs) (r ∷ ss) h = ap suc (in-length zs ss (h .1))
+
+  at-point : (zs : List ℤ) → In zs (b ∷ bs) → inSet zs d ≡ (inSet zs s && not (inSet zs t))
+  at-point zs h = points zs (subst (λ (k : ℕ). k ≤ 8) (sym (in-length zs (b ∷ bs) h)) few)
+
+  pub none-covered : firstPoint d (b ∷ bs) limit .found ≡ nothing → (zs : List ℤ) → In zs (b ∷ bs) → T (inSet zs s) → T (inSet zs t)
+  none-covered e zs h p =
+      by (inSet zs s) (inSet zs t) p (λ u. none-empty d formed b bs limit e zs h (to-T (inSet zs d) (at-point zs h ∙ from-T (inSet zs s && not (inSet zs t)) u)))
+    where
+      by : (p q : Bool) → T p → ¬ T (p && not q) → T q
+      by true true p n = tt
+      by true false p n = n tt
+      by false q p n = absurd p
+
+  pub covered-none : ¬ (firstPoint d (b ∷ bs) limit .found ≡ spent) → ((zs : List ℤ) → In zs (b ∷ bs) → T (inSet zs s) → T (inSet zs t)) → firstPoint d (b ∷ bs) limit .found ≡ nothing
+  covered-none unspent inside =
+      empty-none d formed b bs limit unspent
+      (λ zs h u. by (inSet zs s) (inSet zs t) (to-T (inSet zs s && not (inSet zs t)) (sym (at-point zs h) ∙ from-T (inSet zs d) u)) (inside zs h))
+    where
+      by : (p q : Bool) → T (p && not q) → (T p → T q) → ⊥
+      by true true u f = u
+      by true false u f = f tt
+      by false q u f = u
+
+-- ---- on bytes: 1 to 9 of the set, 12, 13, in that order, or the answer
+
+pub record Searched (n : ℕ) (a : List ℕ) (ls hs : List ℤ) (limit : ℕ) (t : Tallied) : Type 0 where
+  pub s : Set
+  pub decoded : decode n a ≡ gives s
+  pub formed : T (all wellFormed s)
+  pub box : T (boxFits n ls hs)
+  pub limit-fits : T (ltb 0 limit && leb limit 1000000)
+  pub answer : firstPoint s (take n (boxOf ls hs)) limit ≡ t
+
+pub searched : (n : ℕ) (a : List ℕ) (ls hs : List ℤ) (limit : ℕ) (t : Tallied) → searchBytes n a ls hs limit ≡ gives t → Searched n a ls hs limit t
+unfolding searchBytes
+searched n a ls hs limit t e = by (decode n a) refl
+  where
+    bounded : (s : Set) → decode n a ≡ gives s → (p q : Bool) → boxFits n ls hs ≡ p → (ltb 0 limit && leb limit 1000000) ≡ q
+        → _≡_ {A = Answer Tallied} (cond p (cond q (gives (firstPoint s (take n (boxOf ls hs)) limit)) (refused 13)) (refused 12)) (gives t) → Searched n a ls hs limit t
+    bounded s d true true p q g =
+        record {
+          s = s;
+          decoded = d;
+          formed = decode-formed n a s d;
+          box = to-T (boxFits n ls hs) p;
+          limit-fits = to-T (ltb 0 limit && leb limit 1000000) q;
+          answer = cc;
+        }
+    bounded s d true false p q g = let z : _≡_ {A = ℕ} 0 1 = cc in no-way z
+    bounded s d false q p r g = let z : _≡_ {A = ℕ} 0 1 = cc in no-way z
+
+    by : (x : Answer Set) → decode n a ≡ x → Searched n a ls hs limit t
+    by (refused m) d = let g : refused m ≡ gives t = rw (d, searchBytes) at e in let z : _≡_ {A = ℕ} 0 1 = cc in no-way z
+    by (gives s) d =
+        bounded s d (boxFits n ls hs) (ltb 0 limit && leb limit 1000000) refl refl (rw (d, searchBytes) at e)
+
+-- a checked box has its n sides, at least one and at most 8
+first-side : (n : ℕ) (ls hs : List ℤ) → 0 < n → 0 < length ls → 0 < length hs → (b : Interval) × (bs : List Interval) × (take n (boxOf ls hs) ≡ b ∷ bs)
+first-side zero ls hs k l h = absurd (not-suc-le-zero k)
+first-side (suc n) [] hs k l h = absurd (not-suc-le-zero l)
+first-side (suc n) (x ∷ ls) [] k l h = absurd (not-suc-le-zero h)
+first-side (suc n) (x ∷ ls) (y ∷ hs) k l h = (record { low = x; high = y }, take n (boxOf ls hs), refl)
+
+module _ {n : ℕ} {a : List ℕ} {ls hs : List ℤ} {limit : ℕ} {t : Tallied} (r : Searched n a ls hs limit t) (l : 0 < length ls) (h : 0 < length hs) where
+  axes-fit : T (axesFit n)
+  axes-fit = by (axesFit n) refl
+    where
+      by : (c : Bool) → axesFit n ≡ c → T c
+      by true e = tt
+      by false e = let z : number (gives (r .s)) ≡ 1 = ap number (sym (r .decoded)) ∙ decode-bad n a e in no-way z
+
+  pub few-axes : (0 < n) × (n ≤ 8)
+  few-axes = (ltb→lt 0 n (and-left (ltb 0 n) (leb n 8) axes-fit), leb→le n 8 (and-right (ltb 0 n) (leb n 8) axes-fit))
+
+  pub sides : (b : Interval) × (bs : List Interval) × (take n (boxOf ls hs) ≡ b ∷ bs)
+  sides = first-side n ls hs (few-axes .0) l h
+
+  -- the answer is right for every point of the box
+  pub search-says : Says (r .s) (take n (boxOf ls hs)) (t .found) × (t .tested ≤ limit)
+  search-says =
+      subst (λ (u : Tallied). Says (r .s) (take n (boxOf ls hs)) (u .found) × (u .tested ≤ limit)) (r .answer)
+      (subst (λ (bs : List Interval). Says (r .s) bs (firstPoint (r .s) bs limit .found) × (firstPoint (r .s) bs limit .tested ≤ limit)) (sym (sides .2))
+      (search-right (r .s) (r .formed) (sides .0) (sides .1) limit))

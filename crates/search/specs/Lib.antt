@@ -1,0 +1,5 @@
+pub mod Search
+pub mod Prefixes
+pub mod Sides
+pub mod Live
+pub mod Levels

@@ -1,0 +1,71 @@
+-- What the first-point search's code computes: ends of sums over the sides of a box, and the walk with what is left of the limit.
+use mathlib.Core.Path.{_≡_}
+use mathlib.Core.Bool.{Bool, true, cond}
+use mathlib.Core.List.{List, [], _++_}
+use Prim.Native.Nat.{ℕ, _+_, _-_, _≤_, _<_}
+use lib.Dec.{leb}
+use lib.IntN.{ℤ, pos}
+use lib.Signed.{leZ, _≤ℤ_}
+use lib.ListN.{length, take, drop, getD, replicate}
+use Rattle.codec.specs.Bytes.{Answer, refused, gives, decode, number}
+use Rattle.codec.specs.Places.{Accepted}
+use Rattle.search.specs.Search.{Interval, boxOf, Walk, at, nothing, spent, Tallied, foundOf, boxFits}
+pub use Rattle.bounds.specs.Ends.{side}
+use Rattle.bounds.specs.Ends.{AllWithin}
+use Rattle.search.specs.declared.levels.Trail.{Trail}
+use Rattle.search.specs.declared.first.FirstPoint.{FirstPoint}
+use Rattle.search.specs.declared.first.Outcome.the-variants.{At, Nothing, Spent, Refused}
+
+-- ---- the walk
+
+-- the walk's answer if t prefixes were tested before it
+abbrev pub limited : ℕ → ℕ → Walk → Tallied
+limited limit t w = cond (leb (t + w .tested) limit) (record { found = foundOf (w .found); tested = t + w .tested }) (record { found = spent; tested = limit })
+
+-- n sides of a box
+abbrev pub sidesOf : ℕ → List ℤ → List ℤ → List Interval
+sidesOf n low high = boxOf (take n low) (take n high)
+
+-- the sides of a box whose first k axes are fixed
+pub record Standing (s : List ℕ) (n k : ℕ) (low high : List ℤ) : Type 0 where
+  pub accepted : Accepted s
+  pub axes : n ≤ 8
+  pub left : k < n
+  pub lows : length low ≡ 8
+  pub highs : length high ≡ 8
+  pub low-size : AllWithin 1048576 low
+  pub high-size : AllWithin 1048576 high
+  pub ordered : (i : ℕ) → getD low i (pos 0) ≤ℤ getD high i (pos 0)
+  pub fixed : take k low ≡ take k high
+  pub absent : drop n low ≡ replicate (8 - n) (pos 0)
+
+-- "low over high" is refused
+abbrev pub ordered : Interval → Bool
+ordered s = leZ (s .low) (s .high)
+
+-- checked bytes, and a box that fits their axes
+pub record Boxed (n : ℕ) (s : List ℕ) (low high : List ℤ) : Type 0 where
+  pub accepted : number (decode n s) ≡ 0
+  pub box : boxFits n low high ≡ true
+
+-- eight places, 0 past the coordinates
+abbrev pub padded : List ℤ → List ℤ
+padded p = p ++ replicate (8 - length p) (pos 0)
+
+abbrev pub trailOf : Tallied → Trail
+trailOf t =
+    elim (t .found) [
+      | at p ↦ record { way = 1; point = padded p; tested = t .tested }
+      | nothing ↦ record { way = 0; point = padded []; tested = t .tested }
+      | spent ↦ record { way = 2; point = padded []; tested = t .tested }
+    ]
+
+-- the answers of a search: the point of `At`, zeros otherwise
+abbrev pub answerOf : Answer Tallied → FirstPoint
+answerOf (refused m) = record { outcome = Refused m; point = padded []; tested = 0 }
+answerOf (gives t) =
+    elim (t .found) [
+      | at p ↦ record { outcome = At; point = padded p; tested = t .tested }
+      | nothing ↦ record { outcome = Nothing; point = padded []; tested = t .tested }
+      | spent ↦ record { outcome = Spent; point = padded []; tested = t .tested }
+    ]

@@ -1,0 +1,148 @@
+// The first point of a set in a box: the call, its refusals, and its walk from the whole box.
+ghost use mathlib.Core.Path.{_≡_};
+ghost use mathlib.Core.List.{[]};
+ghost use lib.ListN.{length, take};
+ghost use Rattle.model.specs.Lists.{all};
+ghost use Rattle.codec.specs.Bytes as B;
+ghost use Rattle.codec.specs.Places.{Accepted, setFrom};
+ghost use Rattle.search.specs.Search.{boxOf, walk, boxFits, searchBytes, Tallied};
+ghost use Rattle.search.specs.Sides.{limited, trailOf, ordered, Boxed, answerOf};
+ghost use Rattle.search.specs.Live.{Laid};
+use crate::levels::Prefix;
+use crate::levels::Trail;
+use crate::levels::tallied;
+use crate::levels::zeros;
+
+pub enum Outcome {
+    At,
+    Nothing,
+    Spent,
+    Refused(u32),
+}
+
+// The answer of a search: the point of `At`, zeros otherwise and on absent axes; the number of prefixes tested.
+pub struct FirstPoint {
+    pub outcome: Outcome,
+    pub point: [i64; 8],
+    pub tested: u32,
+}
+
+// Whether no low is over its high.
+fn sides_fit(low: [i32; 8], high: [i32; 8]) -> bool
+    ensures { λ r. ⌜ r ≡ all ordered (boxOf low high) ⌝ }
+{
+    let mut i = 0;
+    while i < 8 {
+        let a = low[i];
+        let b = high[i];
+        if b < a {
+            return false;
+        }
+        i += 1;
+    }
+    true
+}
+
+fn box_fits(n: usize, low: [i32; 8], high: [i32; 8]) -> bool
+    ensures { λ r. ⌜ r ≡ boxFits n low high ⌝ }
+{
+    if !query::point_fits(n, low) {
+        return false;
+    }
+    if !query::point_fits(n, high) {
+        return false;
+    }
+    sides_fit(low, high)
+}
+
+// The rows of the basic sets, and how many they are.
+fn laid(s: &[u8], rows: &mut [[i64; 129]]) -> usize
+    requires { ⌜ Accepted (now s) × (length (now rows) ≡ 32) ⌝ }
+    ensures { λ count. ⌜ Laid (now (s .entry)) (now (rows .exit)) count ⌝ }
+{
+    let mut at = 0;
+    let mut b = 0;
+    while at < s.len() {
+        rows[b] = bounds::fresh(at + 1);
+        at = codec::end_of(s, at + 1);
+        b += 1;
+    }
+    b
+}
+
+// The walk of checked bytes over a box that fits.
+fn walked(n: usize, s: &[u8], low: [i32; 8], high: [i32; 8], limit: u32) -> Trail
+    requires { ⌜ Boxed n (now s) low high ⌝ }
+    ensures { λ r. ⌜ r ≡ trailOf (limited limit 0 (walk (setFrom (now (s .entry)) 0) [] (take n (boxOf low high)))) ⌝ }
+{
+    let l = query::widened(low);
+    let h = query::widened(high);
+    let mut rows = [[0i64; 129]; 32];
+    let count = laid(s, &mut rows);
+    let all = Prefix {
+        n: n,
+        k: 0,
+        limit: limit,
+        count: count,
+        low: l,
+        high: h,
+        live: [true; 32],
+    };
+    tallied(s, all, &mut rows)
+}
+
+fn refused(m: u32) -> FirstPoint
+    ensures { λ r. ⌜ r ≡ answerOf (B.refused m) ⌝ }
+{
+    let z = zeros();
+    FirstPoint {
+        outcome: Outcome::Refused(m),
+        point: z,
+        tested: 0,
+    }
+}
+
+fn answered(t: Trail) -> FirstPoint
+    ensures { λ r. ⌜ ((x : Tallied) → t ≡ trailOf x → r ≡ answerOf (B.gives x)) ⌝ }
+{
+    let p = t.point;
+    if t.way == 1 {
+        return FirstPoint {
+            outcome: Outcome::At,
+            point: p,
+            tested: t.tested,
+        };
+    }
+    if t.way == 2 {
+        return FirstPoint {
+            outcome: Outcome::Spent,
+            point: p,
+            tested: t.tested,
+        };
+    }
+    FirstPoint {
+        outcome: Outcome::Nothing,
+        point: p,
+        tested: t.tested,
+    }
+}
+
+// The first point of the set in the box, with the number of prefixes tested.
+pub fn first_point(n: usize, set: &[u8], lows: [i32; 8], highs: [i32; 8], limit: u32) -> FirstPoint
+    ensures { λ r. ⌜ r ≡ answerOf (searchBytes n (now (set .entry)) lows highs limit) ⌝ }
+{
+    let c = codec::check(n, set);
+    if c != 0 {
+        return refused(c);
+    }
+    if !box_fits(n, lows, highs) {
+        return refused(12);
+    }
+    if limit == 0 {
+        return refused(13);
+    }
+    if 1000000 < limit {
+        return refused(13);
+    }
+    answered(walked(n, set, lows, highs, limit))
+}

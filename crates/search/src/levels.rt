@@ -1,0 +1,205 @@
+// The levels of the first-point search: prefixes in dictionary order, each axis upward, below those only that can still hold.
+ghost use mathlib.Core.Path.{_≡_};
+ghost use mathlib.Core.List.{[]};
+ghost use Prim.Native.Nat.{_≤_, _<_};
+ghost use lib.IntN.{pos, natAbs, _+ℤ_, _-ℤ_};
+ghost use lib.Signed.{_≤ℤ_};
+ghost use lib.ListN.{getD, set};
+ghost use Rattle.bounds.specs.Ends.{AllWithin};
+ghost use Rattle.search.specs.Sides.{padded, trailOf};
+ghost use Rattle.search.specs.Live.{Rowed};
+ghost use Rattle.search.specs.Levels.{Ready, Stopped, ended, stopAt, levelOf};
+use crate::opening::opened_in;
+
+// How many prefixes were tested: one record lent to each level, which adds to it there.
+pub struct Tally {
+    pub tested: u32,
+}
+
+// A prefix of k numbers, on whose axes low and high are the same, and the basic sets that can hold over the box (`live`);
+// with what all levels share: the number of axes, the limit, and how many rows are in use.
+pub struct Prefix {
+    pub n: usize,
+    pub k: usize,
+    pub limit: u32,
+    pub count: usize,
+    pub low: [i64; 8],
+    pub high: [i64; 8],
+    pub live: [bool; 32],
+}
+
+// Where a level stops: 0 past its last value, 1 at a point, 2 spent, 3 at a prefix to go below, before value `next`.
+// `at` is that prefix; `tested` is how many were tested on the way.
+pub struct Stop {
+    pub way: u8,
+    pub tested: u32,
+    pub next: u64,
+    pub at: Prefix,
+}
+
+// How a walk ended: 0 nothing found, 1 at a point, 2 spent.
+pub struct Trail {
+    pub way: u8,
+    pub point: [i64; 8],
+    pub tested: u32,
+}
+
+// Lows and highs of the axes.
+pub struct Sides {
+    pub low: [i64; 8],
+    pub high: [i64; 8],
+}
+
+// How far the side of axis k goes.
+fn span_of(low: [i64; 8], high: [i64; 8], k: usize) -> u64
+    requires { ⌜ (k < 8) × AllWithin 1048576 low × AllWithin 1048576 high × (getD low k (pos 0) ≤ℤ getD high k (pos 0)) ⌝ }
+    ensures is { λ r. ⌜ r ≡ natAbs (getD high k (pos 0) -ℤ getD low k (pos 0)) ⌝ }
+    ensures size { λ r. ⌜ r ≤ 2097152 ⌝ }
+{
+    let a = low[k];
+    let b = high[k];
+    (b - a) as u64
+}
+
+// The sides with axis k fixed at value i of its side.
+fn fixed(low: [i64; 8], high: [i64; 8], k: usize, i: u64) -> Sides
+    requires { ⌜ (k < 8) × (i ≤ 2097152) × AllWithin 1048576 low ⌝ }
+    ensures is { λ r. ⌜ (r .low ≡ set low k (getD low k (pos 0) +ℤ pos i)) × (r .high ≡ set high k (getD low k (pos 0) +ℤ pos i)) ⌝ }
+{
+    let a = low[k];
+    let v = a + i as i64;
+    let mut l = low;
+    let mut h = high;
+    l[k] = v;
+    h[k] = v;
+    Sides { low: l, high: h }
+}
+
+pub fn zeros() -> [i64; 8]
+    ensures { λ r. ⌜ r ≡ padded [] ⌝ }
+{
+    [0i64; 8]
+}
+
+// The prefix that passed: a point if no axis is left.
+fn passed(p: Prefix, f: Sides, live: [bool; 32], tested: u32, next: u64) -> Stop
+    requires { ⌜ p .k < 8 ⌝ }
+    ensures { λ r. ⌜ r ≡ stopAt p (f .low) (f .high) live tested next ⌝ }
+{
+    let l = f.low;
+    let h = f.high;
+    let q = Prefix {
+        n: p.n,
+        k: p.k + 1,
+        limit: p.limit,
+        count: p.count,
+        low: l,
+        high: h,
+        live: live,
+    };
+    if p.k + 1 == p.n {
+        return Stop {
+            way: 1,
+            tested: tested,
+            next: next,
+            at: q,
+        };
+    }
+    Stop {
+        way: 3,
+        tested: tested,
+        next: next,
+        at: q,
+    }
+}
+
+// The values of axis k from number `from` on, up to one that passes; `tested` prefixes were tested before.
+fn climb(s: &[u8], p: Prefix, from: u64, tested: u32, rows: &mut [[i64; 129]; 32]) -> Stop
+    requires { ⌜ Ready (now s) p tested × Rowed (now s) (p .n) (p .count) (now rows) ⌝ }
+    ensures { λ r. ⌜ Stopped (now (s .entry)) p from tested (now (rows .exit)) r ⌝ }
+{
+    let low = p.low;
+    let high = p.high;
+    let live = p.live;
+    let limit = p.limit;
+    let span = span_of(low, high, p.k);
+    let mut t = 0;
+    let mut i = from;
+    while i <= span {
+        if tested + t == limit {
+            return Stop {
+                way: 2,
+                tested: t,
+                next: i,
+                at: p,
+            };
+        }
+        t += 1;
+        let f = fixed(low, high, p.k, i);
+        let l = f.low;
+        let h = f.high;
+        let o = opened_in(s, p.n, p.k, l, h, live, p.count, rows);
+        i += 1;
+        if o.any {
+            let w = o.live;
+            return passed(p, f, w, t, i);
+        }
+    }
+    Stop {
+        way: 0,
+        tested: t,
+        next: i,
+        at: p,
+    }
+}
+
+// The walk below a prefix. `rows` has a row of ends for each basic set, over whatever box it was last asked.
+pub fn level(s: &[u8], p: Prefix, t: &mut Tally, rows: &mut [[i64; 129]; 32]) -> Stop
+    requires { ⌜ Ready (now s) p (now t .tested) × Rowed (now s) (p .n) (p .count) (now rows) ⌝ }
+    ensures { λ r. ⌜ Rowed (now (s .entry)) (p .n) (p .count) (now (rows .exit)) × (ended r (now (t .exit) .tested) ≡ trailOf (levelOf (now (s .entry)) p (now (t .entry) .tested))) ⌝ }
+{
+    let mut i = 0;
+    loop {
+        let x = climb(s, p, i, t.tested, rows);
+        t.tested = t.tested + x.tested;
+        if x.way != 3 {
+            return x;
+        }
+        let r = level(s, x.at, t, rows);
+        if r.way != 0 {
+            return r;
+        }
+        i = x.next;
+    }
+}
+
+// How it ended, with the tally.
+fn final_trail(r: Stop, tested: u32) -> Trail
+    ensures { λ x. ⌜ x ≡ ended r tested ⌝ }
+{
+    let z = zeros();
+    let q = r.at;
+    let l = q.low;
+    if r.way == 1 {
+        return Trail {
+            way: 1,
+            point: l,
+            tested: tested,
+        };
+    }
+    Trail {
+        way: r.way,
+        point: z,
+        tested: tested,
+    }
+}
+
+// The walk below a prefix, with a tally of its own: what every other caller calls.
+pub fn tallied(s: &[u8], p: Prefix, rows: &mut [[i64; 129]; 32]) -> Trail
+    requires { ⌜ Ready (now s) p 0 × Rowed (now s) (p .n) (p .count) (now rows) ⌝ }
+    ensures { λ r. ⌜ r ≡ trailOf (levelOf (now (s .entry)) p 0) ⌝ }
+{
+    let mut t = Tally { tested: 0 };
+    let r = level(s, p, &mut t, rows);
+    final_trail(r, t.tested)
+}
