@@ -8,23 +8,20 @@ use native.Mathlib.Numerals.{add-one}
 use native.Mathlib.Omega.{arith}
 use borrow.Author.Tests.{eq-eqb, ne-eqb, le-leb, lt-leb}
 use lib.Dec.{T, leb, eqb}
-use lib.ListN.{length, take, drop, getD, set, length-append, length-map, length-set, length-take, drop-of-length-le, List·getD-append}
-use lib.Seq.{drop-cons, take-append-le, take-append-seam, take-all, take-take, getD-append-seam, take-suc-set, take-set-le}
+use lib.ListN.{length, take, drop, getD, set, length-append, length-set, drop-of-length-le, List·getD-append}
+use lib.Seq.{drop-cons, take-append-le, take-append-seam, take-take, getD-append-seam, take-suc-set, take-set-le}
 use Rattle.model.specs.Lists.{consIf, isNil}
 use Rattle.model.specs.Sets.{Division, Kind, equality, inequality, Constraint, BasicSet}
-use Rattle.model.specs.Values.{constraintOf, basicSetOf}
+use Rattle.model.specs.Values.{constraintOf}
 use Rattle.model.specs.declared.Constraint.{Constraint as StoredConstraint}
-use Rattle.model.specs.declared.BasicSet.{BasicSet as Stored}
 use Rattle.codec.specs.Bytes.{constantFits}
-use Rattle.codec.proofs.Valid.{All, all-app, ValidConstraint, Valid}
+use Rattle.codec.proofs.Valid.{All, all-app, ValidConstraint}
 use Rattle.integers.specs.Mach.{clash}
 use Rattle.algebra.specs.Cut.{above, below, opposites, oppositesAt, kept, cutBy, candidatesFit}
 use lib.IntN.{ℤ}
 use Rattle.joining.specs.Joining.{Below, Above}
-use Rattle.records.specs.Sound.{Sound}
-use Rattle.cutting.specs.Cutting.{Tables, Extending, Putting, withLast, candidate, isEquality, noRule, pieceOf, Step, stepsAt}
+use Rattle.cutting.specs.Cutting.{Tables, withLast, candidate, isEquality, noRule, pieceOf, Step, stepsAt}
 use Rattle.joining.proofs.Placing.{map-take, map-pushed, noConstraint}
-use Rattle.algebra.proofs.Closed.{opposites-valid}
 
 -- ---- a constraint put behind the first ones
 

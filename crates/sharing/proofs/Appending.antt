@@ -12,14 +12,14 @@ use lib.IntN.{ℤ, pos}
 use lib.Signed.{_<ℤ_}
 use Rattle.simplex.specs.declared.Verdict.the-variants.{Point, Dropped}
 use Rattle.simplex.specs.declared.Move.the-variants.{Stop}
-use Rattle.tableau.specs.Rows.{den, violatedBy, helping, Line}
+use Rattle.tableau.specs.Rows.{den, violatedBy, violated, helping, Line}
 use Rattle.simplex.specs.Table.{moveOf, Fine}
 use Rattle.tableau.proofs.Searches.{Whole}
 use Rattle.sharing.specs.declared.history.Standing.{Standing}
 use Rattle.sharing.specs.Trace.{Traced, trace, Went}
 use Rattle.sharing.specs.Working.{Calm, Appended}
 use Rattle.sharing.proofs.Going.{trace-stop}
-use Rattle.sharing.proofs.Share.{calm-point, calm-dropped}
+use Rattle.sharing.proofs.Share.{calm-point, calm-last, calm-dropped}
 
 module _ {A : Type 0} where
   snoc-all : (P : A → Type 0) (d : A) (l : List A) (a : A) → ((k : ℕ) → k < length l → P (getD l k d)) → P a → (k : ℕ) → k < length (l ++ (a ∷ [])) → P (getD (l ++ (a ∷ [])) k d)
@@ -81,8 +81,8 @@ module _ (n m v : ℕ) (r : List ℤ) (rows : List (List ℤ)) (place kinds : Li
   room : length t < 64
   room = let e = lt in let f = c .few in omega arith
 
-  calm-here : length p ≤ Rattle.tableau.specs.Rows.violated t p s
-  calm-here = subst (λ i. i ≤ Rattle.tableau.specs.Rows.violated t p s) (sym lp) (c .calm)
+  calm-here : length p ≤ violated t p s
+  calm-here = subst (λ i. i ≤ violated t p s) (sym lp) (c .calm)
 
   module _ (κ : ℕ) where
     abbrev T : List (List ℤ)
@@ -107,6 +107,14 @@ module _ (n m v : ℕ) (r : List ℤ) (rows : List (List ℤ)) (place kinds : Li
     dropped-more left e h =
         ap (λ (y : Traced). y .verdict)
         (trace-stop S left T P Dropped (subst (λ i. moveOf T (p ++ (i ∷ [])) S left ≡ Stop Dropped) lt (calm-dropped n t p s r κ (c .base) room calm-here left e (subst (λ i. i ≤ helping r p s) (sym lp) h))))
+
+    -- the new row's variable is the violated one
+    pub last-more : violatedBy κ (getD r 1 (pos 0)) ≡ true → (v ≡ violated T P S) × (v < length P)
+    last-more e =
+        let x : violated T P S ≡ length p = subst (λ i. violated T (p ++ (i ∷ [])) S ≡ length p) lt (calm-last n t p s r κ (c .base) room calm-here e) in
+        let l = length-append p (m ∷ []) in
+        let h = lp in
+        (sym (x ∙ lp), omega arith)
 
     -- the tables
     pub rows-count : (m + 1 ≤ length (set rows m r)) × (length (take (m + 1) (set rows m r)) ≡ m + 1)

@@ -21,6 +21,7 @@ use Rattle.simplex.specs.Table.{moveOf, pivotRows, pivotPlace, runTable, Fine, 
 use Rattle.simplex.specs.Table as Table
 use Rattle.tableau.proofs.Lines.{Sound, solve-sound, divisor-of}
 use Rattle.simplex.proofs.Moves.{pivot-left, pivot-fine, crossing, pivot-length, rows-length}
+use Rattle.sharing.specs.declared.history.Standing.{Standing}
 use Rattle.sharing.specs.Past.{Left, Kept}
 use Rattle.sharing.specs.Trace.{Traced, stopped, prefixed, leaves, follow, trace, Went, Made}
 
@@ -76,6 +77,20 @@ module _ (m : ℕ) (t₀ : List (List ℤ)) (place₀ kinds : List ℕ) (past₀
           count = let c : length (trace kinds (200 - made) t place .kept) ≡ 0 = ap (λ (y : Traced). length (y .kept)) q in omega (arith, g .count);
           past-is = sym (append-nil (take made past)) ∙ sym (ap (λ (y : Traced). take made past ++ y .kept) q) ∙ g .kept-are;
           columns-are = sym (append-nil (take made columns)) ∙ sym (ap (λ (y : Traced). take made columns ++ y .columns) q) ∙ g .columns-are;
+        }
+
+    -- what the run from here ends in, the whole run ends in
+    pub going-went : (x : Standing) (t′ : List (List ℤ)) (place′ : List ℕ) (past′ : List (List ℤ)) (columns′ : List ℕ) → Went kinds made t place past columns x t′ place′ past′ columns′
+        → Went kinds start t₀ place₀ past₀ columns₀ x t′ place′ past′ columns′
+    going-went x t′ place′ past′ columns′ w =
+        record {
+          size = w .size ∙ g .same;
+          verdict-is = w .verdict-is ∙ g .verdict-is;
+          rows-are = w .rows-are ∙ g .rows-are;
+          place-is = w .place-is ∙ g .place-is;
+          count = w .count ∙ g .count;
+          past-is = w .past-is ∙ g .kept-are;
+          columns-are = w .columns-are ∙ g .columns-are;
         }
 
     module _ (v w : ℕ) (e : moveOf t place kinds (200 - made) ≡ Pivot v w) where

@@ -2,6 +2,7 @@
 ghost use mathlib.Core.Path.{_≡_};
 ghost use Prim.Native.Nat.{_+_, _<_, _≤_};
 ghost use lib.ListN.{length, take};
+ghost use Rattle.tableau.specs.Rows.{violated as violatedOf};
 ghost use Rattle.simplex.specs.Table.{runTable, Fine, Crossing};
 ghost use Rattle.tableau.proofs.Searches.{Whole};
 ghost use Rattle.sharing.specs.Past.{Left, Kept, Passed, Replayed};
@@ -9,6 +10,7 @@ ghost use Rattle.sharing.specs.Trace.{Went, Made};
 use simplex::Move;
 use simplex::Verdict;
 use simplex::choose::choose;
+use simplex::choose::choose_at;
 use simplex::run::pivot;
 use tableau::replace;
 use tableau::small;
@@ -21,11 +23,11 @@ pub struct Standing {
 }
 
 // One kept pivot on a row: q is the row that the pivot left, j its column. Not true: step 4 would find the row too wide.
-fn pass(r: &mut [i64; 18], n: usize, q: [i64; 18], j: usize) -> bool
+fn pass(r: &mut [i64; 18], n: usize, q: &[i64; 18], j: usize) -> bool
     requires { ⌜ j < 16 ⌝ }
     requires { ⌜ Whole n (now r) ⌝ }
-    requires { ⌜ Left n q ⌝ }
-    ensures { λ b. ⌜ Passed j q (now (r .entry)) b (now (r .exit)) ⌝ }
+    requires { ⌜ Left n (now q) ⌝ }
+    ensures { λ b. ⌜ Passed j (now (q .entry)) (now (r .entry)) b (now (r .exit)) ⌝ }
 {
     let e = r[j + 2];
     if e == 0 {
@@ -35,7 +37,7 @@ fn pass(r: &mut [i64; 18], n: usize, q: [i64; 18], j: usize) -> bool
         return false;
     }
     let m = q[0];
-    let mut p = q;
+    let mut p = *q;
     p[0] = 0;
     replace(r, n, j, m, &p);
     true
@@ -56,7 +58,7 @@ pub fn replay(
 {
     let mut k: usize = 0;
     while k < made {
-        if !pass(r, n, past[k], columns[k]) {
+        if !pass(r, n, &past[k], columns[k]) {
             return false;
         }
         k += 1;
@@ -119,6 +121,38 @@ pub fn go_on(
                 make(t, n, place, past, columns, made, v, w);
                 made += 1;
             }
+        }
+    }
+}
+
+// The same, where the violated variable is known to be u: the first search is spared.
+pub fn go_from(
+    t: &mut [[i64; 18]],
+    n: usize,
+    place: &mut [usize],
+    kinds: &[u8],
+    past: &mut [[i64; 18]],
+    columns: &mut [usize],
+    start: usize,
+    u: usize,
+) -> Standing
+    requires { ⌜ Fine n (now t) (now place) (now kinds) ⌝ }
+    requires { ⌜ (length (now past) ≡ 200) × (length (now columns) ≡ 200) ⌝ }
+    requires { ⌜ start ≤ 200 ⌝ }
+    requires { ⌜ (u ≡ violatedOf (now t) (now place) (now kinds)) × (u < length (now place)) ⌝ }
+    ensures { λ x. ⌜ Went (now (kinds .entry)) start (now (t .entry)) (now (place .entry)) (now (past .entry)) (now (columns .entry)) x (now (t .exit)) (now (place .exit)) (now (past .exit)) (now (columns .exit)) ⌝ }
+{
+    let rows = t.len();
+    let m = choose_at(t, n, place, kinds, 200 - start, u);
+    match m {
+        Move::Stop(x) => Standing {
+            rows,
+            pivots: start,
+            verdict: x,
+        },
+        Move::Pivot(v, w) => {
+            make(t, n, place, past, columns, start, v, w);
+            go_on(t, n, place, kinds, past, columns, start + 1)
         }
     }
 }

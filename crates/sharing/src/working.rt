@@ -8,6 +8,7 @@ ghost use Rattle.model.specs.Values.{basicSetOf};
 ghost use Rattle.simplex.specs.Table.{Valid};
 ghost use Rattle.sharing.specs.Working.{Beginning, Stands, Growing, Grown, Tried, Calm, Appended, onward};
 use crate::history::Standing;
+use crate::history::go_from;
 use crate::history::go_on;
 use crate::history::replay;
 use crate::history::rest;
@@ -80,7 +81,7 @@ fn append(
             verdict: Verdict::Point,
         };
     }
-    go_on(
+    go_from(
         &mut rows[..m + 1],
         n,
         &mut place[..v + 1],
@@ -88,6 +89,7 @@ fn append(
         past,
         columns,
         made,
+        v,
     )
 }
 

@@ -22,8 +22,8 @@ loop-holds c = replay-start _ _ _ _ _ (c .before .pre .0)
 mul-pass : tie.Need-mul-pass Inv-loop μ-loop
 mul-pass c = search needs
 
-shared-slice-copy-out-pass : tie.Need-shared-slice-copy-out-pass Inv-loop μ-loop
-shared-slice-copy-out-pass c = let h = c .before .loop-test .taken in let p = c .before .before .before .before .pre .1 .0 .0 in omega arith
+shared-slice-element-pass : tie.Need-shared-slice-element-pass Inv-loop μ-loop
+shared-slice-element-pass c = let h = c .before .loop-test .taken in let p = c .before .before .before .before .pre .1 .0 .0 in omega arith
 
 mul-pass-2 : tie.Need-mul-pass-2 Inv-loop μ-loop
 mul-pass-2 c = search needs
@@ -78,7 +78,7 @@ replay-spec =
     μ-loop
     loop-holds
     mul-pass
-    shared-slice-copy-out-pass
+    shared-slice-element-pass
     mul-pass-2
     shared-slice-read-pass
     pass-requires
