@@ -10,7 +10,7 @@ use native.Mathlib.Omega.{arith}
 use lib.Dec.{T, leb, ltb, eqb, leb→le, le→leb, ltb→lt, eqb-refl}
 use lib.IntN.{ℤ, pos, negsuc, negℤ, _+ℤ_, _-ℤ_, -ℤ-one, predℤ, +ℤ-idr}
 use lib.Signed.{leZ}
-use lib.ListN.{length, getD, replicate, length-append}
+use lib.ListN.{length-map, length, getD, replicate, length-append}
 use Rattle.model.specs.Lists.{all, any, concatMap, consIf, filter, isNil}
 use Rattle.model.specs.Sets.{Division, Kind, equality, inequality, Constraint, BasicSet, Set, absent}
 use Rattle.algebra.specs.Cut.{below, opposites, oppositesAt, sameDivision, seek, Joined, joinFrom, join, addAt, move, moveConstraint, joinedDivisions, movedConstraints, both, kept, cutBy, cut, cutAll, difference, intersection, complement, joinFits, candidatesFit, cutFits, cutAllFits, differenceFits, bothFits, intersectionFits}
@@ -43,10 +43,6 @@ neg-coefficients : (cs : List ℤ) → T (all coefficient cs) → T (all coeffic
 neg-coefficients [] t = tt
 neg-coefficients (c ∷ cs) t = and-make (coefficient (negℤ c)) (all coefficient (map negℤ cs)) (neg-coefficient c (and-left (coefficient c) (all coefficient cs) t)) (neg-coefficients cs (and-right (coefficient c) (all coefficient cs) t))
 
-length-neg : (us : List ℤ) → length (map negℤ us) ≡ length us
-length-neg [] = refl
-length-neg (u ∷ us) = ap suc (length-neg us)
-
 above-fits : (z : ℤ) → Fits 2147483648 z → T (leZ (negsuc 2147483646) z) → Fits 2147483648 (z -ℤ pos 1)
 above-fits z h t = subst (Fits 2147483648) (sym (-ℤ-one z)) (at z h t)
   where
@@ -66,8 +62,8 @@ below-fits z h = subst (Fits 2147483648) (sym (-ℤ-one (negℤ z))) (at z h)
 pub below-valid : (n k : ℕ) (r : Constraint) → ValidConstraint n k r → ValidConstraint n k (below r)
 below-valid n k r v =
     record {
-      axis-places = length-neg (r .axes) ∙ v .axis-places;
-      division-places = length-neg (r .divisions) ∙ v .division-places;
+      axis-places = length-map (r .axes) negℤ ∙ v .axis-places;
+      division-places = length-map (r .divisions) negℤ ∙ v .division-places;
       width = below-fits (r .constant) (v .width);
       constant = tt;
       axes = neg-coefficients (r .axes) (v .axes);

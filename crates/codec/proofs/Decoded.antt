@@ -13,7 +13,7 @@ use Rattle.integers.specs.LittleEndian.{bytes-value, value-small, unsigned-sign
 use Rattle.model.specs.Lists.{all, concatMap}
 use Rattle.model.specs.Sets.{Division, Kind, equality, inequality, Constraint, Set, absent, wellFormed}
 use Rattle.codec.specs.Bytes.{Answer, refused, gives, bytesOf, valueOf, signed, signedBytes, Command, opens, division, constraint, opcode, encodeCommand, commands, encode, signedList, readDivision, readConstraint, Counts, firstFailing, testsOf, refusal, counted, widthOf, readCommand, Built, build, after, parse, setOf, axesFit, decode, headRefusal}
-use Rattle.codec.proofs.Parsing.{parse-next, parse-stop}
+use Rattle.codec.proofs.Parsing.{parse-next, parse-stop, all-passed}
 use Rattle.model.proofs.Count.{and-left, and-right, and-make, to-T, no-suc}
 use Rattle.model.proofs.Values.{divides, fits}
 
@@ -75,21 +75,6 @@ pub record Formed (k : Counts) (b : Built) : Type 0 where
   pub absents : T (all (λ (r : Constraint). absent (k .divisions + length (b .divisions)) (r .divisions)) (b .constraints))
   pub ordered : 0 < k .constraints → b .divisions ≡ []
   pub others : T (all wellFormed (b .rest))
-
-abbrev pub Passed : List (Bool × ℕ) → Type 0
-Passed [] = Unit {0}
-Passed (t ∷ ts) = T (t .0) × Passed ts
-
-pub all-passed : (ts : List (Bool × ℕ)) → T (all (λ (t : Bool × ℕ). ltb 0 (t .1)) ts) → firstFailing ts ≡ 0 → Passed ts
-all-passed [] p e = tt
-all-passed (t ∷ ts) p e = at (t .0) (t .1) (and-left (ltb 0 (t .1)) (all (λ (t : Bool × ℕ). ltb 0 (t .1)) ts) p) e (all-passed ts (and-right (ltb 0 (t .1)) (all (λ (t : Bool × ℕ). ltb 0 (t .1)) ts) p))
-  where
-    at : (b : Bool) (m : ℕ) → T (ltb 0 m) → cond b (firstFailing ts) m ≡ 0 → (firstFailing ts ≡ 0 → Passed ts) → T b × Passed ts
-    at true m p e ih = (tt, ih e)
-    at false m p e ih = absurd (clash (ltb→lt 0 m p) e)
-      where
-        clash : 0 < m → m ≡ 0 → ⊥
-        clash h e = omega arith
 
 refused-division : (n : ℕ) (k : Counts) (e : Division) → refusal n k (division e) ≡ 0 → (k .constraints ≡ 0) × T (divides e)
 refused-division n k e z =

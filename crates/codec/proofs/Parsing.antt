@@ -130,7 +130,7 @@ pub parse-next : (n f : ℕ) (k : Counts) (b : ℕ) (s : List ℕ) → headRefus
 unfolding parse
 parse-next n f k b s e = rw (e, parse)
 
-number-after : (c : Command) (a : Answer (List Command)) → number (after c a) ≡ number a
+pub number-after : (c : Command) (a : Answer (List Command)) → number (after c a) ≡ number a
 number-after c (refused m) = refl
 number-after c (gives cs) = refl
 

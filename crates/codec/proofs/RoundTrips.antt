@@ -23,10 +23,10 @@ concat-size f P w h [] p = sym (native.Mathlib.Nat.mul-zero w)
 concat-size f P w h (a ∷ l) p =
     length-append (f a) (concatMap f l) ∙ ap₂ _+_ (h a (p .0)) (concat-size f P w h l (p .1)) ∙ native.Mathlib.Nat.add-comm w (w * length l) ∙ sym (native.Mathlib.Nat.mul-suc w (length l))
 
-division-size : (n : ℕ) (e : Division) → ValidDivision n e → length (encodeCommand (division e)) ≡ 23
+pub division-size : (n : ℕ) (e : Division) → ValidDivision n e → length (encodeCommand (division e)) ≡ 23
 division-size n e v = let l = v .places in let m = coefficients-length (e .axes) in omega arith
 
-constraint-size : (n k : ℕ) (r : Constraint) → ValidConstraint n k r → length (encodeCommand (constraint r)) ≡ 37
+pub constraint-size : (n k : ℕ) (r : Constraint) → ValidConstraint n k r → length (encodeCommand (constraint r)) ≡ 37
 constraint-size n k r v =
     let l = v .axis-places in let l′ = v .division-places in let m = coefficients-length (r .axes) in let m′ = coefficients-length (r .divisions) in
     let a = length-append (concatMap (signedBytes 2) (r .axes)) (concatMap (signedBytes 2) (r .divisions)) in omega arith

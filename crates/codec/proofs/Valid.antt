@@ -15,7 +15,8 @@ use Rattle.codec.specs.Bytes.{gives, valueOf, signedList, Command, opens
 use Rattle.codec.specs.Places.{commandsOf, built, setFrom, Boundary}
 use Rattle.model.proofs.Count.{and-left, and-right, and-make, from-T}
 use Rattle.codec.proofs.Encoded.{Fits, DivisionFits, ConstraintFits, Accepted, decode-encode}
-use Rattle.codec.proofs.Decoded.{Parsed, done, next, Bytes, decoded, all-passed}
+use Rattle.codec.proofs.Decoded.{Parsed, done, next, Bytes, decoded}
+use Rattle.codec.proofs.Parsing.{all-passed}
 use Rattle.codec.proofs.Walking.{accepted-parsed}
 
 -- ---- every element

@@ -9,9 +9,9 @@ use lib.Dec.{T, ltb, leb, ltb→lt, leb→le}
 use lib.ListN.{length, drop, getD, drop-of-length-le, length-drop, List·getD-eq-default}
 use lib.Seq.{drop-cons, drop-drop}
 use borrow.Author.Tests.{ltb-true, ltb-false}
-use Rattle.codec.specs.Bytes.{Answer, refused, gives, Command, opens, division, constraint, Counts, refusal, counted, widthOf, readCommand, headRefusal, Built, build, after, parse, number}
+use Rattle.codec.specs.Bytes.{gives, Command, opens, division, constraint, Counts, refusal, counted, widthOf, readCommand, headRefusal, Built, build, parse, number}
 use Rattle.codec.specs.Places.{commandsOf, built, Checked}
-use Rattle.codec.proofs.Parsing.{parse-next}
+use Rattle.codec.proofs.Parsing.{parse-next, number-after}
 use Rattle.codec.proofs.Split.{unless, refusalOf, parse-split, commands-fuel}
 use Rattle.codec.proofs.Decoded.{Parsed, done, next, parsed, Unrefused, unrefused, formed}
 
@@ -61,10 +61,6 @@ parsed-accepted n (suc f) k (_ ∷ _) (_ ∷ cs) h (next b s w l z q) =
     ap number (parse-next n f k b s (head-none n k b s w l z))
     ∙ number-after (readCommand b s) (parse n f (counted k (readCommand b s)) (drop (widthOf b - 1) s))
     ∙ parsed-accepted n f (counted k (readCommand b s)) (drop (widthOf b - 1) s) cs (omega (arith, length-drop (widthOf b - 1) s)) q
-  where
-    number-after : (c : Command) (a : Answer (List Command)) → number (after c a) ≡ number a
-    number-after c (refused m) = refl
-    number-after c (gives cs) = refl
 
 pub checked-unrefused : (n : ℕ) (s : List ℕ) (at : ℕ) (k : Counts) → Checked n s at k → Unrefused n k (commandsOf (length (drop at s)) (drop at s))
 checked-unrefused n s at k c = unrefused n k (drop at s) (commandsOf (length (drop at s)) (drop at s)) (accepted-parsed n k (drop at s) (c .accepted))

@@ -2,7 +2,7 @@
 use mathlib.Core.Path.{_≡_, refl, sym, ap, ap₂, _∙_, subst}
 use mathlib.Core.Bool.{Bool, true, false, _||_, cond}
 use mathlib.Core.List.{List, [], _∷_, _++_, map, append-assoc}
-use Prim.Native.Nat.{ℕ, suc, _+_, _-_, _*_, _≤_, _<_}
+use Prim.Native.Nat.{ℕ, _+_, _-_, _*_, _≤_, _<_}
 use native.Mathlib.Numerals.{add-one}
 use native.Mathlib.Omega.{arith}
 use borrow.Author.Tests.{eq-eqb, ne-eqb}
@@ -31,6 +31,7 @@ use Rattle.cutting.specs.Cutting.{candidate, noRule, Opposed, Holds, Beh
 use Rattle.joining.proofs.Placing.{noConstraint}
 use Rattle.cutting.proofs.Turns.{Turned}
 use Rattle.cutting.proofs.Steps.{bit-small, joined-stored, below-of, above-of}
+use Rattle.sharing.proofs.Begins.{bounds-long}
 
 -- ---- a candidate's test
 
@@ -59,10 +60,6 @@ pub opposed : (n k : ℕ) (r : StoredConstraint) → ValidConstraint n k (constr
 opposed n k r v = record { below = below-of v; above = λ e. above-of e v }
 
 -- ---- the working constraints
-
-bounds-long : (i : ℕ) (ds : List Division) → length (bounds i ds) ≡ 2 * length ds
-bounds-long i [] = refl
-bounds-long i (e ∷ ds) = let h = bounds-long (suc i) ds in omega arith
 
 module _ {w : Stored} (valid : Counted w) where
   hd : w .divs ≤ 8

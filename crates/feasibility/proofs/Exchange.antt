@@ -14,7 +14,7 @@ use Rattle.integers.specs.Ring.{ring, quote}
 use Rattle.model.specs.Sets.{dot, isZero}
 use Rattle.feasibility.specs.Tableau.{Row, Tableau, entry, combine, reduced, solved, replaced, exchange, noRow}
 use Rattle.model.proofs.Values.{isZero→}
-use Rattle.feasibility.proofs.Rows.{rest, dot-set, solved-rest, replaced-rest, length-combine, length-neg}
+use Rattle.feasibility.proofs.Rows.{rest, dot-set, solved-rest, replaced-rest, length-combine}
 use Rattle.feasibility.proofs.Reduce.{Like, reduced-like, cancel-zero}
 
 -- ---- solutions: w gives each variable its numerator over the denominator D
@@ -156,7 +156,7 @@ module _ (j : ℕ) (cols : List ℕ) (jin : j < length cols) (r : Row) (shape : 
 
   shape-solved : Shape (length cols) (solved r j (getD cols j 0))
   unfolding raw
-  shape-solved = record { long = like .long ∙ length-set (map negℤ (r .nums)) (suc j) (r .den) ∙ length-neg (r .nums) ∙ shape .long; positive = like .positive }
+  shape-solved = record { long = like .long ∙ length-set (map negℤ (r .nums)) (suc j) (r .den) ∙ length-map (r .nums) negℤ ∙ shape .long; positive = like .positive }
 
   shape-replaced : (s : Row) → Shape (length cols) s → Shape (length cols) (replaced r j s)
   shape-replaced s sh = at (isZero (entry s j))

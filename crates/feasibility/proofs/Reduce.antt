@@ -83,10 +83,6 @@ neg-divides : (g : ℕ) (zs : List ℤ) → Divides g zs → Divides g (map neg�
 neg-divides g [] d = tt
 neg-divides g (z ∷ zs) d = (subst (λ (n : ℕ). g ∣ n) (sym (natAbs-neg z)) (d .0), neg-divides g zs (d .1))
 
-length-neg : (us : List ℤ) → length (map negℤ us) ≡ length us
-length-neg [] = refl
-length-neg (u ∷ us) = ap suc (length-neg us)
-
 -- the quotient of a positive number is positive
 pos-part : (g : ℕ) (a : ℕ) → pos g *ℤ floorDiv (pos (suc a)) g ≡ pos (suc a) → pos 0 <ℤ floorDiv (pos (suc a)) g
 pos-part g a e = go (suc a / g) e
@@ -135,7 +131,7 @@ reduced-at v (negsuc a) ns n =
           ∙ ap₂ (λ (x y : ℤ). negℤ (x *ℤ w -ℤ y)) (evenly g (pos (suc a)) h (d .0)) (dot-evenly g (map negℤ ns) ws h (neg-divides g ns (d .1)) ∙ dot-neg ns ws)
           ∙ ring (pos (suc a) ∷ w ∷ dot ns ws ∷ []) {b = negℤ (pos (suc a)) *ℤ w -ℤ dot ns ws} (search quote depth 30) tt;
       positive = pos-part g a (evenly g (pos (suc a)) h (d .0));
-      long = length-map (map negℤ ns) (λ (z : ℤ). floorDiv z g) ∙ length-neg ns;
+      long = length-map (map negℤ ns) (λ (z : ℤ). floorDiv z g) ∙ length-map ns negℤ;
       same = refl;
     }
 

@@ -4,7 +4,7 @@ use mathlib.Core.List.{List, [], _∷_, map}
 use Prim.Native.Nat.{ℕ, zero, suc, _+_, _*_, _<_}
 use native.Mathlib.Nat.{le-of-suc-le-suc, not-suc-le-zero}
 use lib.IntN.{ℤ, pos, negℤ, _+ℤ_, _-ℤ_, _*ℤ_}
-use lib.ListN.{length, getD, set}
+use lib.ListN.{length-map, length, getD, set}
 use Rattle.integers.specs.Ring.{ring, quote}
 use Rattle.model.specs.Sets.{dot}
 use Rattle.feasibility.specs.Tableau.{combine}
@@ -44,10 +44,6 @@ length-combine p q [] (v ∷ vs) e = no-suc (sym e)
 length-combine p q (u ∷ us) [] e = no-suc e
 length-combine p q (u ∷ us) (v ∷ vs) e = ap suc (length-combine p q us vs (suc-inj e))
 
-pub length-neg : (us : List ℤ) → length (map negℤ us) ≡ length us
-length-neg [] = refl
-length-neg (u ∷ us) = ap suc (length-neg us)
-
 pub getD-neg : (us : List ℤ) (k : ℕ) → getD (map negℤ us) k (pos 0) ≡ negℤ (getD us k (pos 0))
 getD-neg [] k = refl
 getD-neg (u ∷ us) zero = refl
@@ -70,7 +66,7 @@ module _ (j : ℕ) (ws : List ℤ) (jin : suc j < length ws) (den : ℤ) (nums :
   pub solved-rest : rest p (set (map negℤ nums) (suc j) den) v (set ws (suc j) w) ≡ negℤ (rest den nums w ws)
   solved-rest =
       ap (λ (z : ℤ). p *ℤ v -ℤ z)
-      (dot-set (map negℤ nums) ws (suc j) den w (subst (λ (n : ℕ). suc j < n) (sym (length-neg nums ∙ len)) jin) jin
+      (dot-set (map negℤ nums) ws (suc j) den w (subst (λ (n : ℕ). suc j < n) (sym (length-map nums negℤ ∙ len)) jin) jin
       ∙ ap₂ (λ (a b : ℤ). a +ℤ (den *ℤ w -ℤ b *ℤ v)) (dot-neg nums ws) (getD-neg nums (suc j)))
       ∙ ring (p ∷ v ∷ den ∷ w ∷ dot nums ws ∷ []) (search quote depth 30) tt
 

@@ -1,7 +1,7 @@
 -- Basic sets put one behind the other, and what the whole result answers.
 use mathlib.Core.Path.{_≡_, refl, sym, ap, ap₂, _∙_, subst}
 use mathlib.Core.Bool.{Bool, true, false, _&&_}
-use mathlib.Core.List.{List, [], _∷_, _++_, map, append-nil, append-assoc}
+use mathlib.Core.List.{List, [], _∷_, _++_, map, append-nil}
 use Prim.Native.Nat.{ℕ, zero, suc, _+_, _-_, _*_, _≤_, _<_}
 use native.Mathlib.Nat.{add-zero, zero-add}
 use native.Mathlib.Omega.{arith}
@@ -11,35 +11,19 @@ use lib.ListN.{length, take, drop, replicate, length-append}
 use lib.Seq.{take-at}
 use Rattle.integers.specs.Mach.{clash}
 use Rattle.model.specs.Lists.{concatMap}
-use Rattle.model.specs.Sets.{Division, Constraint, BasicSet, Set}
-use Rattle.codec.specs.Bytes.{Answer, refused, gives, bytesOf, signedBytes, opens, division, constraint, Command, encodeCommand, commands, encode}
+use Rattle.model.specs.Sets.{BasicSet, Set}
+use Rattle.codec.specs.Bytes.{Answer, refused, gives, opens, division, constraint, Command, encodeCommand, commands, encode}
 use Rattle.records.specs.Writing.{Emitted, cleared}
-use Rattle.codec.proofs.Commands.{coefficients-length, encode-more}
+use Rattle.codec.proofs.Commands.{encode-more, concat-more}
 use Rattle.records.proofs.Emitting.{emitted-none, emitted-more, put-whole}
 use Rattle.codec.proofs.Valid.{All, ValidDivision, ValidConstraint, Valid}
 use Rattle.algebra.specs.Operations.{result}
 use Rattle.algebra.specs.Result.{Result}
 use Rattle.results.specs.declared.results.Done.{Done}
 use Rattle.results.specs.Results.{Ready, Emits, Made}
+use Rattle.codec.proofs.RoundTrips.{division-size, constraint-size}
 
 -- ---- no basic set has more than 1,961 bytes
-
-division-long : (n : ℕ) (e : Division) → ValidDivision n e → length (encodeCommand (division e)) ≡ 23
-division-long n e v =
-    let c = coefficients-length (e .axes) in
-    let p = v .places in
-    let l = length-append (bytesOf 2 (e .divisor) ++ signedBytes 4 (e .constant)) (concatMap (signedBytes 2) (e .axes)) in
-    omega arith
-
-constraint-long : (n k : ℕ) (r : Constraint) → ValidConstraint n k r → length (encodeCommand (constraint r)) ≡ 37
-constraint-long n k r v =
-    let c = coefficients-length (r .axes) in
-    let d = coefficients-length (r .divisions) in
-    let p = v .axis-places in
-    let q = v .division-places in
-    let l = length-append (signedBytes 4 (r .constant) ++ concatMap (signedBytes 2) (r .axes)) (concatMap (signedBytes 2) (r .divisions)) in
-    let m = length-append (signedBytes 4 (r .constant)) (concatMap (signedBytes 2) (r .axes)) in
-    omega arith
 
 module _ {A : Type 0} (P : A → Type 0) (f : A → Command) (w : ℕ) (h : (a : A) → P a → length (encodeCommand (f a)) ≡ w) where
   many-long : (l : List A) (m : ℕ) → length l ≤ m → All P l → length (concatMap encodeCommand (map f l)) ≤ w * m
@@ -55,20 +39,16 @@ module _ {A : Type 0} (P : A → Type 0) (f : A → Command) (w : ℕ) (h : (a :
       let z : w * suc m ≡ w + w * m = native.Mathlib.Nat.mul-suc w m ∙ native.Mathlib.Nat.add-comm (w * m) w in
       omega arith
 
-concat-both : {A B : Type 0} (f : A → List B) (l m : List A) → concatMap f (l ++ m) ≡ concatMap f l ++ concatMap f m
-concat-both f [] m = refl
-concat-both f (a ∷ l) m = ap (λ (k : List _). f a ++ k) (concat-both f l m) ∙ sym (append-assoc (f a) (concatMap f l) (concatMap f m))
-
 pub encode-short : (n : ℕ) (b : BasicSet) → Valid n b → length (encode (b ∷ [])) ≤ 1961
 unfolding encode
 encode-short n b v =
     let e : concatMap encodeCommand (commands (b ∷ [])) ≡ 0x11 ∷ (concatMap encodeCommand (map division (b .divisions)) ++ concatMap encodeCommand (map constraint (b .constraints))) =
     ap (concatMap encodeCommand) (append-nil (opens ∷ map division (b .divisions) ++ map constraint (b .constraints)))
-    ∙ ap (λ (l : List ℕ). 0x11 ∷ l) (concat-both encodeCommand (map division (b .divisions)) (map constraint (b .constraints))) in
+    ∙ ap (λ (l : List ℕ). 0x11 ∷ l) (concat-more encodeCommand (map division (b .divisions)) (map constraint (b .constraints))) in
     let l = ap length e in
     let m = length-append (concatMap encodeCommand (map division (b .divisions))) (concatMap encodeCommand (map constraint (b .constraints))) in
-    let d = many-long (ValidDivision n) division 23 (division-long n) (b .divisions) 8 (v .few-divisions) (v .divisions) in
-    let c = many-long (ValidConstraint n (length (b .divisions))) constraint 37 (constraint-long n (length (b .divisions))) (b .constraints) 48 (v .few-constraints) (v .constraints) in
+    let d = many-long (ValidDivision n) division 23 (division-size n) (b .divisions) 8 (v .few-divisions) (v .divisions) in
+    let c = many-long (ValidConstraint n (length (b .divisions))) constraint 37 (constraint-size n (length (b .divisions))) (b .constraints) 48 (v .few-constraints) (v .constraints) in
     omega arith
 
 -- ---- one behind the other

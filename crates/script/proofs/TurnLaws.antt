@@ -1,7 +1,7 @@
 -- Turns, by the tests that the code makes.
 use mathlib.Core.Path.{_≡_, refl, ap, ap₂, sym, subst, _∙_}
 use mathlib.Core.Bool.{Bool, true, false, not, _&&_, _||_, cond}
-use mathlib.Core.List.{List, [], _∷_, _++_}
+use mathlib.Core.List.{List, [], _∷_}
 use Prim.Native.Nat.{ℕ, zero, suc, _+_, _-_, _≤_, _<_}
 use native.Mathlib.Numerals.{add-one}
 use native.Mathlib.Omega.{arith}
@@ -26,6 +26,7 @@ use Rattle.session.specs.declared.Next.{Next}
 use Rattle.session.specs.declared.Next.the-variants.{Goes, Ends}
 use Rattle.session.proofs.Turning.{and-left, and-right, all-fit}
 use Rattle.listing.proofs.Writing.{wrote-none}
+use Rattle.session.proofs.Steps.{load-known}
 
 pub past-is : (c : Cursor) (b p k d : ℕ) → p ≡ c .place + widthOf b → k ≡ cond (eqb b 0x11) (c .basics + 1) (c .basics) → d ≡ cond (eqb b 0x11) 0 (cond (eqb b 0x12) (c .divisions + 1) (c .divisions))
     → record { set = c .set; place = p; basics = k; divisions = d } ≡ past c b
@@ -113,13 +114,6 @@ line-memory n y c (b ∷ t) {r} {out} {out′} s = at (there (b ∷ t)) s
         → TurnIs (cond x (record { text = lineOf n c b t; used = 0; state = stateAt n (From (past c b)); next = Goes; memory = y }) (quiet (stateAt n Nothing) y Goes)) r out out′ (y .tables) (y .lengths) (y .result)
     at true s = record { says = record { text = s .text; used = s .used; state = s .state; next = s .next }; holds = unchanged y }
     at false s = record { says = record { text = s .text; used = s .used; state = s .state; next = s .next }; holds = unchanged y }
-
--- a whole command is the command of its own bytes
-load-known : (b : ℕ) (s t : List ℕ) → 3 ≤ length s → loadLength (b ∷ (s ++ t)) ≡ loadLength (b ∷ s)
-load-known b [] t h = absurd (omega arith)
-load-known b (x ∷ []) t h = absurd (omega arith)
-load-known b (x ∷ y ∷ []) t h = absurd (omega arith)
-load-known b (x ∷ y ∷ z ∷ s) t h = refl
 
 pub record Fronted (axes w : ℕ) (s : List ℕ) : Type 0 where
   pub inside : w ≤ length s

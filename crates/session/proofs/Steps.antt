@@ -40,7 +40,7 @@ whole axes (b ∷ s) e =
 
 -- ---- bytes behind it
 
-load-known : (b : ℕ) (s t : List ℕ) → 3 ≤ length s → loadLength (b ∷ (s ++ t)) ≡ loadLength (b ∷ s)
+pub load-known : (b : ℕ) (s t : List ℕ) → 3 ≤ length s → loadLength (b ∷ (s ++ t)) ≡ loadLength (b ∷ s)
 load-known b [] t h = absurd (not-suc-le-zero h)
 load-known b (x ∷ []) t h = absurd (not-suc-le-zero (le-of-suc-le-suc h))
 load-known b (x ∷ y ∷ []) t h = absurd (not-suc-le-zero (le-of-suc-le-suc (le-of-suc-le-suc h)))

@@ -20,8 +20,9 @@ use Rattle.simplex.specs.Table as Table
 use Rattle.simplex.proofs.Columns.{tabulate-at}
 use Rattle.sharing.specs.Working.{kindOf, firstTable, firstPlace, firstKinds}
 use Rattle.sharing.proofs.Firsts.{place-long, kinds-long, kind-at}
+use Rattle.simplex.proofs.Filled.{getD-none}
 
-bounds-long : (i : ℕ) (ds : List Division) → length (bounds i ds) ≡ 2 * length ds
+pub bounds-long : (i : ℕ) (ds : List Division) → length (bounds i ds) ≡ 2 * length ds
 bounds-long i [] = refl
 bounds-long i (e ∷ ds) = let h = bounds-long (suc i) ds in omega arith
 
@@ -33,11 +34,6 @@ bound-kind i (e ∷ ds) (suc (suc m)) h = bound-kind (suc i) ds m (le-of-suc-le-
 
 abbrev noKind : Option Kind
 noKind = none
-
-free-kind : (n i : ℕ) → getD (replicate n noKind) i none ≡ none
-free-kind zero i = refl
-free-kind (suc n) zero = refl
-free-kind (suc n) (suc i) = free-kind n i
 
 module _ (b : Stored) (valid : Valid b) (rows rows′ : List (List ℤ)) (place place′ kinds kinds′ : List ℕ)
     (named : Table.Named (b .divs) (8 + 3 * b .divs) place place′ kinds kinds′) (bounded : Bounded (b .divisions) (b .divs) (b .divs) rows rows′) (hr : length rows ≡ 64) (hp : length place ≡ 80) (hk : length kinds ≡ 80) where
@@ -95,7 +91,7 @@ module _ (b : Stored) (valid : Valid b) (rows rows′ : List (List ℤ)) (place 
   kind-free : (v : ℕ) → v < 8 + k → getD (firstKinds k cs) v 0 ≡ 0
   kind-free v h =
       kind-at (replicate (8 + k) none ++ map kindOf cs) v
-      ∙ ap kindNumber (List·getD-append (replicate (8 + k) none) (map kindOf cs) none v (subst (λ i. v < i) (sym frees) h) ∙ free-kind (8 + k) v)
+      ∙ ap kindNumber (List·getD-append (replicate (8 + k) none) (map kindOf cs) none v (subst (λ i. v < i) (sym frees) h) ∙ getD-none (8 + k) v)
 
   kind-bound : (v : ℕ) → 8 + k ≤ v → v < n → getD (firstKinds k cs) v 0 ≡ 1
   kind-bound v h l =

@@ -187,7 +187,7 @@ bounds-long i (e ∷ ds) = let h = bounds-long (suc i) ds in omega arith
 abbrev noKind : Option Kind
 noKind = none
 
-getD-none : (n i : ℕ) → getD (replicate n noKind) i none ≡ none
+pub getD-none : (n i : ℕ) → getD (replicate n noKind) i none ≡ none
 getD-none zero i = refl
 getD-none (suc n) zero = refl
 getD-none (suc n) (suc i) = getD-none n i

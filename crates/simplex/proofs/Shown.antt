@@ -25,7 +25,7 @@ use Rattle.feasibility.specs.Tableau as T
 use Rattle.feasibility.specs.Tableau.{Row, bound, reduced, positive, solved, replaced, commonDivisor, combine}
 use Rattle.tableau.specs.Rows.{den, entry, divisorFrom, reduceRow, divideRow, turnRow, turnBy, solveRow, replaceRow, rebuildRow, combineRows, minusRow, small, narrowRow}
 use Rattle.simplex.specs.Table.{columnOf, standing, numberAt, layout}
-use Rattle.feasibility.proofs.Rows.{length-combine, length-neg}
+use Rattle.feasibility.proofs.Rows.{length-combine}
 use Rattle.feasibility.proofs.Reduce.{evenly, exactly, common-divides, reduced-like}
 use Rattle.feasibility.proofs.Exchange.{Shape}
 use Rattle.simplex.proofs.Canonical.{scale, common-is, divisor-is, divides-at, divides-of, lowest-terms, canonical, abs-over}
@@ -229,10 +229,10 @@ module _ (k : ℕ) (kin : k ≤ 8) where
     solvedNums = set (map negℤ (r .nums)) (suc j) (r .den)
 
     solved-long : length solvedNums ≡ suc (8 + k)
-    solved-long = length-set (map negℤ (r .nums)) (suc j) (r .den) ∙ length-neg (r .nums) ∙ sh .long
+    solved-long = length-set (map negℤ (r .nums)) (suc j) (r .den) ∙ length-map (r .nums) negℤ ∙ sh .long
 
     solved-column : numberAt k P solvedNums (c + 2) ≡ r .den
-    solved-column = number-set k kin P (map negℤ (r .nums)) j (r .den) (subst (λ n. suc j < n) (sym (length-neg (r .nums) ∙ sh .long)) (suc-le-suc jin))
+    solved-column = number-set k kin P (map negℤ (r .nums)) j (r .den) (subst (λ n. suc j < n) (sym (length-map (r .nums) negℤ ∙ sh .long)) (suc-le-suc jin))
 
     solved-other : (i : ℕ) → (suc i ≡ c + 2 → ⊥) → numberAt k P solvedNums (suc i) ≡ negℤ (numberAt k (r .den) (r .nums) (suc i))
     solved-other i n =
