@@ -13,6 +13,7 @@ use lib.Seq.{set-getD}
 use Rattle.integers.specs.Ring.{ring, quote}
 use Rattle.model.specs.Sets.{dot, isZero}
 use Rattle.feasibility.specs.Tableau.{Row, Tableau, entry, combine, reduced, solved, replaced, exchange, noRow}
+use Rattle.model.proofs.Lists.{map-get, map-set}
 use Rattle.model.proofs.Values.{isZero→}
 use Rattle.feasibility.proofs.Rows.{rest, dot-set, solved-rest, replaced-rest, length-combine}
 use Rattle.feasibility.proofs.Reduce.{Like, reduced-like, cancel-zero}
@@ -34,16 +35,6 @@ pub record Shape (n : ℕ) (r : Row) : Type 0 where
 abbrev pub Shaped : ℕ → List Row → Type 0
 Shaped n [] = Unit {0}
 Shaped n (r ∷ rs) = Shape n r × Shaped n rs
-
-map-set : (w : ℕ → ℤ) (cols : List ℕ) (j v : ℕ) → map w (set cols j v) ≡ set (map w cols) j (w v)
-map-set w [] j v = refl
-map-set w (c ∷ cols) zero v = refl
-map-set w (c ∷ cols) (suc j) v = ap (λ (l : List ℤ). w c ∷ l) (map-set w cols j v)
-
-getD-map : (w : ℕ → ℤ) (cols : List ℕ) (j : ℕ) → j < length cols → getD (map w cols) j (pos 0) ≡ w (getD cols j 0)
-getD-map w [] j h = absurd (not-suc-le-zero h)
-getD-map w (c ∷ cols) zero h = refl
-getD-map w (c ∷ cols) (suc j) h = getD-map w cols j (le-of-suc-le-suc h)
 
 neg-zero : (z : ℤ) → negℤ z ≡ pos 0 → z ≡ pos 0
 neg-zero z e = sym (negℤ-negℤ z) ∙ ap negℤ e
@@ -81,7 +72,7 @@ module _ (j : ℕ) (cols : List ℕ) (jin : j < length cols) (r : Row) (shape : 
     raw-rest : rest (raw .den) (raw .nums) (w (getD cols j 0)) (set ws (suc j) (w (r .var))) ≡ negℤ (rest (r .den) (r .nums) (w (r .var)) ws)
     unfolding raw ws
     raw-rest =
-        ap (λ (v : ℤ). rest (entry r j) (set (map negℤ (r .nums)) (suc j) (r .den)) v (set ws (suc j) (w (r .var)))) (sym (getD-map w cols j jin))
+        ap (λ (v : ℤ). rest (entry r j) (set (map negℤ (r .nums)) (suc j) (r .den)) v (set ws (suc j) (w (r .var)))) (sym (map-get w cols j 0 (pos 0) jin))
         ∙ solved-rest j ws inside (r .den) (r .nums) (w (r .var)) fits
 
     solved-holds : Holds w D cols r → Holds w D cols′ (solved r j (getD cols j 0))

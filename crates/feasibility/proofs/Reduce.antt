@@ -12,7 +12,7 @@ use Rattle.integers.specs.Ring.{ring, quote}
 use Rattle.integers.specs.Lin.{lt, eq, lin, lia-le, lia-lt, lia-eq}
 use Rattle.integers.specs.Div.{floor-unique, floorZ-is, exact}
 use Rattle.integers.specs.Size.{natAbs-neg, natAbs-mul, natAbs-zero}
-use Rattle.integers.specs.Gcd.{IsGcd, step-is, Divides, divides-trans}
+use Rattle.integers.specs.Gcd.{IsGcd, step-is, Divides, divides-trans, divides-neg}
 use Rattle.model.specs.Sets.{dot, floorDiv}
 use Rattle.feasibility.specs.Tableau.{Row, positive, reduced, commonDivisor, gcd, gcdFuel}
 use Rattle.model.proofs.Values.{dot-neg}
@@ -33,6 +33,10 @@ common-divides [] = tt
 common-divides (z ∷ zs) =
     (euclid-is (natAbs z) (commonDivisor zs) .left, divides-trans (gcd (natAbs z) (commonDivisor zs)) (commonDivisor zs) zs (euclid-is (natAbs z) (commonDivisor zs) .right) (common-divides zs))
 
+pub common-most : (k : ℕ) (zs : List ℤ) → Divides k zs → k ∣ commonDivisor zs
+common-most k [] d = dvd-zero k
+common-most k (z ∷ zs) d = euclid-is (natAbs z) (commonDivisor zs) .most k (d .0) (common-most k zs (d .1))
+
 -- ---- division that comes out even
 
 rem-zero : (g : ℕ) (z : ℤ) → g ∣ natAbs z → remZ z (pos g) ≡ pos 0
@@ -50,7 +54,7 @@ evenly g z h d =
     let same : floorDiv z g ≡ k = floor-unique p (floorZ-is z p) (record { low = lia-le (k ∷ pos g ∷ z ∷ []) (eq e ∷ []) (search lin depth 30) (omega arith); high = lia-lt (k ∷ pos g ∷ z ∷ []) (eq e ∷ lt p ∷ []) (search lin depth 30) (omega arith) }) in
     ap (λ (q : ℤ). pos g *ℤ q) same ∙ lia-eq (k ∷ pos g ∷ z ∷ []) (eq e ∷ []) (search lin depth 30) (omega arith)
 
-dot-evenly : (g : ℕ) (zs xs : List ℤ) → 0 < g → Divides g zs → pos g *ℤ dot (map (λ (z : ℤ). floorDiv z g) zs) xs ≡ dot zs xs
+pub dot-evenly : (g : ℕ) (zs xs : List ℤ) → 0 < g → Divides g zs → pos g *ℤ dot (map (λ (z : ℤ). floorDiv z g) zs) xs ≡ dot zs xs
 dot-evenly g [] xs h d = *ℤ-zero (pos g)
 dot-evenly g (z ∷ zs) [] h d = *ℤ-zero (pos g)
 dot-evenly g (z ∷ zs) (x ∷ xs) h d =
@@ -78,10 +82,6 @@ pub record Like (r s : Row) : Type 0 where
   pub positive : pos 0 <ℤ s .den
   pub long : length (s .nums) ≡ length (r .nums)
   pub same : s .var ≡ r .var
-
-neg-divides : (g : ℕ) (zs : List ℤ) → Divides g zs → Divides g (map negℤ zs)
-neg-divides g [] d = tt
-neg-divides g (z ∷ zs) d = (subst (λ (n : ℕ). g ∣ n) (sym (natAbs-neg z)) (d .0), neg-divides g zs (d .1))
 
 -- the quotient of a positive number is positive
 pos-part : (g : ℕ) (a : ℕ) → pos g *ℤ floorDiv (pos (suc a)) g ≡ pos (suc a) → pos 0 <ℤ floorDiv (pos (suc a)) g
@@ -128,7 +128,7 @@ reduced-at v (negsuc a) ns n =
       nonzero = λ e. nonzero-pos g h (sym (lib.IntN.negℤ-negℤ (pos g)) ∙ ap negℤ e);
       times = λ w ws.
           ring (pos g ∷ floorDiv (pos (suc a)) g ∷ w ∷ dot (map (λ (z : ℤ). floorDiv z g) (map negℤ ns)) ws ∷ []) {b = negℤ (pos g *ℤ floorDiv (pos (suc a)) g *ℤ w -ℤ pos g *ℤ dot (map (λ (z : ℤ). floorDiv z g) (map negℤ ns)) ws)} (search quote depth 30) tt
-          ∙ ap₂ (λ (x y : ℤ). negℤ (x *ℤ w -ℤ y)) (evenly g (pos (suc a)) h (d .0)) (dot-evenly g (map negℤ ns) ws h (neg-divides g ns (d .1)) ∙ dot-neg ns ws)
+          ∙ ap₂ (λ (x y : ℤ). negℤ (x *ℤ w -ℤ y)) (evenly g (pos (suc a)) h (d .0)) (dot-evenly g (map negℤ ns) ws h (divides-neg g ns (d .1)) ∙ dot-neg ns ws)
           ∙ ring (pos (suc a) ∷ w ∷ dot ns ws ∷ []) {b = negℤ (pos (suc a)) *ℤ w -ℤ dot ns ws} (search quote depth 30) tt;
       positive = pos-part g a (evenly g (pos (suc a)) h (d .0));
       long = length-map (map negℤ ns) (λ (z : ℤ). floorDiv z g) ∙ length-map ns negℤ;

@@ -4,8 +4,8 @@ use mathlib.Core.List.{[], _∷_}
 use Prim.Native.Nat.{ℕ, zero, suc, _/_, _%_, _≤_, _<_, _∣_}
 use native.Mathlib.Omega.{arith}
 use native.Mathlib.Nat.{div-add-mod', mod-lt, mod-eq-zero-of-dvd, div-le-self, le-trans, lt-of-le-of-lt, le-of-eq}
-use lib.Dec.{ltb→lt}
-use lib.IntN.{ℤ, pos, negsuc, negℤ, natAbs, _+ℤ_, _-ℤ_, _*ℤ_}
+use lib.Dec.{ltb→lt, lt→ltb}
+use lib.IntN.{ℤ, pos, negsuc, negℤ, natAbs, _+ℤ_, _-ℤ_, _*ℤ_, predℤ, -ℤ-one}
 use lib.Signed.{_≤ℤ_, _<ℤ_, mag, quotZ, remZ, mag-shr, mag-rem}
 use mir.Syntax.{Width}
 use mir.Val.{SFits}
@@ -180,3 +180,38 @@ le-floor {n} {d} {x} h k =
 
 pub floor-mono : {m n d : ℤ} → pos 0 <ℤ d → m ≤ℤ n → floorZ m d ≤ℤ floorZ n d
 floor-mono {m} {n} {d} h k = le-floor h (≤ℤ-trans (floorZ-is m h .low) k)
+
+-- ---- a number's opposites, rounded: ⌊(−n − 1) / d⌋ is −⌊n / d⌋ − 1, for every d
+pub floor-opposite : (n : ℤ) (d : ℕ) → floorDiv (negℤ n -ℤ pos 1) d ≡ negℤ (floorDiv n d) -ℤ pos 1
+floor-opposite n d = ap (λ (z : ℤ). floorDiv z d) (-ℤ-one (negℤ n)) ∙ at n ∙ sym (-ℤ-one (negℤ (floorDiv n d)))
+  where
+    neg : (m : ℕ) → predℤ (negℤ (pos m)) ≡ negsuc m
+    neg zero = refl
+    neg (suc m) = refl
+
+    at : (n : ℤ) → floorDiv (predℤ (negℤ n)) d ≡ predℤ (negℤ (floorDiv n d))
+    at (pos m) = ap (λ (z : ℤ). floorDiv z d) (neg m) ∙ sym (neg (m / d))
+    at (negsuc m) = refl
+
+-- where the division is exact the sign goes through it, and one less is one quotient less
+module _ (n : ℤ) (d : ℕ) (h : 0 < d) (k : d ∣ natAbs n) where
+  whole : pos 0 <ℤ pos d
+  whole = record { lt = lt→ltb 0 d h }
+
+  pub floor-exact : floorDiv n d *ℤ pos d ≡ n
+  floor-exact = divides-floor n (pos d) whole k
+
+  pub floor-neg : floorDiv (negℤ n) d ≡ negℤ (floorDiv n d)
+  floor-neg =
+      let q = floorDiv n d in let e = floor-exact in
+      exact-unique whole (divides-floor (negℤ n) (pos d) whole (subst (λ (m : ℕ). d ∣ m) (sym (natAbs-neg n)) k))
+      (lia-eq (q ∷ n ∷ pos d ∷ []) (eq e ∷ []) (search lin depth 30) (omega arith))
+
+  pub floor-less : floorDiv (n -ℤ pos 1) d ≡ floorDiv n d -ℤ pos 1
+  floor-less =
+      let q = floorDiv n d in let e = floor-exact in
+      floor-unique whole (floorZ-is (n -ℤ pos 1) whole)
+      (record {
+        low = lia-le (q ∷ n ∷ pos d ∷ []) (eq e ∷ lt whole ∷ []) (search lin depth 30) (omega arith);
+        high = lia-lt (q ∷ n ∷ pos d ∷ []) (eq e ∷ []) (search lin depth 30) (omega arith);
+      })

@@ -1,3 +1,4 @@
+pub mod Lists
 pub mod Count
 pub mod Values
 pub mod Existential

@@ -16,6 +16,7 @@ use Rattle.integers.specs.Order.{pos-nonneg}
 use Rattle.integers.specs.Size.{natAbs-nonneg}
 use Rattle.model.specs.Lists.{any}
 use Rattle.model.specs.Sets.{Set}
+use Rattle.model.proofs.Lists.{map-get}
 use Rattle.codec.specs.Places.{basicAt, setFrom, endOf, Opened, Accepted, Boundary}
 use Rattle.codec.proofs.Decoded.{Bytes, decode-formed}
 use Rattle.codec.proofs.Valid.{decode-valid}
@@ -30,11 +31,6 @@ use Rattle.search.proofs.Climbs.{span, box-take, value-within}
 use Rattle.search.proofs.Parts.{Parts, part-dead, parts-set, parts-take}
 
 -- ---- lists
-map-at : {A B : Type 0} (f : A → B) (l : List A) (i : ℕ) (d : A) (e : B) → i < length l → getD (map f l) i e ≡ f (getD l i d)
-map-at f [] i d e h = absurd (omega arith)
-map-at f (x ∷ l) zero d e h = refl
-map-at f (x ∷ l) (suc i) d e h = map-at f l i d e (omega arith)
-
 map-map : (xs : List Interval) (s : List ℕ) (rows : List (List ℤ)) → map (canHold xs) (map (rowBasic s) rows) ≡ map (λ (r : List ℤ). canHold xs (rowBasic s r)) rows
 map-map xs s [] = refl
 map-map xs s (r ∷ rows) = ap (λ (l : List Bool). canHold xs (rowBasic s r) ∷ l) (map-map xs s rows)
@@ -49,7 +45,7 @@ module _ (s : List ℕ) (n : ℕ) (rows : List (List ℤ)) (g : Rows s n rows) w
   rows-length = ap length (sym (g .sets)) ∙ length-map rows (rowBasic s)
 
   pub rows-can : (xs : List Interval) (b : ℕ) → b < length rows → getD (map (canHold xs) (setFrom s 0)) b false ≡ canHold xs (rowBasic s (getD rows b []))
-  rows-can xs b h = ap (λ (l : Set). getD (map (canHold xs) l) b false) (sym (g .sets)) ∙ ap (λ (l : List Bool). getD l b false) (map-map xs s rows) ∙ map-at (λ (r : List ℤ). canHold xs (rowBasic s r)) rows b [] false h
+  rows-can xs b h = ap (λ (l : Set). getD (map (canHold xs) l) b false) (sym (g .sets)) ∙ ap (λ (l : List Bool). getD l b false) (map-map xs s rows) ∙ map-get (λ (r : List ℤ). canHold xs (rowBasic s r)) rows b [] false h
 
   pub rows-set : (b : ℕ) (r : List ℤ) → b < length rows → Row s n r → startOf r ≡ startOf (getD rows b []) → Rows s n (set rows b r)
   rows-set b r h w e =

@@ -26,6 +26,7 @@ use Rattle.model.specs.Values.{divisionOf, constraintOf}
 use Rattle.model.specs.declared.Division.{Division}
 use Rattle.model.specs.declared.Constraint.{Constraint}
 use Rattle.model.specs.declared.BasicSet.{BasicSet}
+pub use Rattle.model.proofs.Lists.{map-append, map-get}
 use Rattle.feasibility.specs.Tableau as T
 use Rattle.feasibility.specs.Tableau.{pad}
 use Rattle.simplex.specs.Table.{numberAt, startRow, placeAt, kindNumber, Copied, Started, Named, Bounded, Ruled}
@@ -222,10 +223,6 @@ bounds-snoc s [] e = ap (λ n. lower n e ∷ upper n e ∷ []) (sym (add-zero s)
 bounds-snoc s (x ∷ l) e =
     ap (λ u. lower s x ∷ upper s x ∷ u) (bounds-snoc (suc s) l e ∙ ap (λ n. bounds (suc s) l ++ (lower n e ∷ upper n e ∷ [])) (suc-add s (length l) ∙ sym (add-suc s (length l))))
 
-pub map-append : {A B : Type 0} (f : A → B) (l m : List A) → map f (l ++ m) ≡ map f l ++ map f m
-map-append f [] m = refl
-map-append f (x ∷ l) m = ap (λ u. f x ∷ u) (map-append f l m)
-
 -- ---- the variables' places and kinds
 
 pub named-none : (k : ℕ) (place kinds : List ℕ) → Named k 0 place place kinds kinds
@@ -282,11 +279,6 @@ bounded-more ds k n d rows rows′ x y h l ex ey m =
       long = length-set (set rows′ (2 * n) x) (2 * n + 1) y ∙ length-set rows′ (2 * n) x ∙ m .long;
       firsts = bounds-more k n ds d rows′ x y h (omega arith) ex ey (m .firsts);
     }
-
-pub map-get : {A B : Type 0} (f : A → B) (l : List A) (i : ℕ) (d : A) (e : B) → i < length l → getD (map f l) i e ≡ f (getD l i d)
-map-get f [] i d e h = absurd (not-suc-le-zero h)
-map-get f (x ∷ l) zero d e h = refl
-map-get f (x ∷ l) (suc i) d e h = map-get f l i d e (le-of-suc-le-suc h)
 
 pub ruled-none : (b : BasicSet) (rows : List (List ℤ)) (kinds : List ℕ) → Ruled b 0 rows rows kinds kinds
 ruled-none b rows kinds =

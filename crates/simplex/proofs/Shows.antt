@@ -11,6 +11,7 @@ use lib.Dec.{eqb}
 use lib.ListN.{length, getD, set, length-set, length-map}
 use lib.Seq.{getD-set-same, getD-set-other}
 use lib.IntN.{ℤ, pos}
+use Rattle.model.proofs.Lists.{map-get, map-set}
 use Rattle.feasibility.specs.Tableau.{Row, Tableau, exchange, row, solved, replaced, noRow}
 use Rattle.simplex.specs.declared.Move.the-variants.{Pivot}
 use Rattle.tableau.specs.Rows.{den, solveRow, rebuildRow, exchangeRows, exchangeBy}
@@ -42,14 +43,7 @@ pub record Shows (k : ℕ) (rows : List (List ℤ)) (place : List ℕ) (t : Tabl
 -- ---- lists
 
 pub map-at : (f : Row → List ℤ) (rs : List Row) (i : ℕ) → i < length rs → getD (map f rs) i [] ≡ f (getD rs i noRow)
-map-at f [] i h = absurd (not-suc-le-zero h)
-map-at f (r ∷ rs) zero h = refl
-map-at f (r ∷ rs) (suc i) h = map-at f rs i (le-of-suc-le-suc h)
-
-map-store : (f : Row → List ℤ) (rs : List Row) (i : ℕ) (r : Row) → map f (set rs i r) ≡ set (map f rs) i (f r)
-map-store f [] i r = refl
-map-store f (s ∷ rs) zero r = refl
-map-store f (s ∷ rs) (suc i) r = ap (λ l. f s ∷ l) (map-store f rs i r)
+map-at f rs i h = map-get f rs i noRow [] h
 
 -- ---- the exchange
 
@@ -87,7 +81,7 @@ module _ (k : ℕ) (i j : ℕ) (t : Tableau) (p : X.Pivot i j t) (rows : List (L
   rows-now =
       ap₂ (λ u l. exchangeBy u l i (columnOf k j)) solved-is (s .rows-are)
       ∙ ap (λ l. set l i q) (rebuilt-are (t .rows) shaped-k)
-      ∙ sym (map-store (layout k) (map (replaced r j) (t .rows)) i (solved r j c))
+      ∙ sym (map-set (layout k) (map (replaced r j) (t .rows)) i (solved r j c))
 
   a-place : getD place a 0 ≡ i
   a-place = s .rows-at i (p .row) .1

@@ -19,6 +19,8 @@ use Rattle.integers.specs.Gcd.{gcd, gcd-is, gcd-zero, gcd-step, gcd-comm}
 use Rattle.integers.specs.Order.{mul-pos-pos}
 use Rattle.integers.specs.Size.{within-neg, within-mono, within-mul, within-sub, within-fits}
 use Rattle.model.specs.Sets.{isZero}
+unfoldable pub use Rattle.model.proofs.Lists.{upTo, each}
+pub use Rattle.model.proofs.Lists.{upTo-none, upTo-length, upTo-next, upTo-more, upTo-rest, each-at, upTo-each}
 use Rattle.integers.specs.Size.{bound}
 use Rattle.tableau.specs.Rows.{divisorFrom, divideRow, reduceRow, turnRow, turnBy, solveRow, combineRows, minusRow, Fit, Divisor, rebuilt, touched, entry, Small, Line}
 
@@ -73,65 +75,7 @@ zeros-divisor (x ∷ l) g h =
 pub divisor-end : (n i g : ℕ) (l : List ℤ) → Line n l → n ≤ i → divisorFrom g (drop i l) ≡ g
 divisor-end n i g l h k = zeros-divisor (drop i l) g (λ j. getD-drop i l j (pos 0) ∙ h .blank (i + j) (omega arith))
 
--- ---- a loop that changes a list from the front: the first n numbers changed, each by the function of its place
-unfoldable pub upTo : {A : Type 0} → (ℕ → A → A) → ℕ → List A → List A
-upTo f zero l = l
-upTo f (suc n) [] = []
-upTo f (suc n) (x ∷ l) = f 0 x ∷ upTo (λ i. f (suc i)) n l
-
-pub upTo-none : {A : Type 0} (f : ℕ → A → A) (l : List A) → l ≡ upTo f 0 l
-unfolding upTo
-upTo-none f l = refl
-
-pub upTo-length : {A : Type 0} (f : ℕ → A → A) (n : ℕ) (l : List A) → length (upTo f n l) ≡ length l
-unfolding upTo
-upTo-length f zero l = refl
-upTo-length f (suc n) [] = refl
-upTo-length f (suc n) (x ∷ l) = ap suc (upTo-length (λ i. f (suc i)) n l)
-
--- the next number is as it was
-pub upTo-next : {A : Type 0} (f : ℕ → A → A) (n : ℕ) (l : List A) (d : A) → getD (upTo f n l) n d ≡ getD l n d
-unfolding upTo
-upTo-next f zero l d = refl
-upTo-next f (suc n) [] d = refl
-upTo-next f (suc n) (x ∷ l) d = upTo-next (λ i. f (suc i)) n l d
-
-upTo-suc : {A : Type 0} (f : ℕ → A → A) (n : ℕ) (l : List A) (d : A) → n < length l → set (upTo f n l) n (f n (getD l n d)) ≡ upTo f (suc n) l
-unfolding upTo
-upTo-suc f n [] d h = absurd (not-suc-le-zero h)
-upTo-suc f zero (x ∷ l) d h = refl
-upTo-suc f (suc n) (x ∷ l) d h = ap (λ t. f 0 x ∷ t) (upTo-suc (λ i. f (suc i)) n l d (le-of-suc-le-suc h))
-
--- the store of one turn
-pub upTo-more : {A : Type 0} (d : A) (f : ℕ → A → A) (n : ℕ) (l r : List A) (v : A) → n < length l → r ≡ upTo f n l → v ≡ f n (getD r n d) → set r n v ≡ upTo f (n + 1) l
-upTo-more d f n l r v h e w =
-    let q : v ≡ f n (getD l n d) = w ∙ ap (f n) (ap (λ t. getD t n d) e ∙ upTo-next f n l d) in
-    rw (add-one, q, e) (upTo-suc f n l d h)
-
--- what stays past the n-th as it is may be changed too
-pub upTo-rest : {A : Type 0} (f : ℕ → A → A) (n m : ℕ) (l : List A) (d : A) → n ≤ m → ((k : ℕ) → n ≤ k → f k (getD l k d) ≡ getD l k d) → upTo f n l ≡ upTo f m l
-unfolding upTo
-upTo-rest f zero zero l d h e = refl
-upTo-rest f zero (suc m) [] d h e = refl
-upTo-rest f zero (suc m) (x ∷ l) d h e = ap₂ _∷_ (sym (e 0 zero-le)) (upTo-rest (λ i. f (suc i)) zero m l d zero-le (λ k a. e (suc k) zero-le))
-upTo-rest f (suc n) zero l d h e = absurd (not-suc-le-zero h)
-upTo-rest f (suc n) (suc m) [] d h e = refl
-upTo-rest f (suc n) (suc m) (x ∷ l) d h e = ap (λ t. f 0 x ∷ t) (upTo-rest (λ i. f (suc i)) n m l d (le-of-suc-le-suc h) (λ k a. e (suc k) (suc-le-suc a)))
-
--- the same function at each place
-unfoldable pub each : {A : Type 0} → (A → A) → ℕ → A → A
-each f i x = f x
-
-pub each-at : {A : Type 0} (g : A → A) (i : ℕ) (x : A) → g x ≡ each g i x
-unfolding each
-each-at g i x = refl
-
-pub upTo-each : {A : Type 0} (g : A → A) (n : ℕ) (l : List A) → length l ≤ n → upTo (each g) n l ≡ map g l
-unfolding upTo each
-upTo-each g zero [] h = refl
-upTo-each g zero (x ∷ l) h = absurd (not-suc-le-zero h)
-upTo-each g (suc n) [] h = refl
-upTo-each g (suc n) (x ∷ l) h = ap (λ t. g x ∷ t) (upTo-each g n l (le-of-suc-le-suc h))
+-- ---- a loop that changes a row from the front
 
 -- over a row's first n numbers, of a function that keeps 0
 pub upTo-line : (g : ℤ → ℤ) (n i : ℕ) (l : List ℤ) → g (pos 0) ≡ pos 0 → Line n l → n ≤ i → i ≤ 18 → upTo (each g) i l ≡ map g l

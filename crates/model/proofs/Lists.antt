@@ -1,0 +1,95 @@
+-- Lists that are mapped, and lists that a loop changes from the front. Assumes nothing.
+use mathlib.Core.Path.{_≡_, refl, sym, ap, ap₂, _∙_}
+use mathlib.Core.List.{List, [], _∷_, _++_, map}
+use Prim.Native.Nat.{ℕ, zero, suc, _+_, _≤_, _<_, zero-le, suc-le-suc}
+use native.Mathlib.Nat.{le-of-suc-le-suc, not-suc-le-zero}
+use native.Mathlib.Numerals.{add-one}
+use lib.ListN.{length, take, getD, set}
+
+-- ---- mapped
+
+module _ {A B : Type 0} (f : A → B) where
+  pub map-append : (l m : List A) → map f (l ++ m) ≡ map f l ++ map f m
+  map-append [] m = refl
+  map-append (x ∷ l) m = ap (λ (r : List B). f x ∷ r) (map-append l m)
+
+  pub map-take : (n : ℕ) (l : List A) → map f (take n l) ≡ take n (map f l)
+  map-take zero l = refl
+  map-take (suc n) [] = refl
+  map-take (suc n) (x ∷ l) = ap (λ (r : List B). f x ∷ r) (map-take n l)
+
+  pub map-get : (l : List A) (i : ℕ) (d : A) (e : B) → i < length l → getD (map f l) i e ≡ f (getD l i d)
+  map-get [] i d e h = absurd (not-suc-le-zero h)
+  map-get (x ∷ l) zero d e h = refl
+  map-get (x ∷ l) (suc i) d e h = map-get l i d e (le-of-suc-le-suc h)
+
+  pub map-set : (l : List A) (i : ℕ) (v : A) → map f (set l i v) ≡ set (map f l) i (f v)
+  map-set [] i v = refl
+  map-set (x ∷ l) zero v = refl
+  map-set (x ∷ l) (suc i) v = ap (λ (r : List B). f x ∷ r) (map-set l i v)
+
+-- ---- a loop that changes a list from the front: the first n numbers changed, each by the function of its place
+unfoldable pub upTo : {A : Type 0} → (ℕ → A → A) → ℕ → List A → List A
+upTo f zero l = l
+upTo f (suc n) [] = []
+upTo f (suc n) (x ∷ l) = f 0 x ∷ upTo (λ i. f (suc i)) n l
+
+pub upTo-none : {A : Type 0} (f : ℕ → A → A) (l : List A) → l ≡ upTo f 0 l
+unfolding upTo
+upTo-none f l = refl
+
+pub upTo-length : {A : Type 0} (f : ℕ → A → A) (n : ℕ) (l : List A) → length (upTo f n l) ≡ length l
+unfolding upTo
+upTo-length f zero l = refl
+upTo-length f (suc n) [] = refl
+upTo-length f (suc n) (x ∷ l) = ap suc (upTo-length (λ i. f (suc i)) n l)
+
+-- the next number is as it was
+pub upTo-next : {A : Type 0} (f : ℕ → A → A) (n : ℕ) (l : List A) (d : A) → getD (upTo f n l) n d ≡ getD l n d
+unfolding upTo
+upTo-next f zero l d = refl
+upTo-next f (suc n) [] d = refl
+upTo-next f (suc n) (x ∷ l) d = upTo-next (λ i. f (suc i)) n l d
+
+upTo-suc : {A : Type 0} (f : ℕ → A → A) (n : ℕ) (l : List A) (d : A) → n < length l → set (upTo f n l) n (f n (getD l n d)) ≡ upTo f (suc n) l
+unfolding upTo
+upTo-suc f n [] d h = absurd (not-suc-le-zero h)
+upTo-suc f zero (x ∷ l) d h = refl
+upTo-suc f (suc n) (x ∷ l) d h = ap (λ t. f 0 x ∷ t) (upTo-suc (λ i. f (suc i)) n l d (le-of-suc-le-suc h))
+
+-- the store of one turn
+pub upTo-more : {A : Type 0} (d : A) (f : ℕ → A → A) (n : ℕ) (l r : List A) (v : A) → n < length l → r ≡ upTo f n l → v ≡ f n (getD r n d) → set r n v ≡ upTo f (n + 1) l
+upTo-more d f n l r v h e w =
+    let q : v ≡ f n (getD l n d) = w ∙ ap (f n) (ap (λ t. getD t n d) e ∙ upTo-next f n l d) in
+    rw (add-one, q, e) (upTo-suc f n l d h)
+
+-- what stays past the n-th as it is may be changed too
+pub upTo-rest : {A : Type 0} (f : ℕ → A → A) (n m : ℕ) (l : List A) (d : A) → n ≤ m → ((k : ℕ) → n ≤ k → f k (getD l k d) ≡ getD l k d) → upTo f n l ≡ upTo f m l
+unfolding upTo
+upTo-rest f zero zero l d h e = refl
+upTo-rest f zero (suc m) [] d h e = refl
+upTo-rest f zero (suc m) (x ∷ l) d h e = ap₂ _∷_ (sym (e 0 zero-le)) (upTo-rest (λ i. f (suc i)) zero m l d zero-le (λ k a. e (suc k) zero-le))
+upTo-rest f (suc n) zero l d h e = absurd (not-suc-le-zero h)
+upTo-rest f (suc n) (suc m) [] d h e = refl
+upTo-rest f (suc n) (suc m) (x ∷ l) d h e = ap (λ t. f 0 x ∷ t) (upTo-rest (λ i. f (suc i)) n m l d (le-of-suc-le-suc h) (λ k a. e (suc k) (suc-le-suc a)))
+
+-- the same function at each place
+unfoldable pub each : {A : Type 0} → (A → A) → ℕ → A → A
+each f i x = f x
+
+pub each-at : {A : Type 0} (g : A → A) (i : ℕ) (x : A) → g x ≡ each g i x
+unfolding each
+each-at g i x = refl
+
+pub upTo-each : {A : Type 0} (g : A → A) (n : ℕ) (l : List A) → length l ≤ n → upTo (each g) n l ≡ map g l
+unfolding upTo each
+upTo-each g zero [] h = refl
+upTo-each g zero (x ∷ l) h = absurd (not-suc-le-zero h)
+upTo-each g (suc n) [] h = refl
+upTo-each g (suc n) (x ∷ l) h = ap (λ t. g x ∷ t) (upTo-each g n l (le-of-suc-le-suc h))
+
+pub upTo-take : {A : Type 0} (g : A → A) (n : ℕ) (l : List A) → take n (upTo (each g) n l) ≡ map g (take n l)
+unfolding upTo each
+upTo-take g zero l = refl
+upTo-take g (suc n) [] = refl
+upTo-take g (suc n) (x ∷ l) = ap (λ t. g x ∷ t) (upTo-take g n l)
