@@ -4,20 +4,22 @@ use mathlib.Core.Bool.{Bool, true, false, not, _&&_, _||_, cond}
 use mathlib.Core.List.{List, [], _∷_, _++_, map}
 use mathlib.Core.Logic.{_⊎_, inl, inr}
 use mathlib.Core.Option.{Option, none, some}
-use Prim.Native.Nat.{ℕ, zero, suc, _+_, _-_, _≤_, _<_}
-use native.Mathlib.Nat.{le-of-suc-le-suc, not-suc-le-zero, zero-lt-suc, le-refl, zero-add}
+use Prim.Native.Nat.{ℕ, zero, suc, _+_, _/_, _≤_, _<_}
+use native.Mathlib.Nat.{le-of-suc-le-suc, not-suc-le-zero, zero-lt-suc, le-refl, zero-add, div-le-self}
 use native.Mathlib.Omega.{arith}
 use lib.Dec.{T, leb, ltb, eqb, leb→le, le→leb, ltb→lt, eqb-refl}
 use lib.IntN.{ℤ, pos, negsuc, negℤ, _+ℤ_, _-ℤ_, -ℤ-one, predℤ, +ℤ-idr}
 use lib.Signed.{leZ}
 use lib.ListN.{length-map, length, getD, replicate, length-append}
 use Rattle.model.specs.Lists.{all, any, concatMap, consIf, filter, isNil}
-use Rattle.model.specs.Sets.{Division, Kind, equality, inequality, Constraint, BasicSet, Set, absent}
-use Rattle.algebra.specs.Cut.{below, opposites, oppositesAt, sameDivision, seek, Joined, joinFrom, join, addAt, move, moveConstraint, joinedDivisions, movedConstraints, both, kept, cutBy, cut, cutAll, difference, intersection, complement, joinFits, candidatesFit, cutFits, cutAllFits, differenceFits, bothFits, intersectionFits}
+use Rattle.model.specs.Sets.{floorDiv, Division, Kind, equality, inequality, Constraint, BasicSet, Set, absent}
+use Rattle.algebra.specs.Tighten.{content, divisible, void, dividedDown, tight, tightened, solvable}
+use Rattle.algebra.specs.Cut.{below, opposites, oppositesAt, sameDivision, seek, Joined, joinFrom, join, addAt, move, moveConstraint, joinedDivisions, movedConstraints, both, ends, kept, cutBy, cutTight, cut, cutAll, difference, intersection, complement, joinFits, candidatesFit, cutTightFits, cutFits, cutAllFits, differenceFits, bothFits, intersectionFits}
 use Rattle.codec.specs.Bytes.{gives, encode, coefficient, constantFits, axesFit, decode}
 use Rattle.model.proofs.Count.{and-left, and-right, and-make}
 use Rattle.algebra.proofs.Joined.{Good, joined}
 use Rattle.algebra.proofs.Cutting.{absent-neg, absent-more, absent-move}
+use Rattle.algebra.proofs.Tightened.{absent-divided, divisible-tight}
 use Rattle.codec.proofs.Encoded.{Fits}
 use Rattle.codec.proofs.Valid.{All, all-app, all-imp, all-mapped, ValidDivision, ValidConstraint, Valid, valid-decodes}
 
@@ -90,6 +92,61 @@ opposites-valid n k r v = at (r .kind) (v .constant)
       (below-valid n k r v, tt),
     )
     at inequality t = (below-valid n k r v, tt)
+
+-- ---- tightened
+
+down-coefficient : (g : ℕ) (z : ℤ) → T (coefficient z) → T (coefficient (floorDiv z g))
+down-coefficient g (pos m) t = let h = leb→le m 32767 t in let k = div-le-self m g in le→leb (m / g) 32767 (omega arith)
+down-coefficient g (negsuc m) t = let h = leb→le m 32766 (and-left (leb m 32766) true t) in let k = div-le-self m g in and-make (leb (m / g) 32766) true (le→leb (m / g) 32766 (omega arith)) tt
+
+down-coefficients : (g : ℕ) (cs : List ℤ) → T (all coefficient cs) → T (all coefficient (map (λ (z : ℤ). floorDiv z g) cs))
+down-coefficients g [] t = tt
+down-coefficients g (c ∷ cs) t = and-make (coefficient (floorDiv c g)) (all coefficient (map (λ (z : ℤ). floorDiv z g) cs)) (down-coefficient g c (and-left (coefficient c) (all coefficient cs) t)) (down-coefficients g cs (and-right (coefficient c) (all coefficient cs) t))
+
+down-width : (g : ℕ) (z : ℤ) → Fits 2147483648 z → Fits 2147483648 (floorDiv z g)
+down-width g (pos m) h = let k = div-le-self m g in omega arith
+down-width g (negsuc m) h = let k = div-le-self m g in omega arith
+
+down-constant : (g : ℕ) (k : Kind) (z : ℤ) → T (constantFits k z) → T (constantFits k (floorDiv z g))
+down-constant g equality (pos m) t = tt
+down-constant g equality (negsuc m) t = let h = leb→le m 2147483646 t in let k = div-le-self m g in le→leb (m / g) 2147483646 (omega arith)
+down-constant g inequality z t = tt
+
+pub tight-valid : (n k : ℕ) (r : Constraint) → ValidConstraint n k r → ValidConstraint n k (tight r)
+tight-valid n k r v = at (ltb 1 (content r))
+  where
+    g : ℕ
+    g = content r
+
+    at : (b : Bool) → ValidConstraint n k (cond b (dividedDown g r) r)
+    at true =
+        record {
+          axis-places = length-map (r .axes) (λ (z : ℤ). floorDiv z g) ∙ v .axis-places;
+          division-places = length-map (r .divisions) (λ (z : ℤ). floorDiv z g) ∙ v .division-places;
+          width = down-width g (r .constant) (v .width);
+          constant = down-constant g (r .kind) (r .constant) (v .constant);
+          axes = down-coefficients g (r .axes) (v .axes);
+          divisions = down-coefficients g (r .divisions) (v .divisions);
+          axis-absents = absent-divided g n (r .axes) (v .axis-absents);
+          division-absents = absent-divided g k (r .divisions) (v .division-absents);
+        }
+    at false = v
+
+pub tightened-valid : (n : ℕ) (b : BasicSet) → Valid n b → Valid n (tightened b)
+tightened-valid n b v =
+    record {
+      few-divisions = v .few-divisions;
+      few-constraints = subst (λ (m : ℕ). m ≤ 48) (sym (length-map (b .constraints) tight)) (v .few-constraints);
+      divisions = v .divisions;
+      constraints = all-mapped (ValidConstraint n (length (b .divisions))) tight (ValidConstraint n (length (b .divisions))) (tight-valid n (length (b .divisions))) (b .constraints) (v .constraints);
+    }
+
+pub solvable-valid : (n : ℕ) (b : BasicSet) → Valid n b → All (Valid n) (solvable b)
+solvable-valid n b v = at (any void (b .constraints))
+  where
+    at : (w : Bool) → All (Valid n) (cond w [] (tightened b ∷ []))
+    at true = tt
+    at false = (tightened-valid n b v, tt)
 
 -- ---- the places of joined divisions are apart
 
@@ -277,28 +334,71 @@ module _ (n : ℕ) (a b : BasicSet) (va : Valid n a) (vb : Valid n b) (few : len
 
 -- ---- the operations
 
+-- no rule of the basic set has a common divisor left
+abbrev pub Tight : BasicSet → Type 0
+Tight b = any divisible (b .constraints) ≡ false
+
 module _ (keep : BasicSet → Bool) (n : ℕ) where
   cutBy-valid : (ds : List Division) → length ds ≤ 8 → All (ValidDivision n) ds → (rs w : List Constraint) → All (ValidConstraint n (length ds)) w → All (ValidConstraint n (length ds)) rs
       → T (candidatesFit keep ds w rs) → All (Valid n) (cutBy keep ds w rs)
   cutBy-valid ds few dv [] w vw vr t = tt
   cutBy-valid ds few dv (r ∷ rs) w vw vr t =
       let k : List BasicSet = kept keep ds w (opposites r) in
-      let w′ : List Constraint = cond (isNil k) w (w ++ (r ∷ [])) in
-      let h : length w + 1 ≤ 48 = leb→le (length w + 1) 48 (and-left (leb (length w + 1) 48) (candidatesFit keep ds w′ rs) t) in
-      all-app (Valid n) k (cutBy keep ds w′ rs)
-      (all-filtered (Valid n) keep (map (λ (o : Constraint). record { divisions = ds; constraints = w ++ (o ∷ []) }) (opposites r))
-      (all-mapped (Valid n) (λ (o : Constraint). record { divisions = ds; constraints = w ++ (o ∷ []) }) (ValidConstraint n (length ds))
-      (λ o v. record { few-divisions = few; few-constraints = subst (λ (m : ℕ). m ≤ 48) (sym (length-append w (o ∷ []))) h; divisions = dv; constraints = all-app (ValidConstraint n (length ds)) w (o ∷ []) vw (v, tt) })
+      let w′ : List Constraint = cond (isNil k) w (w ++ (tight r ∷ [])) in
+      let rest : Bool = cond (ends k r) true (candidatesFit keep ds w′ rs) in
+      let h : length w + 1 ≤ 48 = leb→le (length w + 1) 48 (and-left (leb (length w + 1) 48) rest t) in
+      all-app (Valid n) k (cond (ends k r) [] (cutBy keep ds w′ rs))
+      (all-filtered (Valid n) keep (map (λ (o : Constraint). record { divisions = ds; constraints = w ++ (tight o ∷ []) }) (opposites r))
+      (all-mapped (Valid n) (λ (o : Constraint). record { divisions = ds; constraints = w ++ (tight o ∷ []) }) (ValidConstraint n (length ds))
+      (λ o v. record { few-divisions = few; few-constraints = subst (λ (m : ℕ). m ≤ 48) (sym (length-append w (tight o ∷ []))) h; divisions = dv; constraints = all-app (ValidConstraint n (length ds)) w (tight o ∷ []) vw (tight-valid n (length ds) o v, tt) })
       (opposites r) (opposites-valid n (length ds) r (vr .0))))
-      (cutBy-valid ds few dv rs w′ (working k) (vr .1) (and-right (leb (length w + 1) 48) (candidatesFit keep ds w′ rs) t))
+      (ended (ends k r) (candidatesFit keep ds w′ rs) (cutBy keep ds w′ rs) (cutBy-valid ds few dv rs w′ (working k) (vr .1)) (and-right (leb (length w + 1) 48) rest t))
     where
-      working : (k : List BasicSet) → All (ValidConstraint n (length ds)) (cond (isNil k) w (w ++ (r ∷ [])))
+      working : (k : List BasicSet) → All (ValidConstraint n (length ds)) (cond (isNil k) w (w ++ (tight r ∷ [])))
       working [] = vw
-      working (b ∷ k) = all-app (ValidConstraint n (length ds)) w (r ∷ []) vw (vr .0, tt)
+      working (b ∷ k) = all-app (ValidConstraint n (length ds)) w (tight r ∷ []) vw (tight-valid n (length ds) r (vr .0), tt)
 
-  pub cut-valid : (a c : BasicSet) → Valid n a → Valid n c → T (cutFits keep a c) → All (Valid n) (cut keep a c)
-  unfolding difference intersection complement cutAll cut decode encode
-  cut-valid a c va vc t =
+      ended : (b f : Bool) (l : List BasicSet) → (T f → All (Valid n) l) → T (cond b true f) → All (Valid n) (cond b [] l)
+      ended true f l v t = tt
+      ended false f l v t = v t
+
+  -- the pieces of a tight basic set are tight
+  cutBy-tight : (ds : List Division) (rs w : List Constraint) → any divisible w ≡ false → All Tight (cutBy keep ds w rs)
+  cutBy-tight ds [] w e = tt
+  cutBy-tight ds (r ∷ rs) w e =
+      let k : List BasicSet = kept keep ds w (opposites r) in
+      let w′ : List Constraint = cond (isNil k) w (w ++ (tight r ∷ [])) in
+      all-app Tight k (cond (ends k r) [] (cutBy keep ds w′ rs))
+      (all-filtered Tight keep (map (λ (o : Constraint). record { divisions = ds; constraints = w ++ (tight o ∷ []) }) (opposites r)) (each (opposites r)))
+      (ended (ends k r) (cutBy keep ds w′ rs) (cutBy-tight ds rs w′ (working k)))
+    where
+      snoc : (w : List Constraint) → any divisible w ≡ false → (o : Constraint) → any divisible (w ++ (tight o ∷ [])) ≡ false
+      snoc [] e o = ap (λ (b : Bool). b || false) (divisible-tight o)
+      snoc (x ∷ w) e o = at (divisible x) e (snoc w)
+        where
+          at : (b : Bool) → (b || any divisible w) ≡ false → (any divisible w ≡ false → (o : Constraint) → any divisible (w ++ (tight o ∷ [])) ≡ false) → (b || any divisible (w ++ (tight o ∷ []))) ≡ false
+          at true e f = e
+          at false e f = f e o
+
+      each : (os : List Constraint) → All Tight (map (λ (o : Constraint). record { divisions = ds; constraints = w ++ (tight o ∷ []) }) os)
+      each [] = tt
+      each (o ∷ os) = (snoc w e o, each os)
+
+      working : (k : List BasicSet) → any divisible (cond (isNil k) w (w ++ (tight r ∷ []))) ≡ false
+      working [] = e
+      working (b ∷ k) = snoc w e r
+
+      ended : (b : Bool) (l : List BasicSet) → All Tight l → All Tight (cond b [] l)
+      ended true l v = tt
+      ended false l v = v
+
+  pub pieces-tight : (a c : BasicSet) → Tight a → All Tight (cutTight keep a c)
+  unfolding cutTight
+  pieces-tight a c e = cutBy-tight (joinedDivisions a c) (movedConstraints a c) (a .constraints) e
+
+  cutTight-valid : (a c : BasicSet) → Valid n a → Valid n c → T (cutTightFits keep a c) → All (Valid n) (cutTight keep a c)
+  unfolding cutTight
+  cutTight-valid a c va vc t =
       let f : T (joinFits keep a c) = and-left (joinFits keep a c) (candidatesFit keep (joinedDivisions a c) (a .constraints) (movedConstraints a c)) t in
       let few : length (joinedDivisions a c) ≤ 8 = leb→le (length (joinedDivisions a c)) 8 f in
       cutBy-valid (joinedDivisions a c) few (joined-valid n a c va vc few) (movedConstraints a c) (a .constraints) (first-valid n a c va vc few) (second-valid n a c va vc few)
@@ -307,6 +407,10 @@ module _ (keep : BasicSet → Bool) (n : ℕ) where
   all-concat : (P Q : BasicSet → Type 0) (f : BasicSet → Bool) (g : BasicSet → List BasicSet) → ((a : BasicSet) → P a → T (f a) → All Q (g a)) → (l : List BasicSet) → All P l → T (all f l) → All Q (concatMap g l)
   all-concat P Q f g h [] p t = tt
   all-concat P Q f g h (a ∷ l) p t = all-app Q (g a) (concatMap g l) (h a (p .0) (and-left (f a) (all f l) t)) (all-concat P Q f g h l (p .1) (and-right (f a) (all f l) t))
+
+  pub cut-valid : (a c : BasicSet) → Valid n a → Valid n c → T (cutFits keep a c) → All (Valid n) (cut keep a c)
+  unfolding cut
+  cut-valid a c va vc t = all-concat (Valid n) (Valid n) (λ (p : BasicSet). cutTightFits keep p c) (λ (p : BasicSet). cutTight keep p c) (λ p vp f. cutTight-valid p c vp vc f) (solvable a) (solvable-valid n a va) t
 
   pub cutAll-valid : (cs : List BasicSet) → All (Valid n) cs → (a : BasicSet) → Valid n a → T (cutAllFits keep cs a) → All (Valid n) (cutAll keep cs a)
   unfolding difference intersection complement cutAll cut decode encode
@@ -328,15 +432,19 @@ module _ (keep : BasicSet → Bool) (n : ℕ) where
   pub intersection-valid : (s t : Set) → All (Valid n) s → All (Valid n) t → T (intersectionFits keep s t) → All (Valid n) (intersection keep s t)
   unfolding intersection
   intersection-valid s t vs vt f =
-      all-filtered (Valid n) keep (concatMap (λ (a : BasicSet). map (both a) t) s)
-      (all-concat (Valid n) (Valid n) (λ (a : BasicSet). all (bothFits keep a) t) (λ (a : BasicSet). map (both a) t) (λ a va h. pairs a va t vt h) s vs
-      (and-left (all (λ (a : BasicSet). all (bothFits keep a) t) s) (leb (length (intersection keep s t)) 32) f))
+      let pair : BasicSet → List BasicSet = λ (a : BasicSet). concatMap (λ (b : BasicSet). solvable (both a b)) t in
+      all-filtered (Valid n) keep (concatMap pair (concatMap solvable s))
+      (all-concat (Valid n) (Valid n) (λ (a : BasicSet). all (bothFits keep a) t) pair (λ a va h. pairs a va t vt h) (concatMap solvable s) (first s vs)
+      (and-left (all (λ (a : BasicSet). all (bothFits keep a) t) (concatMap solvable s)) (leb (length (intersection keep s t)) 32) f))
     where
-      pairs : (a : BasicSet) → Valid n a → (t : Set) → All (Valid n) t → T (all (bothFits keep a) t) → All (Valid n) (map (both a) t)
-      pairs a va [] vt h = tt
-      pairs a va (b ∷ t) vt h =
-          let g = and-left (bothFits keep a b) (all (bothFits keep a) t) h in
-          let few : length (joinedDivisions a b) ≤ 8 = leb→le (length (joinedDivisions a b)) 8 (and-left (joinFits keep a b) (leb (length (a .constraints) + length (b .constraints)) 48) g) in (
-            both-valid n a b va (vt .0) few (leb→le (length (a .constraints) + length (b .constraints)) 48 (and-right (joinFits keep a b) (leb (length (a .constraints) + length (b .constraints)) 48) g)),
-            pairs a va t (vt .1) (and-right (bothFits keep a b) (all (bothFits keep a) t) h),
-          )
+      first : (s : Set) → All (Valid n) s → All (Valid n) (concatMap solvable s)
+      first [] v = tt
+      first (a ∷ s) v = all-app (Valid n) (solvable a) (concatMap solvable s) (solvable-valid n a (v .0)) (first s (v .1))
+
+      pairs : (a : BasicSet) → Valid n a → (t : Set) → All (Valid n) t → T (all (bothFits keep a) t) → All (Valid n) (concatMap (λ (b : BasicSet). solvable (both a b)) t)
+      pairs a va t vt h = all-concat (Valid n) (Valid n) (bothFits keep a) (λ (b : BasicSet). solvable (both a b)) each t vt h
+        where
+          each : (b : BasicSet) → Valid n b → T (bothFits keep a b) → All (Valid n) (solvable (both a b))
+          each b vb g =
+              let few : length (joinedDivisions a b) ≤ 8 = leb→le (length (joinedDivisions a b)) 8 (and-left (joinFits keep a b) (leb (length (a .constraints) + length (b .constraints)) 48) g) in
+              solvable-valid n (both a b) (both-valid n a b va vb few (leb→le (length (a .constraints) + length (b .constraints)) 48 (and-right (joinFits keep a b) (leb (length (a .constraints) + length (b .constraints)) 48) g)))

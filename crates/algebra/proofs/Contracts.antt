@@ -2,12 +2,13 @@
 use mathlib.Core.Path.{_≡_, refl, subst}
 use mathlib.Core.Bool.{Bool, true, false, not, _&&_, _||_, cond}
 use mathlib.Core.List.{List, [], _∷_}
-use Prim.Native.Nat.{ℕ, _-_, _≤_, zero-le}
+use Prim.Native.Nat.{ℕ, _≤_, zero-le}
 use lib.Dec.{T, leb, leb→le}
 use lib.IntN.{ℤ}
 use lib.ListN.{length}
-use Rattle.model.specs.Lists.{all}
+use Rattle.model.specs.Lists.{all, concatMap}
 use Rattle.model.specs.Sets.{BasicSet, Set, inSet, wellFormed}
+use Rattle.algebra.specs.Tighten.{solvable}
 use Rattle.algebra.specs.Cut.{keeps, union, unionFits, bothFits, intersection, intersectionFits, cutAllFits, difference, differenceFits, complement, complementFits}
 use Rattle.codec.specs.Bytes.{Answer, refused, gives, encode, axesFit, decode}
 use Rattle.algebra.specs.Operations.{result, onOne, onTwo, unionBytes, intersectionBytes, differenceBytes, complementBytes}
@@ -79,7 +80,7 @@ pub intersection-bytes : (n room : ℕ) (a b bs : List ℕ) → Bytes a → Byte
 unfolding intersectionBytes
 intersection-bytes n room a b bs =
     operation (intersection keeps) (intersectionFits keeps) _&&_ n (intersection-valid keeps n)
-    (λ s t f. leb→le (length (intersection keeps s t)) 32 (and-right (all (λ (a : BasicSet). all (bothFits keeps a) t) s) (leb (length (intersection keeps s t)) 32) f))
+    (λ s t f. leb→le (length (intersection keeps s t)) 32 (and-right (all (λ (a : BasicSet). all (bothFits keeps a) t) (concatMap solvable s)) (leb (length (intersection keeps s t)) 32) f))
     (λ s t ws wt x h. intersection-points x h s t ws wt) room a b bs
 
 pub union-bytes : (n room : ℕ) (a b bs : List ℕ) → Bytes a → Bytes b → unionBytes n room a b ≡ gives bs → Operation union _||_ n a b bs

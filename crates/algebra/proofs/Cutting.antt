@@ -11,10 +11,12 @@ use lib.IntN.{ℤ, pos, negsuc, negℤ, _+ℤ_, _*ℤ_}
 use lib.ListN.{length, drop, replicate, length-append}
 use Rattle.model.specs.Lists.{all, any, concatMap, filter, isNil}
 use Rattle.model.specs.Sets.{dot, Division, Kind, equality, inequality, Constraint, BasicSet, Set, isZero, holds, meets, quotient, quotients, inConstraints, inBasic, inSet, absent, wellFormed}
-use Rattle.algebra.specs.Cut.{below, opposites, oppositesAt, addAt, move, moveConstraint, join, union, joinedDivisions, movedConstraints, both, kept, cutBy, cut, cutAll, difference, intersection, complement}
+use Rattle.algebra.specs.Tighten.{void, tight, solvable}
+use Rattle.algebra.specs.Cut.{above, below, opposites, oppositesAt, addAt, move, moveConstraint, join, union, joinedDivisions, movedConstraints, both, ends, kept, cutBy, cutTight, cut, cutAll, difference, intersection, complement}
 use Rattle.model.proofs.Count.{ind, count, and-left, and-right, and-make, and-true, to-T, from-T, all-append, count-append, count-filter, all-filter, any-count, count-concat, all-concat}
 use Rattle.model.proofs.Values.{divides, dot-absent, fits}
 use Rattle.algebra.proofs.Joined.{opposites-count, joined, moved-value, map-append, Good}
+use Rattle.algebra.proofs.Tightened.{inequality-solvable, tight-holds, void-none, solvable-count, solvable-in, tight-fit, solvable-formed}
 
 -- ---- well-formed rules
 
@@ -77,6 +79,14 @@ opposites-fit ds r t = at (r .kind)
     at equality = and-make (fits ds r) (fits ds (below r) && true) t (and-make (fits ds (below r)) true (absent-neg (length ds) (r .divisions) t) tt)
     at inequality = and-make (fits ds (below r)) true (absent-neg (length ds) (r .divisions) t) tt
 
+-- tightened, an opposite holds where it held
+opposites-tight : (x q : List ℤ) (r : Constraint) → count (λ (o : Constraint). holds (pos 1) x q (tight o)) (opposites r) ≡ ind (not (holds (pos 1) x q r))
+opposites-tight x q r = at (r .kind) ∙ opposites-count x q r
+  where
+    at : (k : Kind) → count (λ (o : Constraint). holds (pos 1) x q (tight o)) (oppositesAt k r) ≡ count (holds (pos 1) x q) (oppositesAt k r)
+    at equality = ap₂ (λ (a b : Bool). ind a + (ind b + 0)) (tight-holds x q (above r) (inequality-solvable (above r) refl)) (tight-holds x q (below r) (inequality-solvable (below r) refl))
+    at inequality = ap (λ (b : Bool). ind b + 0) (tight-holds x q (below r) (inequality-solvable (below r) refl))
+
 all-snoc : {A : Type 0} (f : A → Bool) (l : List A) (a : A) → T (all f l) → T (f a) → T (all f (l ++ (a ∷ [])))
 all-snoc f l a s t = to-T (all f (l ++ (a ∷ []))) (all-append f l (a ∷ []) ∙ from-T (all f l && (f a && true)) (and-make (all f l) (f a && true) s (and-make (f a) true t tt)))
 
@@ -125,7 +135,11 @@ split false h r = refl
 module _ (keep : BasicSet → Bool) (x : List ℤ) (sound : (b : BasicSet) → T (wellFormed b) → T (inBasic x b) → T (keep b)) where
   module _ (ds : List Division) (dok : T (all divides ds)) where
     with-opposite : List Constraint → Constraint → BasicSet
-    with-opposite w o = record { divisions = ds; constraints = w ++ (o ∷ []) }
+    with-opposite w o = record { divisions = ds; constraints = w ++ (tight o ∷ []) }
+
+    with-formed : (w : List Constraint) → T (all (fits ds) w) → (o : Constraint) → T (fits ds o) → T (wellFormed (with-opposite w o))
+    unfolding with-opposite
+    with-formed w wok o t = and-make (all divides ds) (all (fits ds) (w ++ (tight o ∷ []))) dok (all-snoc (fits ds) w (tight o) wok (tight-fit ds o t))
 
     in-candidate : (w : List Constraint) (o : Constraint) → inConstraints x ds (w ++ (o ∷ [])) ≡ (inConstraints x ds w && holds (pos 1) x (quotients ds x) o)
     in-candidate w o = all-append (holds (pos 1) x (quotients ds x)) w (o ∷ []) ∙ ap (λ (b : Bool). inConstraints x ds w && b) (and-true (holds (pos 1) x (quotients ds x) o))
@@ -135,48 +149,71 @@ module _ (keep : BasicSet → Bool) (x : List ℤ) (sound : (b : BasicSet) → T
     unfolding with-opposite
     kept-count w wok r rok =
         count-filter (inBasic x) keep wellFormed sound (map (with-opposite w) (opposites r))
-        (all-map wellFormed (with-opposite w) (fits ds) (λ o t. and-make (all divides ds) (all (fits ds) (w ++ (o ∷ []))) dok (all-snoc (fits ds) w o wok t)) (opposites r) (opposites-fit ds r rok))
+        (all-map wellFormed (with-opposite w) (fits ds) (with-formed w wok) (opposites r) (opposites-fit ds r rok))
         ∙ count-map (inBasic x) (with-opposite w) (opposites r)
-        ∙ count-and (λ (o : Constraint). inBasic x (with-opposite w o)) (holds (pos 1) x (quotients ds x)) (inConstraints x ds w) (in-candidate w) (opposites r) (not (holds (pos 1) x (quotients ds x) r)) (opposites-count x (quotients ds x) r)
+        ∙ count-and (λ (o : Constraint). inBasic x (with-opposite w o)) (λ (o : Constraint). holds (pos 1) x (quotients ds x) (tight o)) (inConstraints x ds w) (λ o. in-candidate w (tight o)) (opposites r) (not (holds (pos 1) x (quotients ds x) r)) (opposites-tight x (quotients ds x) r)
 
-    -- the working rules after a rule: semantically they have it, whether or not it joined them
-    next-constraints : (w : List Constraint) (r : Constraint) (k : List BasicSet) → count (inBasic x) k ≡ ind (inConstraints x ds w && not (holds (pos 1) x (quotients ds x) r))
-        → inConstraints x ds (cond (isNil k) w (w ++ (r ∷ []))) ≡ (inConstraints x ds w && holds (pos 1) x (quotients ds x) r)
-    next-constraints w r [] e = no-count (inConstraints x ds w) (holds (pos 1) x (quotients ds x) r) e
-    next-constraints w r (b ∷ k) e = in-candidate w r
+    -- the working rules after a rule that does not end the cut: semantically they have it, whether or not it joined them
+    next-constraints : (w : List Constraint) (r : Constraint) (k : List BasicSet) → ends k r ≡ false → count (inBasic x) k ≡ ind (inConstraints x ds w && not (holds (pos 1) x (quotients ds x) r))
+        → inConstraints x ds (cond (isNil k) w (w ++ (tight r ∷ []))) ≡ (inConstraints x ds w && holds (pos 1) x (quotients ds x) r)
+    next-constraints w r [] z e = no-count (inConstraints x ds w) (holds (pos 1) x (quotients ds x) r) e
+    next-constraints w r (b ∷ k) z e = in-candidate w (tight r) ∙ ap (λ (t : Bool). inConstraints x ds w && t) (tight-holds x (quotients ds x) r z)
 
-    next-fit : (w : List Constraint) (r : Constraint) (k : List BasicSet) → T (all (fits ds) w) → T (fits ds r) → T (all (fits ds) (cond (isNil k) w (w ++ (r ∷ []))))
+    next-fit : (w : List Constraint) (r : Constraint) (k : List BasicSet) → T (all (fits ds) w) → T (fits ds r) → T (all (fits ds) (cond (isNil k) w (w ++ (tight r ∷ []))))
     next-fit w r [] s t = s
-    next-fit w r (b ∷ k) s t = all-snoc (fits ds) w r s t
+    next-fit w r (b ∷ k) s t = all-snoc (fits ds) w (tight r) s (tight-fit ds r t)
 
     cutBy-formed : (rs w : List Constraint) → T (all (fits ds) w) → T (all (fits ds) rs) → T (all wellFormed (cutBy keep ds w rs))
     unfolding with-opposite
     cutBy-formed [] w wok rok = tt
     cutBy-formed (r ∷ rs) w wok rok =
         let k : List BasicSet = kept keep ds w (opposites r) in
-        let w′ : List Constraint = cond (isNil k) w (w ++ (r ∷ [])) in
+        let w′ : List Constraint = cond (isNil k) w (w ++ (tight r ∷ [])) in
+        let l : List BasicSet = cond (ends k r) [] (cutBy keep ds w′ rs) in
         let ok : T (fits ds r) = and-left (fits ds r) (all (fits ds) rs) rok in
-        to-T (all wellFormed (k ++ cutBy keep ds w′ rs))
-        (all-append wellFormed k (cutBy keep ds w′ rs)
-        ∙ from-T (all wellFormed k && all wellFormed (cutBy keep ds w′ rs))
-        (and-make (all wellFormed k) (all wellFormed (cutBy keep ds w′ rs))
+        to-T (all wellFormed (k ++ l))
+        (all-append wellFormed k l
+        ∙ from-T (all wellFormed k && all wellFormed l)
+        (and-make (all wellFormed k) (all wellFormed l)
         (all-filter wellFormed keep (map (with-opposite w) (opposites r))
-        (all-map wellFormed (with-opposite w) (fits ds) (λ o t. and-make (all divides ds) (all (fits ds) (w ++ (o ∷ []))) dok (all-snoc (fits ds) w o wok t)) (opposites r) (opposites-fit ds r ok)))
-        (cutBy-formed rs w′ (next-fit w r k wok ok) (and-right (fits ds r) (all (fits ds) rs) rok))))
+        (all-map wellFormed (with-opposite w) (fits ds) (with-formed w wok) (opposites r) (opposites-fit ds r ok)))
+        (ended (ends k r) (cutBy keep ds w′ rs) (cutBy-formed rs w′ (next-fit w r k wok ok) (and-right (fits ds r) (all (fits ds) rs) rok)))))
+      where
+        ended : (b : Bool) (l : List BasicSet) → T (all wellFormed l) → T (all wellFormed (cond b [] l))
+        ended true l t = tt
+        ended false l t = t
 
     pub cutBy-count : (rs w : List Constraint) → T (all (fits ds) w) → T (all (fits ds) rs)
         → count (inBasic x) (cutBy keep ds w rs) ≡ ind (inConstraints x ds w && not (inConstraints x ds rs))
     cutBy-count [] w wok rok = none (inConstraints x ds w)
     cutBy-count (r ∷ rs) w wok rok =
         let k : List BasicSet = kept keep ds w (opposites r) in
-        let h : Bool = holds (pos 1) x (quotients ds x) r in
+        let w′ : List Constraint = cond (isNil k) w (w ++ (tight r ∷ [])) in
         let ok : T (fits ds r) = and-left (fits ds r) (all (fits ds) rs) rok in
-        let e : count (inBasic x) k ≡ ind (inConstraints x ds w && not h) = kept-count w wok r ok in
-        count-append (inBasic x) k (cutBy keep ds (cond (isNil k) w (w ++ (r ∷ []))) rs)
-        ∙ ap₂ _+_ e
-        (cutBy-count rs (cond (isNil k) w (w ++ (r ∷ []))) (next-fit w r k wok ok) (and-right (fits ds r) (all (fits ds) rs) rok)
-        ∙ ap (λ (b : Bool). ind (b && not (inConstraints x ds rs))) (next-constraints w r k e))
-        ∙ split (inConstraints x ds w) h (inConstraints x ds rs)
+        let e : count (inBasic x) k ≡ ind (inConstraints x ds w && not (holds (pos 1) x (quotients ds x) r)) = kept-count w wok r ok in
+        count-append (inBasic x) k (cond (ends k r) [] (cutBy keep ds w′ rs))
+        ∙ ap (λ (n : ℕ). n + count (inBasic x) (cond (ends k r) [] (cutBy keep ds w′ rs))) e
+        ∙ at k e (ends k r) refl (cutBy-count rs w′ (next-fit w r k wok ok) (and-right (fits ds r) (all (fits ds) rs) rok))
+      where
+        h : Bool
+        h = holds (pos 1) x (quotients ds x) r
+
+        void-of : (k : List BasicSet) → ends k r ≡ true → void r ≡ true
+        void-of [] z = let y : _≡_ {A = ℕ} 0 1 = cc in absurd (omega arith)
+        void-of (b ∷ k) z = z
+
+        whole : (w h r : Bool) → h ≡ false → ind (w && not h) + 0 ≡ ind (w && not (h && r))
+        whole true true r e = let y : _≡_ {A = ℕ} 0 1 = cc in absurd (omega arith)
+        whole true false r e = refl
+        whole false h r e = refl
+
+        at : (k : List BasicSet) → count (inBasic x) k ≡ ind (inConstraints x ds w && not h) → (b : Bool) → ends k r ≡ b
+            → count (inBasic x) (cutBy keep ds (cond (isNil k) w (w ++ (tight r ∷ []))) rs) ≡ ind (inConstraints x ds (cond (isNil k) w (w ++ (tight r ∷ []))) && not (inConstraints x ds rs))
+            → ind (inConstraints x ds w && not h) + count (inBasic x) (cond b [] (cutBy keep ds (cond (isNil k) w (w ++ (tight r ∷ []))) rs)) ≡ ind (inConstraints x ds w && not (h && inConstraints x ds rs))
+        at k e true z c = whole (inConstraints x ds w) h (inConstraints x ds rs) (void-none x (quotients ds x) r (void-of k z))
+        at k e false z c =
+            ap (λ (n : ℕ). ind (inConstraints x ds w && not h) + n) (c ∙ ap (λ (b : Bool). ind (b && not (inConstraints x ds rs))) (next-constraints w r k z e))
+            ∙ split (inConstraints x ds w) h (inConstraints x ds rs)
 
 -- ---- joined: A's rules and the moved rules of B say what they said
 
@@ -241,17 +278,34 @@ divisors-of b t = and-left (all divides (b .divisions)) (all (fits (b .divisions
 -- ---- the operations
 
 module _ (keep : BasicSet → Bool) (x : List ℤ) (sound : (b : BasicSet) → T (wellFormed b) → T (inBasic x b) → T (keep b)) where
-  -- the pieces that one cutter leaves: a point of a that is not in c is in exactly one, any other in none
-  pub cut-count : (a c : BasicSet) → T (wellFormed a) → T (wellFormed c) → count (inBasic x) (cut keep a c) ≡ ind (inBasic x a && not (inBasic x c))
-  unfolding difference intersection complement cutAll cut
-  cut-count a c aok cok =
+  cutTight-count : (a c : BasicSet) → T (wellFormed a) → T (wellFormed c) → count (inBasic x) (cutTight keep a c) ≡ ind (inBasic x a && not (inBasic x c))
+  unfolding cutTight
+  cutTight-count a c aok cok =
       cutBy-count keep x sound (joinedDivisions a c) (joined-positive x a c aok (divisors-of c cok)) (movedConstraints a c) (a .constraints) (first-fit x a c aok) (second-fit x a c aok)
       ∙ ap₂ (λ (p q : Bool). ind (p && not q)) (first-in x a c aok) (second-in x a c aok)
 
-  cut-formed : (a c : BasicSet) → T (wellFormed a) → T (wellFormed c) → T (all wellFormed (cut keep a c))
-  unfolding difference intersection complement cutAll cut
-  cut-formed a c aok cok =
+  cutTight-formed : (a c : BasicSet) → T (wellFormed a) → T (wellFormed c) → T (all wellFormed (cutTight keep a c))
+  unfolding cutTight
+  cutTight-formed a c aok cok =
       cutBy-formed keep x sound (joinedDivisions a c) (joined-positive x a c aok (divisors-of c cok)) (movedConstraints a c) (a .constraints) (first-fit x a c aok) (second-fit x a c aok)
+
+  -- the pieces that one cutter leaves: a point of a that is not in c is in exactly one, any other in none
+  pub cut-count : (a c : BasicSet) → T (wellFormed a) → T (wellFormed c) → count (inBasic x) (cut keep a c) ≡ ind (inBasic x a && not (inBasic x c))
+  unfolding cut
+  cut-count a c aok cok =
+      count-concat (inBasic x) (λ (p : BasicSet). cutTight keep p c) (inBasic x) wellFormed (not (inBasic x c)) (λ p ok. cutTight-count p c ok cok) (solvable a) (solvable-formed a aok)
+      ∙ ap (λ (n : ℕ). cond (not (inBasic x c)) n 0) (solvable-count x a)
+      ∙ one (inBasic x a) (inBasic x c)
+    where
+      one : (p q : Bool) → cond (not q) (ind p) 0 ≡ ind (p && not q)
+      one true true = refl
+      one true false = refl
+      one false true = refl
+      one false false = refl
+
+  cut-formed : (a c : BasicSet) → T (wellFormed a) → T (wellFormed c) → T (all wellFormed (cut keep a c))
+  unfolding cut
+  cut-formed a c aok cok = all-concat wellFormed wellFormed (λ (p : BasicSet). cutTight keep p c) (λ p ok. cutTight-formed p c ok cok) (solvable a) (solvable-formed a aok)
 
   -- and after every further cutter
   pub cutAll-count : (cs : List BasicSet) → T (all wellFormed cs) → (a : BasicSet) → T (wellFormed a) → count (inBasic x) (cutAll keep cs a) ≡ ind (inBasic x a && not (inSet x cs))
@@ -322,38 +376,46 @@ any-append f (a ∷ l) m = ap (λ (p : Bool). f a || p) (any-append f l m) ∙ o
     or-assoc true b c = refl
     or-assoc false b c = refl
 
-module _ (keep : BasicSet → Bool) (x : List ℤ) (sound : (b : BasicSet) → T (wellFormed b) → T (inBasic x b) → T (keep b)) where
-  pairs-in : (a : BasicSet) → T (wellFormed a) → (t : Set) → inSet x (map (both a) t) ≡ (inBasic x a && inSet x t)
-  pairs-in a aok [] = sym (false-right (inBasic x a))
-    where
-      false-right : (p : Bool) → (p && false) ≡ false
-      false-right true = refl
-      false-right false = refl
-  pairs-in a aok (b ∷ t) = ap₂ _||_ (both-in keep x sound a b aok) (pairs-in a aok t) ∙ distrib (inBasic x a) (inBasic x b) (inSet x t)
-    where
-      distrib : (p q r : Bool) → (p && q || p && r) ≡ (p && (q || r))
-      distrib true q r = refl
-      distrib false q r = refl
+-- a set whose basic sets, one by one, have the points of another's
+concat-in : (x : List ℤ) (g : BasicSet → List BasicSet) (h : BasicSet → Bool) (ok : BasicSet → Bool) → ((a : BasicSet) → T (ok a) → inSet x (g a) ≡ h a) → (l : List BasicSet) → T (all ok l) → inSet x (concatMap g l) ≡ any h l
+concat-in x g h ok e [] t = refl
+concat-in x g h ok e (a ∷ l) t = any-append (inBasic x) (g a) (concatMap g l) ∙ ap₂ _||_ (e a (and-left (ok a) (all ok l) t)) (concat-in x g h ok e l (and-right (ok a) (all ok l) t))
 
-  all-pairs-in : (s t : Set) → T (all wellFormed s) → inSet x (concatMap (λ (a : BasicSet). map (both a) t) s) ≡ (inSet x s && inSet x t)
-  all-pairs-in [] t sok = refl
-  all-pairs-in (a ∷ s) t sok =
-      any-append (inBasic x) (map (both a) t) (concatMap (λ (a : BasicSet). map (both a) t) s)
-      ∙ ap₂ _||_ (pairs-in a (and-left (wellFormed a) (all wellFormed s) sok) t) (all-pairs-in s t (and-right (wellFormed a) (all wellFormed s) sok))
-      ∙ distrib (inBasic x a) (inSet x s) (inSet x t)
-    where
-      distrib : (p q r : Bool) → (p && r || q && r) ≡ ((p || q) && r)
-      distrib true true true = refl
-      distrib true true false = refl
-      distrib true false true = refl
-      distrib true false false = refl
-      distrib false q r = refl
+any-and : {A : Type 0} (f : A → Bool) (p : Bool) (l : List A) → any (λ (a : A). p && f a) l ≡ (p && any f l)
+any-and f true l = refl
+any-and f false [] = refl
+any-and f false (a ∷ l) = any-and f false l
+
+any-both : {A : Type 0} (f : A → Bool) (p : Bool) (l : List A) → any (λ (a : A). f a && p) l ≡ (any f l && p)
+any-both f p [] = refl
+any-both f p (a ∷ l) = ap (λ (b : Bool). f a && p || b) (any-both f p l) ∙ distrib (f a) (any f l) p
+  where
+    distrib : (p q r : Bool) → (p && r || q && r) ≡ ((p || q) && r)
+    distrib true true true = refl
+    distrib true true false = refl
+    distrib true false true = refl
+    distrib true false false = refl
+    distrib false q r = refl
+
+module _ (keep : BasicSet → Bool) (x : List ℤ) (sound : (b : BasicSet) → T (wellFormed b) → T (inBasic x b) → T (keep b)) where
+  pairs-in : (a : BasicSet) → T (wellFormed a) → (t : Set) → T (all wellFormed t) → inSet x (concatMap (λ (b : BasicSet). solvable (both a b)) t) ≡ (inBasic x a && inSet x t)
+  pairs-in a aok t tok =
+      concat-in x (λ (b : BasicSet). solvable (both a b)) (λ (b : BasicSet). inBasic x a && inBasic x b) wellFormed (λ b bok. solvable-in x (both a b) ∙ both-in keep x sound a b aok) t tok
+      ∙ any-and (inBasic x) (inBasic x a) t
+
+  pairs-formed : (a : BasicSet) → T (wellFormed a) → (t : Set) → T (all wellFormed t) → T (all wellFormed (concatMap (λ (b : BasicSet). solvable (both a b)) t))
+  pairs-formed a aok t tok = all-concat wellFormed wellFormed (λ (b : BasicSet). solvable (both a b)) (λ b bok. solvable-formed (both a b) (both-formed keep x sound a b aok bok)) t tok
 
   pub intersection-in : (s t : Set) → T (all wellFormed s) → T (all wellFormed t) → inSet x (intersection keep s t) ≡ (inSet x s && inSet x t)
-  unfolding difference intersection complement cutAll cut
+  unfolding intersection
   intersection-in s t sok tok =
-      let l : List BasicSet = concatMap (λ (a : BasicSet). map (both a) t) s in
+      let pairs : BasicSet → List BasicSet = λ (a : BasicSet). concatMap (λ (b : BasicSet). solvable (both a b)) t in
+      let first : List BasicSet = concatMap solvable s in
+      let l : List BasicSet = concatMap pairs first in
+      let fok : T (all wellFormed first) = all-concat wellFormed wellFormed solvable solvable-formed s sok in
       any-count (inBasic x) (filter keep l)
-      ∙ ap (ltb 0) (count-filter (inBasic x) keep wellFormed sound l (all-concat wellFormed wellFormed (λ (a : BasicSet). map (both a) t) (λ a aok. all-map wellFormed (both a) wellFormed (λ b bok. both-formed keep x sound a b aok bok) t tok) s sok))
+      ∙ ap (ltb 0) (count-filter (inBasic x) keep wellFormed sound l (all-concat wellFormed wellFormed pairs (λ a aok. pairs-formed a aok t tok) first fok))
       ∙ sym (any-count (inBasic x) l)
-      ∙ all-pairs-in s t sok
+      ∙ concat-in x pairs (λ (a : BasicSet). inBasic x a && inSet x t) wellFormed (λ a aok. pairs-in a aok t tok) first fok
+      ∙ any-both (inBasic x) (inSet x t) first
+      ∙ ap (λ (p : Bool). p && inSet x t) (concat-in x solvable (inBasic x) wellFormed (λ a aok. solvable-in x a) s sok)

@@ -9,7 +9,8 @@ use lib.IntN.{ℤ}
 use lib.ListN.{length, getD, take}
 use Rattle.model.specs.Lists.{all, concatMap}
 use Rattle.model.specs.Sets.{BasicSet, Set, inBasic, wellFormed}
-use Rattle.algebra.specs.Cut.{keeps, cut, cutAll, cutFits, cutAllFits, sizeFits, difference, differenceFits}
+use Rattle.algebra.specs.Tighten.{solvable}
+use Rattle.algebra.specs.Cut.{keeps, cutTight, cut, cutAll, cutTightFits, cutFits, cutAllFits, sizeFits, difference, differenceFits}
 use Rattle.algebra.specs.Levels.{cutEach, cutLevels, cutLevelsFit, differenceByLevels, differenceByLevelsFits}
 use Rattle.model.proofs.Count.{and-left, and-right, and-make, all-append}
 use Rattle.algebra.proofs.Kept.{pieces-disjoint}
@@ -19,7 +20,7 @@ module _ {A B : Type 0} where
   concat-append f [] m = refl
   concat-append f (a ∷ l) m = ap (λ (k : List B). f a ++ k) (concat-append f l m) ∙ sym (append-assoc (f a) (concatMap f l) (concatMap f m))
 
-  all-concat-is : (f : B → Bool) (g : A → List B) (l : List A) → all f (concatMap g l) ≡ all (λ (a : A). all f (g a)) l
+  pub all-concat-is : (f : B → Bool) (g : A → List B) (l : List A) → all f (concatMap g l) ≡ all (λ (a : A). all f (g a)) l
   all-concat-is f g [] = refl
   all-concat-is f g (a ∷ l) = all-append f (g a) (concatMap g l) ∙ ap (λ (b : Bool). all f (g a) && b) (all-concat-is f g l)
 
@@ -33,13 +34,29 @@ all-both f g (a ∷ l) = ap (λ (b : Bool). f a && g a && b) (all-both f g l) �
     swap true false false s = refl
     swap false q r s = refl
 
-concat-concat : {A B C : Type 0} (f : B → List C) (g : A → List B) (l : List A) → concatMap f (concatMap g l) ≡ concatMap (λ (a : A). concatMap f (g a)) l
+pub concat-concat : {A B C : Type 0} (f : B → List C) (g : A → List B) (l : List A) → concatMap f (concatMap g l) ≡ concatMap (λ (a : A). concatMap f (g a)) l
 concat-concat f g [] = refl
 concat-concat f g (a ∷ l) = concat-append f (g a) (concatMap g l) ∙ ap (λ k. concatMap f (g a) ++ k) (concat-concat f g l)
 
 concat-single : {A : Type 0} (l : List A) → concatMap (λ (a : A). a ∷ []) l ≡ l
 concat-single [] = refl
 concat-single (a ∷ l) = ap (λ k. a ∷ k) (concat-single l)
+
+-- a basic set is cut as what tightening makes of it
+module _ (keep : BasicSet → Bool) (c : BasicSet) (cs : List BasicSet) (a : BasicSet) where
+  pub void-cut : solvable a ≡ [] → (cutAll keep (c ∷ cs) a ≡ []) × (cutAllFits keep (c ∷ cs) a ≡ true)
+  unfolding cutAll cut
+  void-cut e = (
+    ap (concatMap (cutAll keep cs)) (ap (concatMap (λ (p : BasicSet). cutTight keep p c)) e),
+    ap₂ _&&_ (ap (all (λ (p : BasicSet). cutTightFits keep p c)) e) (ap (all (cutAllFits keep cs)) (ap (concatMap (λ (p : BasicSet). cutTight keep p c)) e)),
+  )
+
+  pub tightened-cut : (p : BasicSet) → solvable a ≡ solvable p → (cutAll keep (c ∷ cs) a ≡ cutAll keep (c ∷ cs) p) × (cutAllFits keep (c ∷ cs) a ≡ cutAllFits keep (c ∷ cs) p)
+  unfolding cutAll cut
+  tightened-cut p e = (
+    ap (concatMap (cutAll keep cs)) (ap (concatMap (λ (q : BasicSet). cutTight keep q c)) e),
+    ap₂ _&&_ (ap (all (λ (q : BasicSet). cutTightFits keep q c)) e) (ap (all (cutAllFits keep cs)) (ap (concatMap (λ (q : BasicSet). cutTight keep q c)) e)),
+  )
 
 module _ (keep : BasicSet → Bool) where
   pub levels-pieces : (cs ps : List BasicSet) → cutLevels keep cs ps ≡ concatMap (cutAll keep cs) ps

@@ -1,4 +1,5 @@
 pub mod Joined
+pub mod Tightened
 pub mod Cutting
 pub mod Kept
 pub mod Closed
@@ -6,3 +7,4 @@ pub mod Contracts
 pub mod Levels
 pub mod Results
 pub mod Again
+pub mod Dropped

@@ -1,17 +1,19 @@
 -- When an operation on bytes is refused, what it answers otherwise, and the table that it leaves: each refusal in its case only.
-use mathlib.Core.Path.{_≡_, refl, sym, ap, _∙_, subst}
-use mathlib.Core.Bool.{Bool, true, false, not, cond}
-use mathlib.Core.List.{List, []}
+use mathlib.Core.Path.{_≡_, refl, sym, ap, ap₂, _∙_, subst}
+use mathlib.Core.Bool.{Bool, true, false, not, _&&_, cond}
+use mathlib.Core.List.{List, [], _∷_}
 use Prim.Native.Nat.{ℕ, _+_, _-_, _≤_, _<_}
 use native.Mathlib.Omega.{arith}
 use lib.Dec.{T, leb, leb→le, nleb→lt}
 use lib.ListN.{length, take, drop, replicate, length-append, length-replicate}
 use lib.Seq.{take-at, drop-at}
+use Rattle.model.specs.Lists.{all, any, concatMap}
 use Rattle.model.specs.Sets.{BasicSet, Set}
 use Rattle.codec.specs.Bytes.{Answer, refused, gives, encode, decode}
 use Rattle.codec.proofs.Decoded.{no-way}
 use Rattle.model.proofs.Count.{and-true, to-T}
-use Rattle.algebra.specs.Cut.{keeps, cut, cutFits, joinFits, union, unionFits, intersection, intersectionFits, difference, differenceFits, complement, complementFits}
+use Rattle.algebra.specs.Tighten.{void, tightened, solvable}
+use Rattle.algebra.specs.Cut.{keeps, cutTight, cut, cutTightFits, cutFits, joinFits, union, unionFits, intersection, intersectionFits, difference, differenceFits, complement, complementFits}
 use Rattle.algebra.specs.Operations.{result, onOne, onTwo, unionBytes, intersectionBytes, differenceBytes, complementBytes}
 use Rattle.algebra.specs.Result.{tableOf, lengthOf}
 
@@ -117,8 +119,16 @@ table-refused room m = (refl, refl)
 
 module _ (keep : BasicSet → Bool) (a c : BasicSet) (none : c .constraints ≡ []) where
   pub ruleless-cutter : cut keep a c ≡ []
-  unfolding cut
-  ruleless-cutter = rw none
+  unfolding cut cutTight
+  ruleless-cutter = rw none (at (any void (a .constraints)))
+    where
+      at : (v : Bool) → concatMap {A = BasicSet} {B = BasicSet} (λ (p : BasicSet). []) (cond v [] (tightened a ∷ [])) ≡ []
+      at true = refl
+      at false = refl
 
-  pub ruleless-fits : cutFits keep a c ≡ joinFits keep a c
-  ruleless-fits = rw none (and-true (joinFits keep a c))
+  pub ruleless-fits : cutFits keep a c ≡ all (λ (p : BasicSet). joinFits keep p c) (solvable a)
+  ruleless-fits = each (solvable a)
+    where
+      each : (l : List BasicSet) → all (λ (p : BasicSet). cutTightFits keep p c) l ≡ all (λ (p : BasicSet). joinFits keep p c) l
+      each [] = refl
+      each (p ∷ l) = let e : cutTightFits keep p c ≡ joinFits keep p c = rw none (and-true (joinFits keep p c)) in ap₂ _&&_ e (each l)

@@ -9,6 +9,7 @@ use lib.Dec.{leb, eqb}
 use lib.ListN.{length, replicate}
 use Rattle.model.specs.Lists.{all, any, concatMap, filter, isNil}
 use Rattle.model.specs.Sets.{Division, Kind, equality, inequality, Constraint, BasicSet, Set, isZero}
+use Rattle.algebra.specs.Tighten.{void, tight, solvable}
 use Rattle.feasibility.specs.Tableau.{Verdict, point, dropped, long, wide, test}
 
 -- ---- opposites: "The opposite of e ≥ 0 is −e − 1 ≥ 0. An equality e = 0 has two opposites, first e − 1 ≥ 0, then −e − 1 ≥ 0."
@@ -101,22 +102,31 @@ movedConstraints a b = map (moveConstraint (join (a .divisions) (b .divisions) .
 abbrev pub both : BasicSet → BasicSet → BasicSet
 both a b = record { divisions = joinedDivisions a b; constraints = a .constraints ++ movedConstraints a b }
 
+-- "or, joining working rules, it ends the cut with the pieces so far": r joins where it has kept candidates k
+abbrev pub ends : List BasicSet → Constraint → Bool
+ends k r = not (isNil k) && void r
+
 module _ (keep : BasicSet → Bool) where
-  -- the kept candidates of one constraint's opposites os: "working rules, then the opposite", over divisions ds
+  -- the kept candidates of one constraint's opposites os: "working rules, then the opposite", tightened as it joins, over divisions ds
   abbrev pub kept : List Division → List Constraint → List Constraint → List BasicSet
-  kept ds w os = filter keep (map (λ (o : Constraint). record { divisions = ds; constraints = w ++ (o ∷ []) }) os)
+  kept ds w os = filter keep (map (λ (o : Constraint). record { divisions = ds; constraints = w ++ (tight o ∷ []) }) os)
 
   -- "for each rule of the cutter in order, each opposite gives a candidate ..; then the rule joins the working rules unless all its
-  -- candidates were dropped. The pieces are the kept candidates in order." w: the working constraints, then those of the cutter left
+  -- candidates were dropped. The pieces are the kept candidates in order." w: the working constraints, tight, then those of the cutter
+  -- left; what joins is tightened
   abbrev pub cutBy : List Division → List Constraint → List Constraint → List BasicSet
   cutBy ds w [] = []
   cutBy ds w (r ∷ rs) =
       let k : List BasicSet = kept ds w (opposites r) in
-      k ++ cutBy ds (cond (isNil k) w (w ++ (r ∷ []))) rs
+      k ++ cond (ends k r) [] (cutBy ds (cond (isNil k) w (w ++ (tight r ∷ []))) rs)
 
-  -- one cut: the pieces of a that the cutter c leaves; the constraints of a are the first working ones
+  -- one cut of a tight basic set: the pieces of a that the cutter c leaves; the constraints of a are the first working ones
+  unfoldable pub cutTight : BasicSet → BasicSet → List BasicSet
+  cutTight a c = cutBy (joinedDivisions a c) (a .constraints) (movedConstraints a c)
+
+  -- "First sets are tightened before joining"; a piece of an earlier cutter is tight already (proofs/Tightened `tight-tight`)
   unfoldable pub cut : BasicSet → BasicSet → List BasicSet
-  cut a c = cutBy (joinedDivisions a c) (a .constraints) (movedConstraints a c)
+  cut a c = concatMap (λ (p : BasicSet). cutTight p c) (solvable a)
 
   -- each piece is cut by the remaining cutters in turn; no cutters: the basic set stays as it is
   unfoldable pub cutAll : List BasicSet → BasicSet → List BasicSet
@@ -126,9 +136,10 @@ module _ (keep : BasicSet → Bool) where
   unfoldable pub difference : Set → Set → Set
   difference s t = concatMap (cutAll t) s
 
-  -- "for each basic set of the first, each of the second .. Each candidate is tested."
+  -- "for each basic set of the first, each of the second: divisions joined, rules of the first then of the second. Each candidate is
+  -- tested"; the first's rules are tightened before joining, the second's after
   unfoldable pub intersection : Set → Set → Set
-  intersection s t = filter keep (concatMap (λ (a : BasicSet). map (both a) t) s)
+  intersection s t = filter keep (concatMap (λ (a : BasicSet). concatMap (λ (b : BasicSet). solvable (both a b)) t) (concatMap solvable s))
 
   -- "the difference of the rule-less basic set and the set"
   unfoldable pub complement : Set → Set
@@ -144,10 +155,14 @@ module _ (keep : BasicSet → Bool) where
   candidatesFit ds w [] = true
   candidatesFit ds w (r ∷ rs) =
       let k : List BasicSet = kept ds w (opposites r) in
-      leb (length w + 1) 48 && candidatesFit ds (cond (isNil k) w (w ++ (r ∷ []))) rs
+      leb (length w + 1) 48 && cond (ends k r) true (candidatesFit ds (cond (isNil k) w (w ++ (tight r ∷ []))) rs)
 
+  abbrev pub cutTightFits : BasicSet → BasicSet → Bool
+  cutTightFits a c = joinFits a c && candidatesFit (joinedDivisions a c) (a .constraints) (movedConstraints a c)
+
+  -- "First sets are tightened before joining, the rest after 10's join and candidate limits": a void first basic set is over no limit
   abbrev pub cutFits : BasicSet → BasicSet → Bool
-  cutFits a c = joinFits a c && candidatesFit (joinedDivisions a c) (a .constraints) (movedConstraints a c)
+  cutFits a c = all (λ (p : BasicSet). cutTightFits p c) (solvable a)
 
   abbrev pub cutAllFits : List BasicSet → BasicSet → Bool
   cutAllFits [] a = true
@@ -166,7 +181,7 @@ module _ (keep : BasicSet → Bool) where
   bothFits a b = joinFits a b && leb (length (a .constraints) + length (b .constraints)) 48
 
   abbrev pub intersectionFits : Set → Set → Bool
-  intersectionFits s t = all (λ (a : BasicSet). all (bothFits a) t) s && sizeFits (intersection s t)
+  intersectionFits s t = all (λ (a : BasicSet). all (bothFits a) t) (concatMap solvable s) && sizeFits (intersection s t)
 
   abbrev pub complementFits : Set → Bool
   complementFits s = differenceFits (record { divisions = []; constraints = [] } ∷ []) s

@@ -1,3 +1,4 @@
+pub mod Tighten
 pub mod Cut
 pub mod Operations
 pub mod Result
