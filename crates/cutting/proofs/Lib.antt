@@ -1,3 +1,3 @@
 pub mod Steps
 pub mod Turns
-pub mod Catching
+pub mod Following

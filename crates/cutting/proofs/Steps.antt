@@ -1,50 +1,39 @@
 -- A cut step by step: the constraints that joined, and the steps from which its pieces are made.
 use mathlib.Core.Path.{_≡_, refl, sym, ap, ap₂, _∙_, subst}
-use mathlib.Core.Bool.{Bool, true, false, _&&_, _||_, cond}
+use mathlib.Core.Bool.{Bool, true, false, not, _&&_, _||_, cond}
 use mathlib.Core.List.{List, [], _∷_, _++_, map, append-assoc, append-nil}
-use Prim.Native.Nat.{ℕ, zero, suc, _+_, _-_, _/_, _%_, _≤_, _<_}
+use Prim.Native.Nat.{ℕ, zero, suc, _+_, _/_, _%_, _≤_, _<_}
 use native.Mathlib.Nat.{le-refl, add-zero}
 use native.Mathlib.Numerals.{add-one}
 use native.Mathlib.Omega.{arith}
 use borrow.Author.Tests.{eq-eqb, ne-eqb, le-leb, lt-leb}
-use lib.Dec.{T, leb, eqb}
+use lib.Dec.{eqb}
 use lib.ListN.{length, take, drop, getD, set, length-append, length-set, drop-of-length-le, List·getD-append}
-use lib.Seq.{drop-cons, take-append-le, take-append-seam, take-take, getD-append-seam, take-suc-set, take-set-le}
+use lib.Seq.{drop-cons, take-append-le, take-append-seam, getD-append-seam, take-suc-set, take-set-le}
 use Rattle.model.specs.Lists.{consIf, isNil}
 use Rattle.model.specs.Sets.{Division, Kind, equality, inequality, Constraint, BasicSet}
 use Rattle.model.specs.Values.{constraintOf}
 use Rattle.model.specs.declared.Constraint.{Constraint as StoredConstraint}
-use Rattle.codec.specs.Bytes.{constantFits}
 use Rattle.codec.proofs.Valid.{All, all-app, ValidConstraint}
 use Rattle.integers.specs.Mach.{clash}
-use Rattle.algebra.specs.Cut.{above, below, opposites, oppositesAt, kept, cutBy, candidatesFit}
-use lib.IntN.{ℤ}
-use Rattle.joining.specs.Joining.{Below, Above}
-use Rattle.cutting.specs.Cutting.{Tables, withLast, candidate, isEquality, noRule, pieceOf, Step, stepsAt}
-use Rattle.joining.proofs.Placing.{map-take, map-pushed, noConstraint}
-
--- ---- a constraint put behind the first ones
-
-pub put-is : (cs : List StoredConstraint) (cons at : ℕ) (r : StoredConstraint) → at ≤ cons → at < length cs
-    → map constraintOf (take (at + 1) (set cs at r)) ≡ take at (map constraintOf (take cons cs)) ++ (constraintOf r ∷ [])
-put-is cs cons at r h g =
-    map-pushed constraintOf noConstraint cs at r g
-    ∙ ap (λ (l : List Constraint). l ++ (constraintOf r ∷ [])) (ap (map constraintOf) (sym (take-take at cons cs h)) ∙ map-take constraintOf noConstraint at (take cons cs))
-
-pub below-of : {n k : ℕ} {r : Constraint} → ValidConstraint n k r → Below r
-below-of v = record { axes = v .axes; divisions = v .divisions }
-
-pub above-of : {n k : ℕ} {r : Constraint} → r .kind ≡ equality → ValidConstraint n k r → Above r
-above-of {n} {k} {r} e v = record { constant = subst (λ (q : Kind). T (constantFits q (r .constant))) e (v .constant) }
-
-pub tables-kept : {rows rows′ : List (List ℤ)} {place place′ kinds kinds′ : List ℕ} → Tables rows place kinds → length rows′ ≡ length rows → length place′ ≡ length place → length kinds′ ≡ length kinds → Tables rows′ place′ kinds′
-tables-kept t p q r = record { high = p ∙ t .high; long = q ∙ t .long; wide = r ∙ t .wide }
+use Rattle.algebra.specs.Tighten.{void, tight}
+use Rattle.algebra.specs.Cut.{above, below, opposites, oppositesAt, ends, kept, cutBy, candidatesFit}
+use Rattle.joining.specs.Joining.{reducedOf}
+use Rattle.candidates.specs.Candidates.{withLast, candidate, isEquality, noRule}
+use Rattle.cutting.specs.Cutting.{pieceOf, Step, stepsAt}
+use Rattle.joining.proofs.Placing.{map-pushed, noConstraint}
+use Rattle.joining.proofs.Dividing.{reduced-kind, reduced-below, reduced-above, reduced-tight, reduced-valid}
 
 -- ---- what a turn stores
 
 pub bit-small : (b : Bool) → cond b 1 0 ≤ 1
 bit-small true = omega arith
 bit-small false = omega arith
+
+-- the next constraint is a later one, at most the end
+pub passed-on : (b : Bool) (k n m : ℕ) → k < n → m ≡ cond b n (k + 1) → (k < m) × (m ≤ n)
+passed-on true k n m h e = (omega arith, omega arith)
+passed-on false k n m h e = (omega arith, omega arith)
 
 -- one step each for those that are kept
 pub steps-stored : (l : List ℕ) (n u v : ℕ) (a b : Bool) → n + 1 < length l → take (n + cond a 1 0 + cond b 1 0) (set (set l n u) (n + cond a 1 0) v) ≡ take n l ++ (cond a (u ∷ []) [] ++ cond b (v ∷ []) [])
@@ -82,8 +71,8 @@ module _ (ds : List Division) where
 
   -- the kept candidates, from what is kept of each
   module _ (keep : BasicSet → Bool) (w : List Constraint) (r : Constraint) (a b : Bool)
-      (p : a ≡ isEquality (r .kind) && keep (candidate (over w) (above r))) (q : b ≡ keep (candidate (over w) (below r))) where
-    pub kept-is : kept keep ds w (opposites r) ≡ two a b (candidate (over w) (above r)) (candidate (over w) (below r))
+      (p : a ≡ isEquality (r .kind) && keep (candidate (over w) (tight (above r)))) (q : b ≡ keep (candidate (over w) (tight (below r)))) where
+    pub kept-is : kept keep ds w (opposites r) ≡ two a b (candidate (over w) (tight (above r))) (candidate (over w) (tight (below r)))
     kept-is = at (r .kind) p
       where
         ends : (c : Bool) (y : BasicSet) → consIf c y [] ≡ cond c (y ∷ []) []
@@ -94,26 +83,35 @@ module _ (ds : List Division) where
         then true x l = refl
         then false x l = refl
 
-        at : (k : Kind) → a ≡ isEquality k && keep (candidate (over w) (above r)) → kept keep ds w (oppositesAt k r) ≡ two a b (candidate (over w) (above r)) (candidate (over w) (below r))
+        at : (k : Kind) → a ≡ isEquality k && keep (candidate (over w) (tight (above r))) → kept keep ds w (oppositesAt k r) ≡ two a b (candidate (over w) (tight (above r))) (candidate (over w) (tight (below r)))
         at equality p =
-            then (keep (candidate (over w) (above r))) (candidate (over w) (above r)) (consIf (keep (candidate (over w) (below r))) (candidate (over w) (below r)) [])
-            ∙ ap₂ (λ (c : Bool) (l : List BasicSet). cond c (candidate (over w) (above r) ∷ []) [] ++ l) (sym p) (ends (keep (candidate (over w) (below r))) (candidate (over w) (below r)) ∙ ap (λ (c : Bool). cond c (candidate (over w) (below r) ∷ []) []) (sym q))
+            then (keep (candidate (over w) (tight (above r)))) (candidate (over w) (tight (above r))) (consIf (keep (candidate (over w) (tight (below r)))) (candidate (over w) (tight (below r))) [])
+            ∙ ap₂ (λ (c : Bool) (l : List BasicSet). cond c (candidate (over w) (tight (above r)) ∷ []) [] ++ l) (sym p) (ends (keep (candidate (over w) (tight (below r)))) (candidate (over w) (tight (below r))) ∙ ap (λ (c : Bool). cond c (candidate (over w) (tight (below r)) ∷ []) []) (sym q))
         at inequality p =
-            ends (keep (candidate (over w) (below r))) (candidate (over w) (below r))
-            ∙ ap₂ (λ (c d : Bool). cond c (candidate (over w) (above r) ∷ []) [] ++ cond d (candidate (over w) (below r) ∷ []) []) (sym p) (sym q)
+            ends (keep (candidate (over w) (tight (below r)))) (candidate (over w) (tight (below r)))
+            ∙ ap₂ (λ (c d : Bool). cond c (candidate (over w) (tight (above r)) ∷ []) [] ++ cond d (candidate (over w) (tight (below r)) ∷ []) []) (sym p) (sym q)
 
     nil-two : (c d : Bool) (x y : BasicSet) (u v : List Constraint) → cond (isNil (two c d x y)) u v ≡ cond (c || d) v u
     nil-two true d x y u v = refl
     nil-two false true x y u v = refl
     nil-two false false x y u v = refl
 
-    pub working-is : cond (isNil (kept keep ds w (opposites r))) w (w ++ (r ∷ [])) ≡ cond (a || b) (w ++ (r ∷ [])) w
-    working-is = ap (λ (l : List BasicSet). cond (isNil l) w (w ++ (r ∷ []))) kept-is ∙ nil-two a b (candidate (over w) (above r)) (candidate (over w) (below r)) w (w ++ (r ∷ []))
+    pub working-is : cond (isNil (kept keep ds w (opposites r))) w (w ++ (tight r ∷ [])) ≡ cond (a || b) (w ++ (tight r ∷ [])) w
+    working-is = ap (λ (l : List BasicSet). cond (isNil l) w (w ++ (tight r ∷ []))) kept-is ∙ nil-two a b (candidate (over w) (tight (above r))) (candidate (over w) (tight (below r))) w (w ++ (tight r ∷ []))
+
+    some-two : (c d : Bool) (x y : BasicSet) → not (isNil (two c d x y)) ≡ (c || d)
+    some-two true d x y = refl
+    some-two false true x y = refl
+    some-two false false x y = refl
+
+    -- whether it ends the cut
+    pub ends-is : ends (kept keep ds w (opposites r)) r ≡ ((a || b) && void r)
+    ends-is = ap (λ (c : Bool). c && void r) (ap (λ (l : List BasicSet). not (isNil l)) kept-is ∙ some-two a b (candidate (over w) (tight (above r))) (candidate (over w) (tight (below r))))
 
     pub above-equal : a ≡ true → r .kind ≡ equality
     above-equal t = at (r .kind) refl p
       where
-        at : (k : Kind) → r .kind ≡ k → a ≡ isEquality k && keep (candidate (over w) (above r)) → r .kind ≡ equality
+        at : (k : Kind) → r .kind ≡ k → a ≡ isEquality k && keep (candidate (over w) (tight (above r))) → r .kind ≡ equality
         at equality e p = e
         at inequality e p = clash t p
 
@@ -128,21 +126,21 @@ module _ (ds : List Division) where
         ap (λ (k : ℕ). withLast (over (w ++ (r ∷ []))) k (o (getD (w ++ (r ∷ [])) k noRule) (getD (w ++ (r ∷ [])) k noRule))) e
         ∙ ap₂ (λ (l : List Constraint) (x : Constraint). record { divisions = ds; constraints = l ++ (o x x ∷ []) }) (take-append-seam w (r ∷ [])) (getD-append-seam w r [] noRule)
 
-    odd-piece : pieceOf (over (w ++ (r ∷ []))) (length w + length w + 1) ≡ candidate (over w) (above r)
+    odd-piece : pieceOf (over (w ++ (r ∷ []))) (length w + length w + 1) ≡ candidate (over w) (tight (above r))
     odd-piece =
         let h : (length w + length w + 1) / 2 ≡ length w = omega arith in
         let m : (length w + length w + 1) % 2 ≡ 1 = omega arith in
-        seam (length w + length w + 1) h (λ x y. cond (eqb ((length w + length w + 1) % 2) 1) (above x) (below y))
-        ∙ ap (λ (c : Bool). candidate (over w) (cond c (above r) (below r))) (eq-eqb ((length w + length w + 1) % 2) 1 m)
+        seam (length w + length w + 1) h (λ x y. cond (eqb ((length w + length w + 1) % 2) 1) (tight (above x)) (tight (below y)))
+        ∙ ap (λ (c : Bool). candidate (over w) (cond c (tight (above r)) (tight (below r)))) (eq-eqb ((length w + length w + 1) % 2) 1 m)
 
-    even-piece : pieceOf (over (w ++ (r ∷ []))) (length w + length w + 0) ≡ candidate (over w) (below r)
+    even-piece : pieceOf (over (w ++ (r ∷ []))) (length w + length w + 0) ≡ candidate (over w) (tight (below r))
     even-piece =
         let h : (length w + length w + 0) / 2 ≡ length w = omega arith in
         let m : (length w + length w + 0) % 2 ≡ 1 → ⊥ = λ e. omega arith in
-        seam (length w + length w + 0) h (λ x y. cond (eqb ((length w + length w + 0) % 2) 1) (above x) (below y))
-        ∙ ap (λ (c : Bool). candidate (over w) (cond c (above r) (below r))) (ne-eqb ((length w + length w + 0) % 2) 1 m)
+        seam (length w + length w + 0) h (λ x y. cond (eqb ((length w + length w + 0) % 2) 1) (tight (above x)) (tight (below y)))
+        ∙ ap (λ (c : Bool). candidate (over w) (cond c (tight (above r)) (tight (below r)))) (ne-eqb ((length w + length w + 0) % 2) 1 m)
 
-    new-pieces : (a b : Bool) → map (pieceOf (over (cond (a || b) (w ++ (r ∷ [])) w))) (stepsAt (length w) a b) ≡ two a b (candidate (over w) (above r)) (candidate (over w) (below r))
+    new-pieces : (a b : Bool) → map (pieceOf (over (cond (a || b) (w ++ (r ∷ [])) w))) (stepsAt (length w) a b) ≡ two a b (candidate (over w) (tight (above r))) (candidate (over w) (tight (below r)))
     new-pieces true true = ap₂ (λ (x y : BasicSet). x ∷ y ∷ []) odd-piece even-piece
     new-pieces true false = ap (λ (x : BasicSet). x ∷ []) odd-piece
     new-pieces false true = ap (λ (x : BasicSet). x ∷ []) even-piece
@@ -150,7 +148,7 @@ module _ (ds : List Division) where
 
     old-piece : (v : ℕ) → v / 2 < length w → pieceOf (over (w ++ (r ∷ []))) v ≡ pieceOf (over w) v
     old-piece v h =
-        ap₂ (λ (l : List Constraint) (x : Constraint). record { divisions = ds; constraints = l ++ (cond (eqb (v % 2) 1) (above x) (below x) ∷ []) })
+        ap₂ (λ (l : List Constraint) (x : Constraint). record { divisions = ds; constraints = l ++ (cond (eqb (v % 2) 1) (tight (above x)) (tight (below x)) ∷ []) })
         (take-append-le (v / 2) w (r ∷ []) (omega arith)) (List·getD-append w (r ∷ []) noRule (v / 2) h)
 
     old-pieces : (vs : List ℕ) → All (Step w) vs → map (pieceOf (over (w ++ (r ∷ [])))) vs ≡ map (pieceOf (over w)) vs
@@ -219,47 +217,92 @@ module _ (keep : BasicSet → Bool) (ds : List Division) (w₀ rs : List Constra
   carved-full h g =
       let l : 48 < length w + 1 = omega arith in
       sym (c .fits) ∙ ap (candidatesFit keep ds w) (drop-cons rs k noRule h)
-      ∙ ap (λ (b : Bool). b && candidatesFit keep ds (cond (isNil (kept keep ds w (opposites (getD rs k noRule)))) w (w ++ (getD rs k noRule ∷ []))) (drop (suc k) rs)) (lt-leb (length w + 1) 48 l)
+      ∙ ap (λ (b : Bool). b && cond (ends (kept keep ds w (opposites (getD rs k noRule))) (getD rs k noRule)) true (candidatesFit keep ds (cond (isNil (kept keep ds w (opposites (getD rs k noRule)))) w (w ++ (tight (getD rs k noRule) ∷ []))) (drop (suc k) rs))) (lt-leb (length w + 1) 48 l)
 
-  module _ (h : k < length rs) (room : length w < 48) (r : Constraint) (is : getD rs k noRule ≡ r) (a b : Bool)
-      (p : a ≡ isEquality (r .kind) && keep (candidate (over ds w) (above r))) (q : b ≡ keep (candidate (over ds w) (below r))) where
+  -- the next constraint r of the cutter, stored as it joins, with a and b what is kept of the stored one's opposites
+  module _ (h : k < length rs) (room : length w < 48) (r s : Constraint) (is : getD rs k noRule ≡ r) (joining-rule : s ≡ reducedOf r) (a b : Bool)
+      (p : a ≡ isEquality (s .kind) && keep (candidate (over ds w) (tight (above s)))) (q : b ≡ keep (candidate (over ds w) (tight (below s)))) where
     here : drop k rs ≡ r ∷ drop (k + 1) rs
     here = rw (add-one) (drop-cons rs k noRule h ∙ ap (λ (x : Constraint). x ∷ drop (suc k) rs) is)
 
-    pub carved-next : Carved keep ds w₀ rs (k + 1) (cond (a || b) (w ++ (r ∷ [])) w) (vs ++ stepsAt (length w) a b)
-    carved-next =
-        let w′ : List Constraint = cond (a || b) (w ++ (r ∷ [])) w in
-        let l : length w + 1 ≤ 48 = omega arith in
-        record {
-          pieces =
-              ap (λ (x : List BasicSet). x ++ cutBy keep ds w′ (drop (k + 1) rs))
-              (map-both (pieceOf (over ds w′)) vs (stepsAt (length w) a b) ∙ ap₂ (λ (x y : List BasicSet). x ++ y) (kept-pieces ds w r (a || b) vs (c .steps)) (new-pieces ds w r a b))
-              ∙ append-assoc (map (pieceOf (over ds w)) vs) (two ds a b (candidate (over ds w) (above r)) (candidate (over ds w) (below r))) (cutBy keep ds w′ (drop (k + 1) rs))
-              ∙ ap (λ (x : List BasicSet). map (pieceOf (over ds w)) vs ++ x)
-              (ap₂ (λ (x : List BasicSet) (y : List Constraint). x ++ cutBy keep ds y (drop (k + 1) rs)) (sym (kept-is ds keep w r a b p q)) (sym (working-is ds keep w r a b p q))
-              ∙ ap (cutBy keep ds w) (sym here))
-              ∙ c .pieces;
-          fits =
-              sym (ap (λ (x : Bool). x && candidatesFit keep ds w′ (drop (k + 1) rs)) (le-leb (length w + 1) 48 l))
-              ∙ ap (λ (y : List Constraint). leb (length w + 1) 48 && candidatesFit keep ds y (drop (k + 1) rs)) (sym (working-is ds keep w r a b p q))
-              ∙ ap (candidatesFit keep ds w) (sym here)
-              ∙ c .fits;
-          steps = all-app (Step w′) vs (stepsAt (length w) a b) (steps-more (a || b) w r vs (c .steps)) (steps-new w r a b (above-equal ds keep w r a b p q));
-          every = λ n d x y. every-more (ValidConstraint n d) (c .every n d x y) y (a || b);
-        }
+    kind-is : s .kind ≡ r .kind
+    kind-is = ap (λ (x : Constraint). x .kind) joining-rule ∙ reduced-kind r
+
+    below-is : tight (below s) ≡ tight (below r)
+    below-is = ap (λ (x : Constraint). tight (below x)) joining-rule ∙ reduced-below r
+
+    above-is : r .kind ≡ equality → tight (above s) ≡ tight (above r)
+    above-is e = ap (λ (x : Constraint). tight (above x)) joining-rule ∙ reduced-above r e
+
+    p-raw : a ≡ isEquality (r .kind) && keep (candidate (over ds w) (tight (above r)))
+    p-raw = p ∙ ap (λ (k : Kind). isEquality k && keep (candidate (over ds w) (tight (above s)))) kind-is ∙ at (r .kind) above-is
       where
-        map-both : (f : ℕ → BasicSet) (l m : List ℕ) → map f (l ++ m) ≡ map f l ++ map f m
-        map-both f [] m = refl
-        map-both f (x ∷ l) m = ap (λ (z : List BasicSet). f x ∷ z) (map-both f l m)
+        at : (k : Kind) → (k ≡ equality → tight (above s) ≡ tight (above r)) → (isEquality k && keep (candidate (over ds w) (tight (above s)))) ≡ (isEquality k && keep (candidate (over ds w) (tight (above r))))
+        at equality f = ap (λ (x : Constraint). keep (candidate (over ds w) x)) (f refl)
+        at inequality f = refl
 
-        last : (P : Constraint → Type 0) (j : ℕ) (l : List Constraint) → All P l → All P (drop j l)
-        last P zero l p = p
-        last P (suc j) [] p = p
-        last P (suc j) (x ∷ l) p = last P j l (p .1)
+    q-raw : b ≡ keep (candidate (over ds w) (tight (below r)))
+    q-raw = q ∙ ap (λ (x : Constraint). keep (candidate (over ds w) x)) below-is
 
-        every-more : (P : Constraint → Type 0) → All P w → All P rs → (t : Bool) → All P (cond t (w ++ (r ∷ [])) w)
-        every-more P x y false = x
-        every-more P x y true = all-app P w (r ∷ []) x (subst (All P) here (last P k rs y) .0, tt)
+    equal : a ≡ true → r .kind ≡ equality
+    equal = above-equal ds keep w r a b p-raw q-raw
+
+    -- the pieces made from the stored constraint are the candidates
+    same-two : two ds a b (candidate (over ds w) (tight (above s))) (candidate (over ds w) (tight (below s))) ≡ two ds a b (candidate (over ds w) (tight (above r))) (candidate (over ds w) (tight (below r)))
+    same-two = at a equal ∙ ap (λ (x : Constraint). two ds a b (candidate (over ds w) (tight (above r))) (candidate (over ds w) x)) below-is
+      where
+        at : (c : Bool) → (c ≡ true → r .kind ≡ equality) → two ds c b (candidate (over ds w) (tight (above s))) (candidate (over ds w) (tight (below s))) ≡ two ds c b (candidate (over ds w) (tight (above r))) (candidate (over ds w) (tight (below s)))
+        at true f = ap (λ (x : Constraint). two ds true b (candidate (over ds w) x) (candidate (over ds w) (tight (below s)))) (above-is (f refl))
+        at false f = refl
+
+    module _ (k′ : ℕ) (to : k′ ≡ cond ((a || b) && void r) (length rs) (k + 1)) where
+      -- a function of the working constraints and the constraints left, where none are left
+      left-is : {X : Type 0} (f : List Constraint → List Constraint → X) (x : X) → ((l : List Constraint) → f l [] ≡ x)
+          → f (cond (a || b) (w ++ (s ∷ [])) w) (drop k′ rs) ≡ cond (ends (kept keep ds w (opposites r)) r) x (f (cond (isNil (kept keep ds w (opposites r))) w (w ++ (tight r ∷ []))) (drop (k + 1) rs))
+      left-is f x z =
+          ap (λ (n : ℕ). f (cond (a || b) (w ++ (s ∷ [])) w) (drop n rs)) to ∙ at (a || b) (void r) refl
+          ∙ sym (ap₂ (λ (c : Bool) (l : List Constraint). cond c x (f l (drop (k + 1) rs))) (ends-is ds keep w r a b p-raw q-raw) (working-is ds keep w r a b p-raw q-raw))
+        where
+          at : (c d : Bool) → void r ≡ d → f (cond c (w ++ (s ∷ [])) w) (drop (cond (c && d) (length rs) (k + 1)) rs) ≡ cond (c && d) x (f (cond c (w ++ (tight r ∷ [])) w) (drop (k + 1) rs))
+          at true true e = ap (f (w ++ (s ∷ []))) (drop-of-length-le rs (le-refl (length rs))) ∙ z (w ++ (s ∷ []))
+          at true false e = ap (λ (y : Constraint). f (w ++ (y ∷ [])) (drop (k + 1) rs)) (joining-rule ∙ reduced-tight r e)
+          at false d e = refl
+
+      pub carved-next : Carved keep ds w₀ rs k′ (cond (a || b) (w ++ (s ∷ [])) w) (vs ++ stepsAt (length w) a b)
+      carved-next =
+          let w′ : List Constraint = cond (a || b) (w ++ (s ∷ [])) w in
+          let l : length w + 1 ≤ 48 = omega arith in
+          let K : List BasicSet = two ds a b (candidate (over ds w) (tight (above r))) (candidate (over ds w) (tight (below r))) in
+          record {
+            pieces =
+                ap (λ (x : List BasicSet). x ++ cutBy keep ds w′ (drop k′ rs))
+                (map-both (pieceOf (over ds w′)) vs (stepsAt (length w) a b) ∙ ap₂ (λ (x y : List BasicSet). x ++ y) (kept-pieces ds w s (a || b) vs (c .steps)) (new-pieces ds w s a b ∙ same-two))
+                ∙ append-assoc (map (pieceOf (over ds w)) vs) K (cutBy keep ds w′ (drop k′ rs))
+                ∙ ap (λ (x : List BasicSet). map (pieceOf (over ds w)) vs ++ x)
+                (ap₂ (λ (x y : List BasicSet). x ++ y) (sym (kept-is ds keep w r a b p-raw q-raw)) (left-is (cutBy keep ds) [] (λ l. refl))
+                ∙ ap (cutBy keep ds w) (sym here))
+                ∙ c .pieces;
+            fits =
+                left-is (candidatesFit keep ds) true (λ l. refl)
+                ∙ sym (ap (λ (x : Bool). x && cond (ends (kept keep ds w (opposites r)) r) true (candidatesFit keep ds (cond (isNil (kept keep ds w (opposites r))) w (w ++ (tight r ∷ []))) (drop (k + 1) rs))) (le-leb (length w + 1) 48 l))
+                ∙ ap (candidatesFit keep ds w) (sym here)
+                ∙ c .fits;
+            steps = all-app (Step w′) vs (stepsAt (length w) a b) (steps-more (a || b) w s vs (c .steps)) (steps-new w s a b (λ t. kind-is ∙ equal t));
+            every = λ n d x y. every-more n d (c .every n d x y) y (a || b);
+          }
+        where
+          map-both : (f : ℕ → BasicSet) (l m : List ℕ) → map f (l ++ m) ≡ map f l ++ map f m
+          map-both f [] m = refl
+          map-both f (x ∷ l) m = ap (λ (z : List BasicSet). f x ∷ z) (map-both f l m)
+
+          last : (P : Constraint → Type 0) (j : ℕ) (l : List Constraint) → All P l → All P (drop j l)
+          last P zero l p = p
+          last P (suc j) [] p = p
+          last P (suc j) (x ∷ l) p = last P j l (p .1)
+
+          every-more : (n d : ℕ) → All (ValidConstraint n d) w → All (ValidConstraint n d) rs → (t : Bool) → All (ValidConstraint n d) (cond t (w ++ (s ∷ [])) w)
+          every-more n d x y false = x
+          every-more n d x y true = all-app (ValidConstraint n d) w (s ∷ []) x (subst (ValidConstraint n d) (sym joining-rule) (reduced-valid n d r (subst (All (ValidConstraint n d)) here (last (ValidConstraint n d) k rs y) .0)), tt)
 
   pub carved-end : length rs ≤ k → (map (pieceOf (over ds w)) vs ≡ cutBy keep ds w₀ rs) × (candidatesFit keep ds w₀ rs ≡ true)
   carved-end h =

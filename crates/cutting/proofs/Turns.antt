@@ -2,8 +2,8 @@
 use mathlib.Core.Path.{_≡_, refl, sym, ap, ap₂, _∙_, subst}
 use mathlib.Core.Bool.{Bool, true, false, _&&_, _||_, cond}
 use mathlib.Core.List.{List, [], _∷_, _++_, map, append-assoc, append-nil}
-use Prim.Native.Nat.{ℕ, zero, suc, _+_, _≤_, _<_, zero-le}
-use native.Mathlib.Nat.{le-of-suc-le-suc, not-suc-le-zero, add-zero}
+use Prim.Native.Nat.{ℕ, _+_, _≤_, _<_, zero-le}
+use native.Mathlib.Nat.{add-zero}
 use native.Mathlib.Omega.{arith}
 use native.Mathlib.Numerals.{add-one}
 use lib.Dec.{leb}
@@ -11,6 +11,9 @@ use lib.IntN.{ℤ}
 use lib.ListN.{length, take, getD, set, length-map, length-append, length-set}
 use lib.Seq.{length-take-le, getD-take, take-suc, take-all}
 use borrow.Author.Tests.{leb-true, le-leb, lt-leb}
+use Rattle.model.specs.Lists.{all, concatMap}
+use Rattle.model.proofs.Lists.{map-get}
+use Rattle.model.proofs.Count.{and-true}
 use Rattle.model.specs.Sets as S
 use Rattle.model.specs.Sets.{Division, Constraint, BasicSet}
 use Rattle.model.specs.Values.{divisionOf, constraintOf, basicSetOf}
@@ -19,14 +22,18 @@ use Rattle.model.specs.declared.Constraint.{Constraint as StoredConstraint}
 use Rattle.model.specs.declared.BasicSet.{BasicSet as Stored}
 use Rattle.codec.proofs.Valid.{All, ValidDivision, ValidConstraint, Valid}
 use Rattle.integers.specs.Mach.{clash}
-use Rattle.algebra.specs.Cut.{above, below, join, cutBy, joinedDivisions, movedConstraints, moveConstraint, keeps, cut, cutFits, candidatesFit}
+use Rattle.algebra.specs.Tighten.{void, tight}
+use Rattle.algebra.proofs.Tightened.{tight-solvable}
+use Rattle.algebra.specs.Cut.{above, below, join, cutBy, joinedDivisions, movedConstraints, moveConstraint, keeps, cutTight, cut, cutTightFits, candidatesFit}
 use Rattle.cutting.specs.declared.pieces.CutSteps.{CutSteps}
 use Rattle.joining.specs.declared.divisions.Joined.{Joined}
-use Rattle.cutting.specs.declared.candidates.Survivors.{Survivors}
-use Rattle.joining.specs.Joining.{Joining, Placed}
-use Rattle.cutting.specs.Cutting.{noRule, candidate, isEquality, pieceOf, stepsAt, Begun, Extending, Keeping, Pair, CutIs, BothIs}
+use Rattle.candidates.specs.declared.survivors.Survivors.{Survivors}
+use Rattle.joining.specs.Joining.{Joining, Placed, reducedOf, Settled}
+use Rattle.candidates.specs.Candidates.{noRule, candidate, isEquality, Keeping}
+use Rattle.cutting.specs.Cutting.{pieceOf, stepsAt, Begun, Extending, Pair, CutIs, CutTightIs, BothIs}
 use Rattle.joining.proofs.Placing.{noConstraint, All-at, map-pushed}
-use Rattle.algebra.proofs.Closed.{joined-valid, first-valid, second-valid}
+use Rattle.joining.proofs.Dividing.{void-reduced, reduced-valid, reduced-settled}
+use Rattle.algebra.proofs.Closed.{Tight, joined-valid, first-valid, second-valid}
 use Rattle.cutting.proofs.Steps.{bit-small, Carved, carved-start, carved-full, carved-next, carved-end}
 
 -- the cutter's constraints, moved
@@ -55,6 +62,7 @@ gathered-next w rs cons k cs g h l r e =
 pub record Turning (s : CutSteps) (r : StoredConstraint) : Type 0 where
   pub extending : Extending (s .working) r
   pub count : s .count ≤ s .working .cons + s .working .cons
+  pub settled : (v : Bool) → v ≡ void (constraintOf r) → Settled (constraintOf r) v
 
 -- its kept candidates are told, and it has joined unless there is none
 pub record Turned (s : CutSteps) (r : StoredConstraint) (kept : Survivors) (x : CutSteps) : Type 0 where
@@ -84,11 +92,6 @@ pub record Going (rows₀ : List (List ℤ)) (place₀ kinds₀ : List ℕ) (c :
   pub size : length (basicSetOf (s .working) .constraints) ≡ s .working .cons
   pub count : s .count ≤ s .working .cons + s .working .cons
   pub fits : s .fits ≡ true
-
-map-get : {A B : Type 0} (f : A → B) (l : List A) (k : ℕ) (d : A) (d′ : B) → k < length l → getD (map f l) k d′ ≡ f (getD l k d)
-map-get f [] k d d′ h = absurd (not-suc-le-zero h)
-map-get f (x ∷ l) zero d d′ h = refl
-map-get f (x ∷ l) (suc k) d d′ h = map-get f l k d d′ (le-of-suc-le-suc h)
 
 pub sized : (b : Stored) → length (b .constraints) ≡ 48 → b .cons ≤ 48 → length (basicSetOf b .constraints) ≡ b .cons
 sized b l h = length-map (take (b .cons) (b .constraints)) constraintOf ∙ length-take-le (b .cons) (b .constraints) (omega arith)
@@ -123,14 +126,16 @@ module _ (a c : Stored) (j : Joined) (pair : Pair a c) (jn : Joining (basicSetOf
     placed-is = record { ds = A .divisions; es = C .divisions; places = jn .places f; few = few }
 
     -- a constraint of the cutter, as it is read and moved
-    pub moved-read : (k : ℕ) → k < c .cons → (r : StoredConstraint) → constraintOf r ≡ moveConstraint (take (c .divs) (j .places)) (constraintOf (getD (c .constraints) k noConstraint))
-        → getD (movedTo (take (c .divs) (j .places)) c) k noRule ≡ constraintOf r
-    moved-read k h r is =
+    moved-at : (k : ℕ) → k < c .cons → getD (movedTo (take (c .divs) (j .places)) c) k noRule ≡ moveConstraint (take (c .divs) (j .places)) (constraintOf (getD (c .constraints) k noConstraint))
+    moved-at k h =
         let l : k < length (take (c .cons) (c .constraints)) = omega (arith, length-take-le (c .cons) (c .constraints) (let z = pair .cons′ in omega arith)) in
         let m : k < length (C .constraints) = omega (arith, sized c lc (pair .cons′)) in
         map-get (moveConstraint (take (c .divs) (j .places))) (C .constraints) k noRule noRule m
         ∙ ap (moveConstraint (take (c .divs) (j .places))) (map-get constraintOf (take (c .cons) (c .constraints)) k noConstraint noRule l ∙ ap constraintOf (getD-take (c .cons) (c .constraints) k noConstraint h))
-        ∙ sym is
+
+    pub moved-read : (k : ℕ) → k < c .cons → (r : StoredConstraint) → constraintOf r ≡ moveConstraint (take (c .divs) (j .places)) (constraintOf (getD (c .constraints) k noConstraint))
+        → getD (movedTo (take (c .divs) (j .places)) c) k noRule ≡ constraintOf r
+    moved-read k h r is = moved-at k h ∙ sym is
 
     pub gathered-start : Gathered (A .constraints) (movedTo (take (c .divs) (j .places)) c) (a .cons) 0 (a .constraints)
     gathered-start = record { long = la; is = ap (λ (m : ℕ). map constraintOf (take m (a .constraints))) (add-zero (a .cons)) ∙ sym (append-nil (A .constraints)) }
@@ -170,7 +175,7 @@ module _ (a c : Stored) (j : Joined) (pair : Pair a c) (jn : Joining (basicSetOf
 
   module _ (s₀ : CutSteps) (bg : Begun a (j .divisions) (j .divs) (j .fits) s₀) where
     -- over 8 divisions
-    pub unjoined : j .fits ≡ false → CutIs a c s₀
+    pub unjoined : j .fits ≡ false → CutTightIs a c s₀
     unjoined f =
         record {
           fits = bg .fits ∙ f ∙ sym (ap (λ (b : Bool). b && candidatesFit keeps (joinedDivisions A C) (A .constraints) (movedConstraints A C)) (sym (jn .fits) ∙ f));
@@ -227,13 +232,13 @@ module _ (a c : Stored) (j : Joined) (pair : Pair a c) (jn : Joining (basicSetOf
           few-divs : s .working .divs ≤ 8
           few-divs = let e = g .divs in let h = bg .divs in let l = jn .few in omega arith
 
-          same-fits : candidatesFit keeps (basicSetOf (s₀ .working) .divisions) (basicSetOf (s₀ .working) .constraints) (movedTo (take (c .divs) (j .places)) c) ≡ cutFits keeps A C
+          same-fits : candidatesFit keeps (basicSetOf (s₀ .working) .divisions) (basicSetOf (s₀ .working) .constraints) (movedTo (take (c .divs) (j .places)) c) ≡ cutTightFits keeps A C
           same-fits =
               (λ i. candidatesFit keeps (ds-is i) (w-is i) ((rs-is f) i))
               ∙ sym (ap (λ (b : Bool). b && candidatesFit keeps (joinedDivisions A C) (A .constraints) (movedConstraints A C)) (sym (jn .fits) ∙ f))
 
           -- a candidate over 48
-          pub going-full : k < c .cons → s .working .cons ≡ 48 → CutIs a c (record { working = s .working; steps = s .steps; count = s .count; fits = false })
+          pub going-full : k < c .cons → s .working .cons ≡ 48 → CutTightIs a c (record { working = s .working; steps = s .steps; count = s .count; fits = false })
           going-full h e =
               record {
                 fits = sym (sym same-fits ∙ carved-full keeps _ _ _ k _ _ (g .carved) (subst (λ (n : ℕ). k < n) (sym (long-rs f)) h) (let z = g .size in omega arith));
@@ -245,8 +250,8 @@ module _ (a c : Stored) (j : Joined) (pair : Pair a c) (jn : Joining (basicSetOf
                 count = λ t. clash t refl;
               }
 
-          pub going-end : c .cons ≤ k → CutIs a c s
-          unfolding cut
+          pub going-end : c .cons ≤ k → CutTightIs a c s
+          unfolding cutTight
           going-end h =
               let e = carved-end keeps _ _ _ k _ _ (g .carved) (subst (λ (n : ℕ). n ≤ k) (sym (long-rs f)) h) in
               record {
@@ -259,12 +264,21 @@ module _ (a c : Stored) (j : Joined) (pair : Pair a c) (jn : Joining (basicSetOf
                 count = λ t. let z = g .count in let y = g .cons in omega arith;
               }
 
-          module _ (h : k < c .cons) (u : s .working .cons ≡ 48 → ⊥) (r : StoredConstraint) (is : constraintOf r ≡ moveConstraint (take (c .divs) (j .places)) (constraintOf (getD (c .constraints) k noConstraint))) where
+          module _ (h : k < c .cons) (u : s .working .cons ≡ 48 → ⊥) (r : StoredConstraint) (is : constraintOf r ≡ reducedOf (moveConstraint (take (c .divs) (j .places)) (constraintOf (getD (c .constraints) k noConstraint)))) where
             room : s .working .cons < 48
             room = let z = g .cons in omega arith
 
-            read-is : getD (movedTo (take (c .divs) (j .places)) c) k noRule ≡ constraintOf r
-            read-is = moved-read f k h r is
+            -- the constraint of the cutter, moved, before it is tightened
+            raw : Constraint
+            raw = moveConstraint (take (c .divs) (j .places)) (constraintOf (getD (c .constraints) k noConstraint))
+
+            read-is : getD (movedTo (take (c .divs) (j .places)) c) k noRule ≡ raw
+            unfolding raw
+            read-is = moved-at f k h
+
+            reduced-is : constraintOf r ≡ reducedOf raw
+            unfolding raw
+            reduced-is = is
 
             pub going-turning : Turning s r
             going-turning =
@@ -277,17 +291,18 @@ module _ (a c : Stored) (j : Joined) (pair : Pair a c) (jn : Joining (basicSetOf
                         valid = valid-working n (pair .first) (pair .second);
                         new =
                             subst (λ (l : List Division). ValidConstraint n (length l) (constraintOf r)) (sym d)
-                            (subst (ValidConstraint n (length (joinedDivisions A C))) read-is
+                            (subst (ValidConstraint n (length (joinedDivisions A C))) (sym reduced-is) (reduced-valid n (length (joinedDivisions A C)) raw (subst (ValidConstraint n (length (joinedDivisions A C))) read-is
                             (All-at (ValidConstraint n (length (joinedDivisions A C))) (movedTo (take (c .divs) (j .places)) c) k noRule (subst (λ (n : ℕ). k < n) (sym (long-rs f)) h)
-                            (subst (All (ValidConstraint n (length (joinedDivisions A C)))) (sym (rs-is f)) (second-valid n A C (pair .first) (pair .second) (few f)))));
+                            (subst (All (ValidConstraint n (length (joinedDivisions A C)))) (sym (rs-is f)) (second-valid n A C (pair .first) (pair .second) (few f)))))));
                         divs = few-divs;
                         cons = room;
                       };
+                  settled = reduced-settled raw (constraintOf r) reduced-is;
                   count = g .count;
                 }
 
-            pub going-next : (o : Survivors) (x : CutSteps) → Turned s r o x → (rows′ : List (List ℤ)) (place′ kinds′ : List ℕ) → length rows′ ≡ length rows → length place′ ≡ length place → length kinds′ ≡ length kinds → Goes rows′ place′ kinds′ x (k + 1)
-            going-next o x t rows′ place′ kinds′ p q v =
+            pub going-next : (o : Survivors) (x : CutSteps) → Turned s r o x → (k′ : ℕ) → k′ ≡ cond ((o .above || o .below) && void (constraintOf r)) (c .cons) (k + 1) → (rows′ : List (List ℤ)) (place′ kinds′ : List ℕ) → length rows′ ≡ length rows → length place′ ≡ length place → length kinds′ ≡ length kinds → Goes rows′ place′ kinds′ x k′
+            going-next o x t k′ to rows′ place′ kinds′ p q v =
                 let ka : Bool = o .above in
                 let kb : Bool = o .below in
                 let d₀ : List Division = basicSetOf (s₀ .working) .divisions in
@@ -295,17 +310,18 @@ module _ (a c : Stored) (j : Joined) (pair : Pair a c) (jn : Joining (basicSetOf
                 let b : BasicSet = record { divisions = d₀; constraints = w } in
                 let e : basicSetOf (s .working) ≡ b = λ i. record { divisions = g .divisions i; constraints = w } in
                 let next =
-                carved-next keeps d₀ (basicSetOf (s₀ .working) .constraints) (movedTo (take (c .divs) (j .places)) c) k w (take (s .count) (s .steps)) (g .carved) (subst (λ (n : ℕ). k < n) (sym (long-rs f)) h) (let z = g .size in let y = room in omega arith) (constraintOf r) read-is ka kb
-                (t .keeping .above ∙ ap (λ (y : BasicSet). isEquality (constraintOf r .kind) && keeps (candidate y (above (constraintOf r)))) e)
-                (t .keeping .below ∙ ap (λ (y : BasicSet). keeps (candidate y (below (constraintOf r)))) e) in
+                carved-next keeps d₀ (basicSetOf (s₀ .working) .constraints) (movedTo (take (c .divs) (j .places)) c) k w (take (s .count) (s .steps)) (g .carved) (subst (λ (n : ℕ). k < n) (sym (long-rs f)) h) (let z = g .size in let y = room in omega arith) raw (constraintOf r) read-is reduced-is ka kb
+                (t .keeping .above ∙ ap (λ (y : BasicSet). isEquality (constraintOf r .kind) && keeps (candidate y (tight (above (constraintOf r))))) e)
+                (t .keeping .below ∙ ap (λ (y : BasicSet). keeps (candidate y (tight (below (constraintOf r))))) e)
+                k′ (to ∙ ap₂ (λ (v : Bool) (n : ℕ). cond ((ka || kb) && v) n (k + 1)) (ap void reduced-is ∙ void-reduced raw) (sym (long-rs f))) in
                 let st : take (s .count) (s .steps) ++ stepsAt (length w) ka kb ≡ take (x .count) (x .steps) = ap (λ (n : ℕ). take (s .count) (s .steps) ++ stepsAt n ka kb) (g .size) ∙ sym (t .steps) in
                 record {
                   high = p ∙ g .high;
                   long = q ∙ g .long;
                   wide = v ∙ g .wide;
-                  within = omega arith;
-                  carved = subst (λ (vs : List ℕ). Carved keeps d₀ (basicSetOf (s₀ .working) .constraints) (movedTo (take (c .divs) (j .places)) c) (k + 1) (basicSetOf (x .working) .constraints) vs) st
-                      (subst (λ (l : List Constraint). Carved keeps d₀ (basicSetOf (s₀ .working) .constraints) (movedTo (take (c .divs) (j .places)) c) (k + 1) l (take (s .count) (s .steps) ++ stepsAt (length w) ka kb)) (sym (t .constraints)) next);
+                  within = inside ((ka || kb) && void (constraintOf r)) to;
+                  carved = subst (λ (vs : List ℕ). Carved keeps d₀ (basicSetOf (s₀ .working) .constraints) (movedTo (take (c .divs) (j .places)) c) k′ (basicSetOf (x .working) .constraints) vs) st
+                      (subst (λ (l : List Constraint). Carved keeps d₀ (basicSetOf (s₀ .working) .constraints) (movedTo (take (c .divs) (j .places)) c) k′ l (take (s .count) (s .steps) ++ stepsAt (length w) ka kb)) (sym (t .constraints)) next);
                   divisions = t .divisions ∙ g .divisions;
                   divs = t .divs ∙ g .divs;
                   cons = let y = t .cons in let z = bit-small (ka || kb) in let l = room in omega arith;
@@ -314,6 +330,10 @@ module _ (a c : Stored) (j : Joined) (pair : Pair a c) (jn : Joining (basicSetOf
                   fits = t .fits;
                 }
               where
+                inside : (b : Bool) → k′ ≡ cond b (c .cons) (k + 1) → k′ ≤ c .cons
+                inside true e = omega arith
+                inside false e = omega arith
+
                 longer : (b : Bool) (l : List Constraint) (y : Constraint) → length (cond b (l ++ (y ∷ [])) l) ≡ length l + cond b 1 0
                 longer true l y = length-append l (y ∷ [])
                 longer false l y = sym (add-zero (length l))
@@ -342,16 +362,34 @@ module _ {a c : Stored} {j : Joined} {s₀ : CutSteps} (o : Opened a c j s₀) w
   opened-start = going-start a c j (o .pair) (o .join) (o .first) (o .second) s₀ (o .begun) (o .fits)
 
   module _ {rows₀ : List (List ℤ)} {place₀ kinds₀ : List ℕ} {rows : List (List ℤ)} {place kinds : List ℕ} {s : CutSteps} {k : ℕ} (g : Going rows₀ place₀ kinds₀ c (c .divs) (j .places) s₀ rows place kinds s k) where
-    pub opened-full : k < c .cons → s .working .cons ≡ 48 → CutIs a c (record { working = s .working; steps = s .steps; count = s .count; fits = false })
+    pub opened-full : k < c .cons → s .working .cons ≡ 48 → CutTightIs a c (record { working = s .working; steps = s .steps; count = s .count; fits = false })
     opened-full = going-full a c j (o .pair) (o .join) (o .first) (o .second) s₀ (o .begun) (o .fits) rows₀ place₀ kinds₀ rows place kinds s k g
 
-    pub opened-end : c .cons ≤ k → CutIs a c s
+    pub opened-end : c .cons ≤ k → CutTightIs a c s
     opened-end = going-end a c j (o .pair) (o .join) (o .first) (o .second) s₀ (o .begun) (o .fits) rows₀ place₀ kinds₀ rows place kinds s k g
 
-    module _ (h : k < c .cons) (u : s .working .cons ≡ 48 → ⊥) {r : StoredConstraint} (is : constraintOf r ≡ moveConstraint (take (c .divs) (j .places)) (constraintOf (getD (c .constraints) k noConstraint))) where
+    module _ (h : k < c .cons) (u : s .working .cons ≡ 48 → ⊥) {r : StoredConstraint} (is : constraintOf r ≡ reducedOf (moveConstraint (take (c .divs) (j .places)) (constraintOf (getD (c .constraints) k noConstraint)))) where
       pub opened-turning : Turning s r
       opened-turning = going-turning a c j (o .pair) (o .join) (o .first) (o .second) s₀ (o .begun) (o .fits) rows₀ place₀ kinds₀ rows place kinds s k g h u r is
 
-      pub opened-next : {v : Survivors} {x : CutSteps} → Turned s r v x → (rows′ : List (List ℤ)) (place′ kinds′ : List ℕ) → length rows′ ≡ length rows → length place′ ≡ length place → length kinds′ ≡ length kinds
-          → Going rows₀ place₀ kinds₀ c (c .divs) (j .places) s₀ rows′ place′ kinds′ x (k + 1)
+      pub opened-next : {v : Survivors} {x : CutSteps} → Turned s r v x → (k′ : ℕ) → k′ ≡ cond ((v .above || v .below) && void (constraintOf r)) (c .cons) (k + 1) → (rows′ : List (List ℤ)) (place′ kinds′ : List ℕ) → length rows′ ≡ length rows → length place′ ≡ length place → length kinds′ ≡ length kinds
+          → Going rows₀ place₀ kinds₀ c (c .divs) (j .places) s₀ rows′ place′ kinds′ x k′
       opened-next {v} {x} = going-next a c j (o .pair) (o .join) (o .first) (o .second) s₀ (o .begun) (o .fits) rows₀ place₀ kinds₀ rows place kinds s k g h u r is v x
+
+-- ---- a cut of a tight basic set is a cut
+
+pub cut-is : (a c : Stored) → Tight (basicSetOf a) → (s : CutSteps) → CutTightIs a c s → CutIs a c s
+unfolding cut
+cut-is a c e s i =
+    let A : BasicSet = basicSetOf a in
+    let C : BasicSet = basicSetOf c in
+    let u = tight-solvable A e in
+    record {
+      fits = i .fits ∙ sym (ap (all (λ (p : BasicSet). cutTightFits keeps p C)) u ∙ and-true (cutTightFits keeps A C));
+      pieces = λ z. i .pieces z ∙ sym (ap (concatMap (λ (p : BasicSet). cutTight keeps p C)) u ∙ append-nil (cutTight keeps A C));
+      steps = i .steps;
+      valid = i .valid;
+      divs = i .divs;
+      cons = i .cons;
+      count = i .count;
+    }

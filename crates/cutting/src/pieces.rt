@@ -1,58 +1,33 @@
 // One cut (document 01, "Cutting rules"): the kept candidates of a basic set and a cutter.
 ghost use mathlib.Core.Path.{_≡_};
-ghost use mathlib.Core.Bool.{true, false, _||_, cond};
+ghost use mathlib.Core.Bool.{true, false, _&&_, _||_, cond};
 ghost use Prim.Native.Nat.{_+_, _≤_, _<_};
 ghost use lib.ListN.{length};
-ghost use Rattle.model.specs.Values.{basicSetOf};
-ghost use Rattle.algebra.specs.Cut as C;
-ghost use Rattle.records.specs.Sound.{Sound};
-ghost use Rattle.cutting.specs.Cutting.{Begun, Tables, Spares, Putting, Marked, Pair, CutIs, Piece, PieceIs, BothIs};
-use crate::candidates::Survivors;
-use crate::candidates::follow;
-use crate::candidates::kept;
-use crate::candidates::start;
-use joining::above;
-use joining::below;
+ghost use Rattle.model.specs.Values.{constraintOf};
+ghost use Rattle.algebra.specs.Tighten as T;
+ghost use Rattle.candidates.specs.Candidates.{Tables};
+ghost use Rattle.cutting.specs.Cutting.{Begun, Spares, Marked, Pair, CutTightIs, Piece, PieceIs, BothIs};
+use candidates::Survivors;
+use candidates::follow;
+use candidates::kept;
+use candidates::put;
+use candidates::start;
 use joining::join;
+use joining::joining_rule;
 use joining::moved;
+use joining::tight_above;
+use joining::tight_below;
+use joining::void;
 use model::BasicSet;
 use model::Constraint;
-use simplex::Verdict;
-use simplex::test_basic;
 
 // The pieces of a cut: `working` has all constraints that joined it, and step v of the first `count` stands for the piece whose last
-// constraint is the opposite of the working constraint v / 2, above it where v is odd and below it where v is even.
+// constraint is the tightened opposite of the working constraint v / 2, above it where v is odd and below it where v is even.
 pub struct CutSteps {
     pub working: BasicSet,
     pub steps: [u8; 96],
     pub count: usize,
     pub fits: bool,
-}
-
-// Whether the test for fractions keeps a candidate.
-pub fn keeps(b: BasicSet, rows: &mut [[i64; 18]], place: &mut [usize], kinds: &mut [u8]) -> bool
-    requires { ⌜ Sound b × Tables (now rows) (now place) (now kinds) ⌝ }
-    ensures { λ r. ⌜ r ≡ C.keeps (basicSetOf b) ⌝ }
-{
-    let e = test_basic(b, rows, place, kinds);
-    let v = e.verdict;
-    match v {
-        Verdict::Point => true,
-        Verdict::Dropped => false,
-        Verdict::Long => true,
-        Verdict::Wide => true,
-    }
-}
-
-// The first `at` constraints of w, then r.
-fn put(w: BasicSet, at: usize, r: Constraint) -> BasicSet
-    requires { ⌜ (at ≤ w .cons) × (at < 48) ⌝ }
-    ensures { λ q. ⌜ Putting w at r q ⌝ }
-{
-    let mut q = w;
-    q.constraints[at] = r;
-    q.cons = at + 1;
-    q
 }
 
 fn one(b: bool) -> usize
@@ -117,7 +92,22 @@ fn begin(a: BasicSet, divisions: [model::Division; 8], divs: usize, fits: bool) 
     }
 }
 
-// Not `fits`: a join over 8 divisions or a candidate over 48 constraints (refusal 10).
+// How many of the cutter's constraints are done after constraint k: all, where it joined and no integer point meets it.
+fn passed(k: usize, cons: usize, on: bool, r: Constraint) -> usize
+    requires { ⌜ k < cons ⌝ }
+    ensures { λ n. ⌜ n ≡ cond (on && T.void (constraintOf r)) cons (k + 1) ⌝ }
+{
+    let next = k + 1;
+    if !on {
+        return next;
+    }
+    if void(r) {
+        return cons;
+    }
+    next
+}
+
+// One cut of a tight basic set. Not `fits`: a join over 8 divisions or a candidate over 48 constraints (refusal 10).
 pub fn cut(
     a: BasicSet,
     c: BasicSet,
@@ -128,7 +118,7 @@ pub fn cut(
     spare: &mut [[i64; 18]],
 ) -> CutSteps
     requires { ⌜ Pair a c × Tables (now rows) (now place) (now kinds) × Spares (now past) (now spare) ⌝ }
-    ensures { λ r. ⌜ CutIs a c r ⌝ }
+    ensures { λ r. ⌜ CutTightIs a c r ⌝ }
 {
     let ds = a.divisions;
     let n = a.divs;
@@ -155,13 +145,13 @@ pub fn cut(
             return told(w, steps, count, false);
         }
         let e = c.constraints[k];
-        let r = moved(e, places, m);
+        let r = joining_rule(e, places, m);
         let x = kept(h, w.divs, r, rows, place, kinds, past, &cols, spare);
         count = mark(&mut steps, count, at, x);
         let on = either(x);
         w.constraints[at] = r;
         w.cons = at + one(on);
-        k += 1;
+        k = passed(k, cons, on, r);
         let left = cons - k;
         h = follow(h, r, w.divs, on, left, rows, place, kinds, past, &mut cols);
     }
@@ -176,10 +166,10 @@ pub fn piece(w: BasicSet, v: u8) -> BasicSet
     let at = (v / 2) as usize;
     let r = w.constraints[at];
     if v % 2 == 1 {
-        let p = above(r);
+        let p = tight_above(r);
         return put(w, at, p);
     }
-    let o = below(r);
+    let o = tight_below(r);
     put(w, at, o)
 }
 

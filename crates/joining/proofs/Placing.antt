@@ -25,6 +25,7 @@ use Rattle.codec.specs.Bytes.{coefficient, constantFits}
 use Rattle.codec.proofs.Valid.{All}
 use Rattle.algebra.specs.Cut.{sameℤ, sameList, sameDivision, seek, Joined, placed, joinFrom, join, addAt, move}
 use Rattle.joining.specs.Joining.{placeOf, Placed}
+use Rattle.model.proofs.Lists.{map-append}
 use Rattle.model.proofs.Count.{and-left, and-right}
 use Rattle.algebra.proofs.Joined.{same→, joined}
 use Rattle.algebra.proofs.Closed.{Apart, spread, getD-move, all-below}
@@ -67,23 +68,9 @@ module _ {A B : Type 0} (f : A → B) (d : A) where
       let g : suc k + n ≡ length l = omega arith in
       ap (λ (r : List B). f (getD l k d) ∷ r) (gets-map n (suc k) l g) ∙ ap (map f) (sym (drop-cons l k d h))
 
-  pub map-take : (n : ℕ) (l : List A) → map f (take n l) ≡ take n (map f l)
-  map-take zero l = refl
-  map-take (suc n) [] = refl
-  map-take (suc n) (a ∷ l) = ap (λ (r : List B). f a ∷ r) (map-take n l)
-
-  pub map-at : (l : List A) (i : ℕ) → getD (map f l) i (f d) ≡ f (getD l i d)
-  map-at [] i = refl
-  map-at (a ∷ l) zero = refl
-  map-at (a ∷ l) (suc i) = map-at l i
-
-  pub map-snoc : (l : List A) (a : A) → map f (l ++ (a ∷ [])) ≡ map f l ++ (f a ∷ [])
-  map-snoc [] a = refl
-  map-snoc (x ∷ l) a = ap (λ (r : List B). f x ∷ r) (map-snoc l a)
-
   -- a store behind the first n
   pub map-pushed : (l : List A) (n : ℕ) (a : A) → n < length l → map f (take (n + 1) (set l n a)) ≡ map f (take n l) ++ (f a ∷ [])
-  map-pushed l n a h = rw (add-one) (ap (map f) (take-suc-set l n a h) ∙ map-snoc (take n l) a)
+  map-pushed l n a h = rw (add-one) (ap (map f) (take-suc-set l n a h) ∙ map-append f (take n l) (a ∷ []))
 
 pub and-true : (b : Bool) → b && true ≡ b
 and-true true = refl

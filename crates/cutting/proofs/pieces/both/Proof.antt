@@ -21,11 +21,9 @@ Inv-loop c n m j fits cons more places constraints₀ k₀ constraints k =
 abbrev μ-loop : tie.MeasureT-loop
 μ-loop c n m j fits cons more places constraints₀ k₀ constraints k = more - k
 
--- src/pieces.rt:218:9
 join-requires : tie.Need-join-requires Inv-loop μ-loop
 join-requires c κs = (c .before .before .pre .divs, c .before .before .pre .divs′)
 
--- src/pieces.rt:223:9
 returns : tie.Need-returns Inv-loop μ-loop
 returns c =
     let st = c .before .before .before .before in
@@ -36,11 +34,9 @@ returns c =
     let j = c .before .join in
     both-unjoined a d (j .result) (st .pre) (j .ensures) la lc (not-true (j .result .fits) (c .if1 .taken))
 
--- src/pieces.rt:225:13
 add-if2 : tie.Need-add-if2 Inv-loop μ-loop
 add-if2 c = let h = c .before .before .before .before .pre .cons in let k = c .before .before .before .before .pre .cons′ in omega arith
 
--- src/pieces.rt:226:9
 returns-2 : tie.Need-returns-2 Inv-loop μ-loop
 returns-2 c =
     let st = c .before .before .before .before .before in
@@ -52,7 +48,6 @@ returns-2 c =
     let f : j .result .fits ≡ true = not-false (j .result .fits) (c .before .if1 .left) in
     both-over a d (j .result) (st .pre) (j .ensures) la lc f (c .if2 .taken)
 
--- src/pieces.rt:231:5
 loop-holds : tie.Need-loop-holds Inv-loop μ-loop
 loop-holds c =
     let st = c .before .before .before .before .before .before .before in
@@ -64,15 +59,12 @@ loop-holds c =
     let f : j .result .fits ≡ true = not-false (j .result .fits) (c .before .before .before .if1 .left) in
     (omega arith, gathered-start a d (j .result) (st .pre) (j .ensures) la lc f)
 
--- src/pieces.rt:232:17
 mul-e : tie.Need-mul-e Inv-loop μ-loop
 mul-e c = let h = c .before .before .before .before .before .before .before .before .before .pre .cons′ in omega arith
 
--- src/pieces.rt:232:17
 element-copy-out-e : tie.Need-element-copy-out-e Inv-loop μ-loop
 element-copy-out-e c = let h = c .before .before .before .before .before .before .before .before .before .pre .cons′ in omega arith
 
--- src/pieces.rt:233:33
 moved-requires : tie.Need-moved-requires Inv-loop μ-loop
 moved-requires c κs =
     let st = c .before .before .before .before .before .before .before .before .before .before in
@@ -84,27 +76,21 @@ moved-requires c κs =
     let f : j .result .fits ≡ true = not-false (j .result .fits) (c .before .before .before .before .before .before .if1 .left) in
     (st .pre .divs′, placed-is a d (j .result) (st .pre) (j .ensures) la lc f)
 
--- src/pieces.rt:233:21
 add-constraints : tie.Need-add-constraints Inv-loop μ-loop
 add-constraints c = let h = c .before .before .before .before .before .before .if2 .left in omega arith
 
--- src/pieces.rt:233:9
 mul-constraints : tie.Need-mul-constraints Inv-loop μ-loop
 mul-constraints c = let h = c .before .before .before .before .before .before .if2 .left in omega arith
 
--- src/pieces.rt:233:9
 array-set-from-constraints : tie.Need-array-set-from-constraints Inv-loop μ-loop
 array-set-from-constraints c = let h = c .before .before .before .before .before .before .if2 .left in omega arith
 
--- src/pieces.rt:234:9
 add-k : tie.Need-add-k Inv-loop μ-loop
 add-k c = let h = c .before .before .before .before .before .before .if2 .left in omega arith
 
--- src/pieces.rt:231:5
 loop-less : tie.Need-loop-less Inv-loop μ-loop
 loop-less c = omega arith
 
--- src/pieces.rt:231:5
 loop-again : tie.Need-loop-again Inv-loop μ-loop
 loop-again c =
     let st = c .before .before .before .before .before .before .before .before .before .before .before in
@@ -117,11 +103,9 @@ loop-again c =
     let lo = c .before .before .before .loop in
     (omega arith, gathered-more a d (j .result) (st .pre) (j .ensures) la lc f (lo .k) (lo .constraints) (lo .inv .1) (omega arith) (c .before .before .before .before .before .before .if2 .left) (c .moved .result) (c .moved .ensures))
 
--- src/pieces.rt:237:70
 add-t19 : tie.Need-add-t19 Inv-loop μ-loop
 add-t19 c = let h = c .before .before .before .before .before .if2 .left in omega arith
 
--- src/pieces.rt:210:1
 returns-3 : tie.Need-returns-3 Inv-loop μ-loop
 returns-3 c =
     let st = c .before .before .before .before .before .before .before .before .before .before in

@@ -1,24 +1,28 @@
-use mathlib.Core.Path.{_≡_, refl, sym, _∙_, subst}
-use mathlib.Core.Bool.{true}
+use mathlib.Core.Path.{_≡_, refl, sym, ap, _∙_, subst}
+use mathlib.Core.Bool.{Bool, true, _&&_, cond}
 use Prim.Native.Nat.{_+_, _-_, _*_, _≤_, _<_}
 use native.Mathlib.Omega.{arith}
 use lib.ListN.{length, length-set, length-map}
-use Rattle.model.specs.Values.{basicSetOf}
+use Rattle.model.specs.Values.{constraintOf, basicSetOf}
+use Rattle.algebra.specs.Tighten.{void}
 use borrow.Author.Tests.{not-true, not-false}
-use Rattle.cutting.specs.Cutting.{Behind, Caught, CutIs}
-use Rattle.cutting.proofs.Steps.{bit-small}
+use Rattle.candidates.specs.Candidates.{Behind, Caught}
+use Rattle.cutting.specs.Cutting.{CutTightIs}
+use Rattle.cutting.proofs.Steps.{bit-small, passed-on}
 use Rattle.cutting.proofs.Turns.{Turning, Turned, Going, Opened, unjoined, opened-placed, opened-start, opened-full, opened-end, opened-turning, opened-next}
-use Rattle.cutting.proofs.Catching.{opposed, behind-end, caught-holds, caught-growing, stepped, lengthened, turned, behind-followed, caught-behind, caught-all}
+use Rattle.candidates.proofs.Catching.{opposed, behind-end, caught-holds, caught-growing, caught-behind, caught-all}
+use Rattle.cutting.proofs.Following.{stepped, lengthened, turned, behind-followed}
 use borrow.Author.Needs.{needs}
 use Rattle.cutting.proofs.pieces.cut.Statement.{statement}
 use Rattle.cutting.proofs.pieces.cut.Tie as tie
 use Rattle.cutting.proofs.pieces.cut.Reads as reads
+use Rattle.cutting.proofs.pieces.passed.Reads as passed-reads
 use Rattle.cutting.proofs.pieces.cut.Lts as lts
-use Rattle.cutting.proofs.candidates.follow.Reads as follow-reads
-use Rattle.cutting.proofs.candidates.kept.Reads as kept-reads
-use Rattle.cutting.proofs.candidates.start.Reads as start-reads
+use Rattle.candidates.proofs.follow.Reads as follow-reads
+use Rattle.candidates.proofs.kept.Reads as kept-reads
+use Rattle.candidates.proofs.start.Reads as start-reads
 use Rattle.joining.proofs.join.Reads as join-reads
-use Rattle.joining.proofs.moved.Reads as moved-reads
+use Rattle.joining.proofs.joining_rule.Reads as joining-rule-reads
 use Rattle.cutting.proofs.pieces.begin.Reads as begin-reads
 use Rattle.cutting.proofs.pieces.either.Reads as either-reads
 use Rattle.cutting.proofs.pieces.mark.Reads as mark-reads
@@ -59,11 +63,11 @@ opened c =
 caught : (c : tie.In-loop Inv-loop μ-loop) → Caught (c .before .loop .w) (c .before .loop .h) (c .before .loop .rows) (c .before .loop .place) (c .before .loop .kinds) (c .before .loop .past) (c .before .loop .cols)
 caught c = behind-end (c .before .loop .inv .1) (c .before .loop .inv .3 (c .loop-test .taken))
 
-turning : (c : tie.After-moved Inv-loop μ-loop) → Turning (stepped (c .before .before .before .before .loop .w) (c .before .before .before .before .loop .steps) (c .before .before .before .before .loop .count)) (c .moved .result)
-turning c = opened-turning (opened (c .before .before .before .before .before .before .before .before .before .before .before .before .before .before .before .before .before .before .before .before)) (c .before .before .before .before .loop .inv .0) (c .before .before .before .loop-test .taken) (c .before .before .if2 .left) (c .moved .ensures)
+turning : (c : tie.After-joining-rule Inv-loop μ-loop) → Turning (stepped (c .before .before .before .before .loop .w) (c .before .before .before .before .loop .steps) (c .before .before .before .before .loop .count)) (c .joining-rule .result)
+turning c = opened-turning (opened (c .before .before .before .before .before .before .before .before .before .before .before .before .before .before .before .before .before .before .before .before)) (c .before .before .before .before .loop .inv .0) (c .before .before .before .loop-test .taken) (c .before .before .if2 .left) (c .joining-rule .ensures)
 
 -- once it has joined, or has not
-turn : (c : tie.After-one Inv-loop μ-loop) → Turned (stepped (c .before .before .before .before .before .before .before .before .before .before .before .before .before .before .before .before .before .loop .w) (c .before .before .before .before .before .before .before .before .before .before .before .before .before .before .before .before .before .loop .steps) (c .before .before .before .before .before .before .before .before .before .before .before .before .before .before .before .before .before .loop .count)) (c .before .before .before .before .before .before .before .before .before .before .before .before .before .moved .result) (c .before .before .before .before .before .before .kept .result) (stepped (lengthened (c .before .before .before .before .before .before .before .before .before .before .before .before .before .before .before .before .before .loop .w) (c .before .before .before .before .before .before .before .before .before .before .before .before .before .moved .result) (c .one .result)) (c .before .before .before .mark .last .0) (c .before .before .before .mark .result))
+turn : (c : tie.After-one Inv-loop μ-loop) → Turned (stepped (c .before .before .before .before .before .before .before .before .before .before .before .before .before .before .before .before .before .loop .w) (c .before .before .before .before .before .before .before .before .before .before .before .before .before .before .before .before .before .loop .steps) (c .before .before .before .before .before .before .before .before .before .before .before .before .before .before .before .before .before .loop .count)) (c .before .before .before .before .before .before .before .before .before .before .before .before .before .joining-rule .result) (c .before .before .before .before .before .before .kept .result) (stepped (lengthened (c .before .before .before .before .before .before .before .before .before .before .before .before .before .before .before .before .before .loop .w) (c .before .before .before .before .before .before .before .before .before .before .before .before .before .joining-rule .result) (c .one .result)) (c .before .before .before .mark .last .0) (c .before .before .before .mark .result))
 turn c =
     let st = c .before .before .before .before .before .before .before .before .before .before .before .before .before .before .before .before .before in
     let t = turning (c .before .before .before .before .before .before .before .before .before .before .before .before .before) in
@@ -132,7 +136,7 @@ same-length-5 c = c .before .before .before .loop .inv .2
 returns-2 : tie.Need-returns-2 Inv-loop μ-loop
 returns-2 c =
     let st = c .before .before .before .before .before .before .before .before .before .before .before .before .before .before .before .before .before .before .before .before .before .before .before .before .before .before .before .before in
-    subst (CutIs (st .args .a) (st .args .t2)) (sym (c .told .ensures)) (opened-full (opened (c .before .before .before .before .before .before .before .before .before .before .before .before .before .before .before .before .before .before .before)) (c .before .before .before .loop .inv .0) (c .before .before .loop-test .taken) (c .before .if2 .taken))
+    subst (CutTightIs (st .args .a) (st .args .t2)) (sym (c .told .ensures)) (opened-full (opened (c .before .before .before .before .before .before .before .before .before .before .before .before .before .before .before .before .before .before .before)) (c .before .before .before .loop .inv .0) (c .before .before .loop-test .taken) (c .before .if2 .taken))
 
 mul-e : tie.Need-mul-e Inv-loop μ-loop
 mul-e c = let h = c .before .before .before .before .before .before .before .before .before .before .before .before .before .before .before .before .before .before .before .before .before .before .before .before .before .before .before .pre .0 .cons′ in search needs
@@ -140,8 +144,8 @@ mul-e c = let h = c .before .before .before .before .before .before .before .bef
 element-copy-out-e : tie.Need-element-copy-out-e Inv-loop μ-loop
 element-copy-out-e c = let h = c .before .before .before .before .before .before .before .before .before .before .before .before .before .before .before .before .before .before .before .before .before .before .before .before .before .before .before .pre .0 .cons′ in let z = c .before .loop-test .taken in omega arith
 
-moved-requires : tie.Need-moved-requires Inv-loop μ-loop
-moved-requires c κs = (c .before .before .before .before .before .before .before .before .before .before .before .before .before .before .before .before .before .before .before .before .before .before .before .before .before .before .before .before .pre .0 .divs′, opened-placed (opened (c .before .before .before .before .before .before .before .before .before .before .before .before .before .before .before .before .before .before .before)))
+joining-rule-requires : tie.Need-joining-rule-requires Inv-loop μ-loop
+joining-rule-requires c κs = (c .before .before .before .before .before .before .before .before .before .before .before .before .before .before .before .before .before .before .before .before .before .before .before .before .before .before .before .before .pre .0 .divs′, opened-placed (opened (c .before .before .before .before .before .before .before .before .before .before .before .before .before .before .before .before .before .before .before)))
 
 slice-aggregate-kept : tie.Need-slice-aggregate-kept Inv-loop μ-loop
 slice-aggregate-kept c = sym (c .before .before .before .before .before .before .before .before .before .loop .inv .1 .stands .many′)
@@ -150,7 +154,7 @@ kept-requires : tie.Need-kept-requires Inv-loop μ-loop
 kept-requires c κs =
     let st = c .before .before .before .before .before .before in
     let t = turning (st) in
-    (caught-growing (caught (c .before .before .before .before .before .before .before .before .before)) (t .extending .divs) (t .extending .cons), (opposed (t .extending .n) _ (st .moved .result) (t .extending .new), c .before .before .before .before .before .before .before .before .before .before .loop .inv .2 ∙ c .before .before .before .before .before .before .before .before .before .before .before .before .before .before .before .before .before .before .before .before .before .before .before .before .before .before .before .before .before .before .before .before .before .before .before .pre .2 .high))
+    (caught-growing (caught (c .before .before .before .before .before .before .before .before .before)) (t .extending .divs) (t .extending .cons), (opposed (t .extending .n) _ (st .joining-rule .result) (t .settled) (t .extending .new), c .before .before .before .before .before .before .before .before .before .before .loop .inv .2 ∙ c .before .before .before .before .before .before .before .before .before .before .before .before .before .before .before .before .before .before .before .before .before .before .before .before .before .before .before .before .before .before .before .before .before .before .before .pre .2 .high))
 
 slice-aggregate-mark : tie.Need-slice-aggregate-mark Inv-loop μ-loop
 slice-aggregate-mark c = sym (c .before .before .before .before .before .before .before .before .before .before .before .before .before .loop .inv .5)
@@ -173,39 +177,44 @@ one-requires c κs = search needs
 add-w : tie.Need-add-w Inv-loop μ-loop
 add-w c = let m = turning (c .before .before .before .before .before .before .before .before .before .before .before .before .before) .extending .cons in let k = c .one .ensures in let j = bit-small (c .before .either .result) in omega arith
 
-add-k : tie.Need-add-k Inv-loop μ-loop
-add-k c = let h = c .before .before .before .before .before .before .before .before .before .before .before .before .before .before .before .before .before .before .before .before .before .before .before .before .before .before .before .before .before .before .before .before .before .before .before .before .before .before .before .before .before .before .pre .0 .cons′ in omega (arith, c .before .before .before .before .before .before .before .before .before .before .before .before .before .before .before .before .loop-test .taken)
+passed-requires : tie.Need-passed-requires Inv-loop μ-loop
+passed-requires c κs = c .before .before .before .before .before .before .before .before .before .before .before .before .before .before .before .before .loop-test .taken
+
+-- the next constraint
+later : (c : tie.After-passed Inv-loop μ-loop) → (c .before .before .before .before .before .before .before .before .before .before .before .before .before .before .before .before .before .before .loop .k < c .passed .result) × (c .passed .result ≤ c .before .before .before .before .before .before .before .before .before .before .before .before .before .before .before .before .before .before .before .before .before .before .before .before .before .before .before .before .before .before .before .before .before .before .before .before .before .before .before .before .before .before .before .args .t2 .cons)
+later c = passed-on (c .before .before .either .result && void (constraintOf (c .before .before .before .before .before .before .before .before .before .before .before .before .before .before .joining-rule .result))) _ _ _ (c .before .before .before .before .before .before .before .before .before .before .before .before .before .before .before .before .before .loop-test .taken) (c .passed .ensures)
 
 sub-left : tie.Need-sub-left Inv-loop μ-loop
-sub-left c = omega (arith, c .before .before .before .before .before .before .before .before .before .before .before .before .before .before .before .before .loop-test .taken)
+sub-left c = later c .1
 
 slice-aggregate-follow : tie.Need-slice-aggregate-follow Inv-loop μ-loop
-slice-aggregate-follow c = sym (c .before .before .before .before .before .before .before .before .before .before .before .before .before .before .before .before .before .before .before .before .before .before .loop .inv .1 .stands .many′)
+slice-aggregate-follow c = sym (c .before .before .before .before .before .before .before .before .before .before .before .before .before .before .before .before .before .before .before .before .before .before .before .loop .inv .1 .stands .many′)
 
 follow-requires : tie.Need-follow-requires Inv-loop μ-loop
-follow-requires c κs = let t = turning (c .before .before .before .before .before .before .before .before .before .before .before .before .before .before .before .before .before .before) in caught-growing (caught (c .before .before .before .before .before .before .before .before .before .before .before .before .before .before .before .before .before .before .before .before .before)) (t .extending .divs) (t .extending .cons)
+follow-requires c κs = let t = turning (c .before .before .before .before .before .before .before .before .before .before .before .before .before .before .before .before .before .before .before) in caught-growing (caught (c .before .before .before .before .before .before .before .before .before .before .before .before .before .before .before .before .before .before .before .before .before .before)) (t .extending .divs) (t .extending .cons)
 
 loop-less : tie.Need-loop-less Inv-loop μ-loop
-loop-less c = omega (arith, c .before .before .before .before .before .before .before .before .before .before .before .before .before .before .before .before .before .before .before .before .before .before .before .before .before .before .before .before .before .loop-test .taken)
+loop-less c = let p = later (c .before .before .before .before .before .before .before .before .before .before .before .before .before) in let u = p .0 in let v = p .1 in omega arith
 
 loop-again : tie.Need-loop-again Inv-loop μ-loop
 loop-again c =
-    let st = c .before .before .before .before .before .before .before .before .before .before .before .before .before .before .before .before .before .before .before .before .before .before .before .before .before .before .before .before .before in
-    let p1 = c .before .before .before .before .before .before .before .before .before .before .before .before .before .before .before .before .before .before .before .before .before .before .before .before .before .before in
-    let p2 = c .before .before .before .before .before .before .before .before .before .before .before .before .before .before in
-    let l = c .before .before .before .before .before .before .before .before .before .before .before .before .before .before .before .before .before .before .before .before .before .before .before .before .before .before .before .before .before .before .loop in
+    let st = c .before .before .before .before .before .before .before .before .before .before .before .before .before .before .before .before .before .before .before .before .before .before .before .before .before .before .before .before .before .before in
+    let p1 = c .before .before .before .before .before .before .before .before .before .before .before .before .before .before .before .before .before .before .before .before .before .before .before .before .before .before .before in
+    let p2 = c .before .before .before .before .before .before .before .before .before .before .before .before .before .before .before in
+    let l = c .before .before .before .before .before .before .before .before .before .before .before .before .before .before .before .before .before .before .before .before .before .before .before .before .before .before .before .before .before .before .before .loop in
     let i = l .inv in
+    let pd = c .before .before .before .before .before .before .before .before .before .before .before .before .before .passed in
     let u = c .before .before .before .before .before .before .before .follow in
     let v = turning (p1) in
-    let t = turn (c .before .before .before .before .before .before .before .before .before .before .before .before .before) in
-    let f = behind-followed t (caught (st)) (v .extending .divs) (v .extending .cons) (p2 .either .result) (p2 .either .ensures) (c .before .before .before .before .before .before .before .before .before .before .before .before .before .before .before .before .before .before .before .before .before .before .before .before .before .before .before .before .before .before .before .before .before .before .before .before .before .before .before .before .before .before .before .before .before .before .before .before .before .before .before .before .before .before .before .args .t2 .cons - (l .k + 1)) (u .ensures) in (
-      opened-next (opened (c .before .before .before .before .before .before .before .before .before .before .before .before .before .before .before .before .before .before .before .before .before .before .before .before .before .before .before .before .before .before .before .before .before .before .before .before .before .before .before .before .before .before .before .before .before .before)) (i .0) (st .loop-test .taken) (c .before .before .before .before .before .before .before .before .before .before .before .before .before .before .before .before .before .before .before .before .before .before .before .before .before .before .before .before .if2 .left) (p1 .moved .ensures) t (u .last .1 .1 .1 .1 .1 .0) (u .last .1 .1 .1 .1 .1 .1 .0) (u .last .1 .1 .1 .1 .1 .1 .1 .0)
+    let t = turn (c .before .before .before .before .before .before .before .before .before .before .before .before .before .before) in
+    let f = behind-followed t (caught (st)) (v .extending .divs) (v .extending .cons) (p2 .either .result) (p2 .either .ensures) (c .before .before .before .before .before .before .before .before .before .before .before .before .before .before .before .before .before .before .before .before .before .before .before .before .before .before .before .before .before .before .before .before .before .before .before .before .before .before .before .before .before .before .before .before .before .before .before .before .before .before .before .before .before .before .before .before .args .t2 .cons - pd .result) (u .ensures) in (
+      opened-next (opened (c .before .before .before .before .before .before .before .before .before .before .before .before .before .before .before .before .before .before .before .before .before .before .before .before .before .before .before .before .before .before .before .before .before .before .before .before .before .before .before .before .before .before .before .before .before .before .before)) (i .0) (st .loop-test .taken) (c .before .before .before .before .before .before .before .before .before .before .before .before .before .before .before .before .before .before .before .before .before .before .before .before .before .before .before .before .before .if2 .left) (p1 .joining-rule .ensures) t (pd .result) (pd .ensures ∙ ap (λ (b : Bool). cond (b && void (constraintOf (p1 .joining-rule .result))) (st .before .before .before .before .before .before .before .before .before .before .before .before .before .before .before .before .before .before .before .before .before .before .before .before .before .before .args .t2 .cons) (l .k + 1)) (p2 .either .ensures)) (u .last .1 .1 .1 .1 .1 .0) (u .last .1 .1 .1 .1 .1 .1 .0) (u .last .1 .1 .1 .1 .1 .1 .1 .0)
           (u .kept .1 .1 .1 .1 .1 .0) (u .kept .1 .1 .1 .1 .1 .1 .0) (u .kept .1 .1 .1 .1 .1 .1 .1 .0),
       f .0,
-      c .before .before .before .before .before .before .before .before .before .before .before .before .before .before .before .before .before .before .before .kept .kept .1 .1 .1 .1 .1 .1 .1 .1 .0 ∙ i .2,
+      c .before .before .before .before .before .before .before .before .before .before .before .before .before .before .before .before .before .before .before .before .kept .kept .1 .1 .1 .1 .1 .1 .1 .1 .0 ∙ i .2,
       λ y. f .1 (omega arith),
-      length-set (l .w .constraints) (l .w .cons) (p1 .moved .result) ∙ i .4,
-      c .before .before .before .before .before .before .before .before .before .before .before .before .before .before .before .before .mark .kept .0 ∙ i .5,
+      length-set (l .w .constraints) (l .w .cons) (p1 .joining-rule .result) ∙ i .4,
+      c .before .before .before .before .before .before .before .before .before .before .before .before .before .before .before .before .before .mark .kept .0 ∙ i .5,
     )
 
 told-requires-2 : tie.Need-told-requires-2 Inv-loop μ-loop
@@ -229,7 +238,7 @@ same-length-10 c = c .before .before .loop .inv .2
 returns-3 : tie.Need-returns-3 Inv-loop μ-loop
 returns-3 c =
     let st = c .before .before .before .before .before .before .before .before .before .before .before .before .before .before .before .before .before .before .before .before .before .before .before .before .before .before .before in
-    subst (CutIs (st .args .a) (st .args .t2)) (sym (c .told2 .ensures)) (opened-end (opened (c .before .before .before .before .before .before .before .before .before .before .before .before .before .before .before .before .before .before)) (c .before .before .loop .inv .0) (c .before .loop-test .left))
+    subst (CutTightIs (st .args .a) (st .args .t2)) (sym (c .told2 .ensures)) (opened-end (opened (c .before .before .before .before .before .before .before .before .before .before .before .before .before .before .before .before .before .before)) (c .before .before .loop .inv .0) (c .before .loop-test .left))
 
 pub cut-spec : {M : Type 1} → statement M
 cut-spec =
@@ -252,7 +261,7 @@ cut-spec =
     returns-2
     mul-e
     element-copy-out-e
-    moved-requires
+    joining-rule-requires
     slice-aggregate-kept
     kept-requires
     slice-aggregate-mark
@@ -262,7 +271,7 @@ cut-spec =
     element-set-from-r
     one-requires
     add-w
-    add-k
+    passed-requires
     sub-left
     slice-aggregate-follow
     follow-requires

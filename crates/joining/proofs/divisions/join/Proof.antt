@@ -8,14 +8,14 @@ use native.Mathlib.Numerals.{add-one}
 use borrow.Author.Needs.{needs}
 use borrow.Author.Tests.{le-leb}
 use lib.Dec.{eqb}
-use lib.ListN.{length, replicate, take, getD, set, length-set, length-map}
+use lib.ListN.{length, replicate, take, getD, set, length-set, length-map, List·getD-map}
 use lib.Seq.{length-take-le, getD-take, take-suc-set}
 use Rattle.model.specs.Sets as S
 use Rattle.model.specs.Values.{divisionOf}
 use Rattle.model.specs.Lists.{any}
 use Rattle.algebra.specs.Cut as C
 use Rattle.joining.specs.Joining.{placeOf}
-use Rattle.joining.proofs.Placing.{noDivision, map-at, map-pushed, Halfway, halfway-start, halfway-found, halfway-new, halfway-full, halfway-end}
+use Rattle.joining.proofs.Placing.{noDivision, map-pushed, Halfway, halfway-start, halfway-found, halfway-new, halfway-full, halfway-end}
 use Rattle.joining.proofs.divisions.join.Statement.{statement}
 use Rattle.joining.proofs.divisions.join.Tie as tie
 use Rattle.joining.proofs.divisions.join.Reads as reads
@@ -82,7 +82,7 @@ returns c =
     let l : length (a .t3) ≡ 8 = search needs in
     let w : length (take (a .m) (a .t3)) ≡ a .m = length-take-le (a .m) (a .t3) (omega arith) in
     let h : L .k < length E = omega (arith, length-map (take (a .m) (a .t3)) divisionOf) in
-    let g : getD E (L .k) (divisionOf noDivision) ≡ divisionOf e = map-at divisionOf noDivision (take (a .m) (a .t3)) (L .k) ∙ ap divisionOf (getD-take (a .m) (a .t3) (L .k) noDivision (omega arith)) in
+    let g : getD E (L .k) (divisionOf noDivision) ≡ divisionOf e = List·getD-map divisionOf (take (a .m) (a .t3)) (L .k) noDivision ∙ ap divisionOf (getD-take (a .m) (a .t3) (L .k) noDivision (omega arith)) in
     let s : (used : List ℕ) → ((i : ℕ) → i < a .n → getD (L .taken) i false ≡ any (eqb i) used) → C.seek (getD E (L .k) (divisionOf noDivision)) used 0 D ≡ placeOf (a .n) (c .before .before .seek .result) =
     λ used q. ap (λ (f : S.Division). C.seek f used 0 D) g ∙ c .before .before .seek .ensures .found used q in
     let j : length J ≡ L .divs = length-map (take (L .divs) (L .all)) divisionOf ∙ length-take-le (L .divs) (L .all) (omega arith) in
@@ -134,7 +134,7 @@ loop-again c =
     let l : length (a .t3) ≡ 8 = search needs in
     let w : length (take (a .m) (a .t3)) ≡ a .m = length-take-le (a .m) (a .t3) (omega arith) in
     let h : L .k < length E = omega (arith, length-map (take (a .m) (a .t3)) divisionOf) in
-    let g : getD E (L .k) (divisionOf noDivision) ≡ divisionOf e = map-at divisionOf noDivision (take (a .m) (a .t3)) (L .k) ∙ ap divisionOf (getD-take (a .m) (a .t3) (L .k) noDivision (omega arith)) in
+    let g : getD E (L .k) (divisionOf noDivision) ≡ divisionOf e = List·getD-map divisionOf (take (a .m) (a .t3)) (L .k) noDivision ∙ ap divisionOf (getD-take (a .m) (a .t3) (L .k) noDivision (omega arith)) in
     let s : (used : List ℕ) → ((i : ℕ) → i < a .n → getD (L .taken) i false ≡ any (eqb i) used) → C.seek (getD E (L .k) (divisionOf noDivision)) used 0 D ≡ placeOf (a .n) (c .before .seek .result) =
     λ used q. ap (λ (f : S.Division). C.seek f used 0 D) g ∙ c .before .seek .ensures .found used q in
     let j : length J ≡ L .divs = length-map (take (L .divs) (L .all)) divisionOf ∙ length-take-le (L .divs) (L .all) (omega arith) in

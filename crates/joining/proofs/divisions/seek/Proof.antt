@@ -3,15 +3,14 @@ use Rattle.model.specs.Sets as S
 use Rattle.algebra.specs.Cut.{sameDivision}
 use Rattle.joining.proofs.Placing.{noDivision}
 use lib.Seq.{length-take-le}
-use lib.ListN.{length-map}
-use Rattle.joining.proofs.Placing.{seek-yes, seek-no, seek-end, place-some, place-none, map-at}
+use Rattle.joining.proofs.Placing.{seek-yes, seek-no, seek-end, place-some, place-none}
 use mathlib.Core.Path.{_≡_, refl, sym, ap, ap₂, _∙_}
 use mathlib.Core.Bool.{Bool, false, not, _&&_}
 use mathlib.Core.List.{List, map}
 use Prim.Native.Nat.{ℕ, _-_, _≤_, _<_}
 use native.Mathlib.Omega.{arith}
 use lib.Dec.{eqb}
-use lib.ListN.{length, take, drop, getD}
+use lib.ListN.{length, take, drop, getD, length-map, List·getD-map}
 use borrow.Author.Needs.{needs}
 use Rattle.model.specs.Values.{divisionOf}
 use Rattle.model.specs.Lists.{any}
@@ -61,7 +60,7 @@ returns c =
     let w : length (take (a .n) (a .t2)) ≡ a .n = length-take-le (a .n) (a .t2) (omega arith) in
     let h : i < length D = omega (arith, length-map (take (a .n) (a .t2)) divisionOf) in
     let e : getD D i (divisionOf noDivision) ≡ divisionOf (getD (a .t2) i noDivision) =
-    map-at divisionOf noDivision (take (a .n) (a .t2)) i ∙ ap divisionOf (getD-take (a .n) (a .t2) i noDivision (omega arith)) in
+    List·getD-map divisionOf (take (a .n) (a .t2)) i noDivision ∙ ap divisionOf (getD-take (a .n) (a .t2) i noDivision (omega arith)) in
     let t : (used : List ℕ) → getD (a .t4) i false ≡ any (eqb i) used → c .before .free .result ≡ sameDivision (divisionOf (a .e)) (getD D i (divisionOf noDivision)) && not (any (eqb i) used) =
     λ used s. c .before .free .ensures ∙ ap₂ (λ (f : S.Division) (b : Bool). sameDivision (divisionOf (a .e)) f && not b) (sym e) s in
     record { found = λ used s. lo .loop .inv .1 used s ∙ seek-yes (divisionOf (a .e)) used D i (divisionOf noDivision) h (sym (t used (s i (omega arith))) ∙ c .if1 .taken) ∙ sym (place-some (a .n) i (omega arith)) }
@@ -85,7 +84,7 @@ loop-again c =
     let w : length (take (a .n) (a .t2)) ≡ a .n = length-take-le (a .n) (a .t2) (omega arith) in
     let h : i < length D = omega (arith, length-map (take (a .n) (a .t2)) divisionOf) in
     let e : getD D i (divisionOf noDivision) ≡ divisionOf (getD (a .t2) i noDivision) =
-    map-at divisionOf noDivision (take (a .n) (a .t2)) i ∙ ap divisionOf (getD-take (a .n) (a .t2) i noDivision (omega arith)) in
+    List·getD-map divisionOf (take (a .n) (a .t2)) i noDivision ∙ ap divisionOf (getD-take (a .n) (a .t2) i noDivision (omega arith)) in
     let t : (used : List ℕ) → getD (a .t4) i false ≡ any (eqb i) used → c .before .free .result ≡ sameDivision (divisionOf (a .e)) (getD D i (divisionOf noDivision)) && not (any (eqb i) used) =
     λ used s. c .before .free .ensures ∙ ap₂ (λ (f : S.Division) (b : Bool). sameDivision (divisionOf (a .e)) f && not b) (sym e) s in
     (omega arith, λ used s. lo .loop .inv .1 used s ∙ seek-no (divisionOf (a .e)) used D i (divisionOf noDivision) h (sym (t used (s i (omega arith))) ∙ c .if1 .left))
