@@ -25,7 +25,8 @@ use Rattle.results.specs.declared.results.Outcome.{Outcome}
 use Rattle.results.specs.declared.results.Done.{Done}
 use Rattle.results.specs.Outcome.{outcomeIs}
 use Rattle.results.specs.Results.{Made, Finished}
-use Rattle.operations.specs.Operations.{Sets, Checks}
+use Rattle.subtraction.specs.Subtraction.{Sets}
+use Rattle.operations.specs.Operations.{Checks}
 
 refused-of : (x : Answer Set) (k : ℕ) → k ≡ number x → (k ≡ 0 → ⊥) → x ≡ refused k
 refused-of (refused m) k e n = ap refused (sym e)

@@ -7,8 +7,8 @@ ghost use Rattle.algebra.specs.Operations.{unionBytes, intersectionBytes, diffe
 ghost use Rattle.algebra.specs.Result.{Result};
 ghost use Rattle.results.specs.Outcome.{outcomeIs};
 ghost use Rattle.results.specs.Results.{Made};
-ghost use Rattle.operations.specs.Operations.{Sets, Checks};
-use crate::levels::subtract;
+ghost use Rattle.subtraction.specs.Subtraction.{Sets};
+ghost use Rattle.operations.specs.Operations.{Checks};
 use crate::pairs::intersect;
 use codec::check;
 use records::copy_bytes;
@@ -17,6 +17,7 @@ use results::Outcome;
 use results::count;
 use results::finish;
 use results::refuse;
+use subtraction::subtract;
 
 // 0, or the refusal of the first set, or else of the second.
 fn check_two(n: usize, a: &[u8], b: &[u8]) -> u32

@@ -1,6 +1,5 @@
 // Union, intersection, difference and complement of sets (document 01, "Cutting rules").
 mod calls;
-mod levels;
 mod pairs;
 
 pub use calls::complement;

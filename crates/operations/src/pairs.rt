@@ -1,20 +1,65 @@
 // The intersection: each basic set of the first with each of the second.
+ghost use mathlib.Core.Bool.{true};
 ghost use lib.ListN.{length};
 ghost use Rattle.model.specs.Values.{basicSetOf};
 ghost use Rattle.codec.specs.Places.{setFrom};
 ghost use Rattle.algebra.specs.Cut as C;
 ghost use Rattle.algebra.specs.Cut.{bothFits, intersection, intersectionFits};
-ghost use Rattle.cutting.specs.Cutting.{Tables, Pair};
+ghost use Rattle.records.specs.Sound.{Sound};
+ghost use Rattle.candidates.specs.Candidates.{Tables};
+ghost use Rattle.cutting.specs.Cutting.{Pair};
 ghost use Rattle.results.specs.Results.{Ready, Emits, Made};
-ghost use Rattle.operations.specs.Operations.{Sets, Level, meeting, meetings, meetingsFit};
+ghost use Rattle.subtraction.specs.Subtraction.{Sets, Level};
+ghost use Rattle.operations.specs.Operations.{tested, admitted, meeting, meetings, meetingsFit, firstMeetings, firstMeetingsFit};
+use candidates::keeps;
 use cutting::both;
-use cutting::keeps;
+use joining::any_divisible;
+use joining::tight_set;
 use model::BasicSet;
 use records::decode_basic;
 use results::Done;
 use results::emit;
 
-// p and v in one, where the test for fractions keeps it.
+// m behind the basic sets of the result, where the test for fractions keeps it.
+fn emit_kept(
+    m: BasicSet,
+    out: &mut [u8],
+    s: Done,
+    rows: &mut [[i64; 18]],
+    place: &mut [usize],
+    kinds: &mut [u8],
+) -> Done
+    requires { ⌜ Sound m × Ready s × Tables (now rows) (now place) (now kinds) ⌝ }
+    ensures { λ r. ⌜ Emits (tested (basicSetOf m)) true (now (out .entry)) s r (now (out .exit)) ⌝ }
+{
+    if keeps(m, rows, place, kinds) {
+        return emit(m, out, s);
+    }
+    s
+}
+
+// w once its constraints are tightened, where none is void.
+fn admit_divided(
+    w: BasicSet,
+    out: &mut [u8],
+    s: Done,
+    rows: &mut [[i64; 18]],
+    place: &mut [usize],
+    kinds: &mut [u8],
+) -> Done
+    requires { ⌜ Sound w × Ready s × Tables (now rows) (now place) (now kinds) ⌝ }
+    ensures { λ r. ⌜ Emits (admitted (basicSetOf w)) true (now (out .entry)) s r (now (out .exit)) ⌝ }
+{
+    let t = tight_set(w);
+    let none = t.void;
+    if none {
+        return s;
+    }
+    let m = t.set;
+    emit_kept(m, out, s, rows, place, kinds)
+}
+
+// p and v in one: tightened, where none of its constraints is void and the test for fractions keeps it. Most are tight already.
 fn meet(
     p: BasicSet,
     v: BasicSet,
@@ -36,11 +81,11 @@ fn meet(
             fits: false,
         };
     }
-    let m = c.set;
-    if keeps(m, rows, place, kinds) {
-        return emit(m, out, s);
+    let w = c.set;
+    if any_divisible(w) {
+        return admit_divided(w, out, s, rows, place, kinds);
     }
-    s
+    emit_kept(w, out, s, rows, place, kinds)
 }
 
 // p with each basic set of b.
@@ -70,6 +115,47 @@ fn meet_all(
     t
 }
 
+// p once its constraints are tightened, with each basic set of b; nothing where one of them is void.
+fn meet_divided(
+    p: BasicSet,
+    b: &[u8],
+    out: &mut [u8],
+    s: Done,
+    rows: &mut [[i64; 18]],
+    place: &mut [usize],
+    kinds: &mut [u8],
+) -> Done
+    requires { ⌜ Level (length (setFrom (now b) 0)) p (now b) 0 × Ready s × Tables (now rows) (now place) (now kinds) ⌝ }
+    ensures { λ r. ⌜ Emits (firstMeetings (setFrom (now (b .entry)) 0) (basicSetOf p)) (firstMeetingsFit (setFrom (now (b .entry)) 0) (basicSetOf p)) (now (out .entry)) s r (now (out .exit)) ⌝ }
+{
+    let t = tight_set(p);
+    let none = t.void;
+    if none {
+        return s;
+    }
+    let q = t.set;
+    meet_all(q, b, out, s, rows, place, kinds)
+}
+
+// A basic set of the first set with each basic set of b.
+fn meet_first(
+    p: BasicSet,
+    b: &[u8],
+    out: &mut [u8],
+    s: Done,
+    rows: &mut [[i64; 18]],
+    place: &mut [usize],
+    kinds: &mut [u8],
+) -> Done
+    requires { ⌜ Level (length (setFrom (now b) 0)) p (now b) 0 × Ready s × Tables (now rows) (now place) (now kinds) ⌝ }
+    ensures { λ r. ⌜ Emits (firstMeetings (setFrom (now (b .entry)) 0) (basicSetOf p)) (firstMeetingsFit (setFrom (now (b .entry)) 0) (basicSetOf p)) (now (out .entry)) s r (now (out .exit)) ⌝ }
+{
+    if any_divisible(p) {
+        return meet_divided(p, b, out, s, rows, place, kinds);
+    }
+    meet_all(p, b, out, s, rows, place, kinds)
+}
+
 pub fn intersect(a: &[u8], b: &[u8], out: &mut [u8]) -> Done
     requires { ⌜ Sets (now a) (now b) ⌝ }
     ensures { λ r. ⌜ Made (intersectionFits C.keeps (setFrom (now (a .entry)) 0) (setFrom (now (b .entry)) 0)) (intersection C.keeps (setFrom (now (a .entry)) 0) (setFrom (now (b .entry)) 0)) (now (out .entry)) r (now (out .exit)) ⌝ }
@@ -85,7 +171,7 @@ pub fn intersect(a: &[u8], b: &[u8], out: &mut [u8]) -> Done
     let mut pos = 0;
     while pos < a.len() {
         let p = decode_basic(a, pos + 1);
-        t = meet_all(p, b, out, t, &mut rows, &mut place, &mut kinds);
+        t = meet_first(p, b, out, t, &mut rows, &mut place, &mut kinds);
         let on = t.fits;
         if !on {
             return t;

@@ -11,7 +11,7 @@ use Rattle.operations.proofs.calls.complement.Tie as tie
 use Rattle.operations.proofs.calls.complement.Reads as reads
 use Rattle.operations.proofs.calls.complement.Lts as lts
 use Rattle.codec.proofs.check.Reads as check-reads
-use Rattle.operations.proofs.levels.subtract.Reads as subtract-reads
+use Rattle.subtraction.proofs.subtract.Reads as subtract-reads
 use Rattle.results.proofs.finish.Reads as finish-reads
 use Rattle.results.proofs.refuse.Reads as refuse-reads
 

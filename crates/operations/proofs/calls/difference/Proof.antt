@@ -9,7 +9,7 @@ use Rattle.operations.proofs.calls.difference.Statement.{statement}
 use Rattle.operations.proofs.calls.difference.Tie as tie
 use Rattle.operations.proofs.calls.difference.Reads as reads
 use Rattle.operations.proofs.calls.difference.Lts as lts
-use Rattle.operations.proofs.levels.subtract.Reads as subtract-reads
+use Rattle.subtraction.proofs.subtract.Reads as subtract-reads
 use Rattle.operations.proofs.calls.check_two.Reads as check-two-reads
 use Rattle.results.proofs.finish.Reads as finish-reads
 use Rattle.results.proofs.refuse.Reads as refuse-reads

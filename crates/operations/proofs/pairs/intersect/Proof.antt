@@ -6,18 +6,18 @@ use lib.ListN.{length}
 use Rattle.codec.specs.Places.{setFrom}
 use Rattle.codec.proofs.Boundaries.{boundary-start}
 use Rattle.codec.proofs.Valid.{bytes-of}
-use Rattle.operations.specs.Operations.{meetings, meetingsFit}
+use Rattle.operations.specs.Operations.{firstMeetings, firstMeetingsFit}
 use Rattle.operations.proofs.Meeting.{intersection-made}
-use Rattle.operations.proofs.Along.{Along, along-start, along-end, along-opened, along-inside, along-valid, along-stop, along-next, nothing-ready, Decodes, level-start}
+use Rattle.subtraction.proofs.Along.{Along, along-start, along-end, along-opened, along-inside, along-valid, along-stop, along-next, nothing-ready, Decodes, level-start}
 use Rattle.operations.proofs.pairs.intersect.Statement.{statement}
 use Rattle.operations.proofs.pairs.intersect.Tie as tie
 use Rattle.operations.proofs.pairs.intersect.Reads as reads
 use Rattle.operations.proofs.pairs.intersect.Lts as lts
 use Rattle.records.proofs.decode_basic.Reads as decode-basic-reads
-use Rattle.operations.proofs.pairs.meet_all.Reads as meet-all-reads
+use Rattle.operations.proofs.pairs.meet_first.Reads as meet-first-reads
 
 abbrev Inv-loop : tie.InvT-loop
-Inv-loop a b out₀ rows₀ place₀ kinds₀ t₀ pos₀ out rows place kinds t pos = Along (Decodes b) (meetings (setFrom b 0)) (meetingsFit (setFrom b 0)) a out₀ t₀ rows place kinds out t pos
+Inv-loop a b out₀ rows₀ place₀ kinds₀ t₀ pos₀ out rows place kinds t pos = Along (Decodes b) (firstMeetings (setFrom b 0)) (firstMeetingsFit (setFrom b 0)) a out₀ t₀ rows place kinds out t pos
 
 abbrev μ-loop : tie.MeasureT-loop
 μ-loop a b out₀ rows₀ place₀ kinds₀ t₀ pos₀ out rows place kinds t pos = length a - pos
@@ -33,17 +33,17 @@ add-decode-basic c = omega (arith, c .loop-test .taken)
 decode-basic-requires : tie.Need-decode-basic-requires Inv-loop μ-loop
 decode-basic-requires c κs = along-opened (c .before .loop .inv) (c .loop-test .taken)
 
-slice-aggregate-meet-all : tie.Need-slice-aggregate-meet-all Inv-loop μ-loop
-slice-aggregate-meet-all c = sym (c .before .before .before .before .loop .inv .tables .high)
+slice-aggregate-meet-first : tie.Need-slice-aggregate-meet-first Inv-loop μ-loop
+slice-aggregate-meet-first c = sym (c .before .before .before .before .loop .inv .tables .high)
 
-slice-aggregate-meet-all-2 : tie.Need-slice-aggregate-meet-all-2 Inv-loop μ-loop
-slice-aggregate-meet-all-2 c = sym (c .before .before .before .before .before .loop .inv .tables .long)
+slice-aggregate-meet-first-2 : tie.Need-slice-aggregate-meet-first-2 Inv-loop μ-loop
+slice-aggregate-meet-first-2 c = sym (c .before .before .before .before .before .loop .inv .tables .long)
 
-slice-aggregate-meet-all-3 : tie.Need-slice-aggregate-meet-all-3 Inv-loop μ-loop
-slice-aggregate-meet-all-3 c = sym (c .before .before .before .before .before .before .loop .inv .tables .wide)
+slice-aggregate-meet-first-3 : tie.Need-slice-aggregate-meet-first-3 Inv-loop μ-loop
+slice-aggregate-meet-first-3 c = sym (c .before .before .before .before .before .before .loop .inv .tables .wide)
 
-meet-all-requires : tie.Need-meet-all-requires Inv-loop μ-loop
-meet-all-requires c κs =
+meet-first-requires : tie.Need-meet-first-requires Inv-loop μ-loop
+meet-first-requires c κs =
     let a = c .before .before .before .before .before .before .before .before .before .before .args in
     let x = c .before .before .before .before .before .before .loop .inv in
     let d = c .before .before .before .before .decode-basic .ensures in
@@ -51,10 +51,10 @@ meet-all-requires c κs =
     (level-start (bytes-of (a .b .now) (λ i. c .before .before .before .before .before .before .before .before .shared-slice-known2 .given i .fits)) (x .known) v (d .divs) (d .cons) refl, x .onward .ready, x .tables)
 
 same-length : tie.Need-same-length Inv-loop μ-loop
-same-length c = c .before .before .before .before .before .before .meet-all .kept .1 .1 .0 ∙ c .before .before .before .before .before .before .before .before .before .before .before .before .before .loop .inv .same
+same-length c = c .before .before .before .before .before .before .meet-first .kept .1 .1 .0 ∙ c .before .before .before .before .before .before .before .before .before .before .before .before .before .loop .inv .same
 
 returns : tie.Need-returns Inv-loop μ-loop
-returns c = let m = c .before .before .before .before .before .before .meet-all in let a = c .before .before .before .before .before .before .before .before .before .before .before .before .before .before .before .before .before .args in intersection-made (setFrom (a .a .now) 0) (setFrom (a .b .now) 0) (along-stop (c .before .before .before .before .before .before .before .before .before .before .before .before .before .loop .inv) (c .before .before .before .before .before .before .before .before .before .before .before .before .loop-test .taken) (c .before .before .before .before .before .before .before .before .before .before .before .decode-basic .ensures) (m .ensures) (not-true (m .result .fits) (c .if1 .taken)))
+returns c = let m = c .before .before .before .before .before .before .meet-first in let a = c .before .before .before .before .before .before .before .before .before .before .before .before .before .before .before .before .before .args in intersection-made (setFrom (a .a .now) 0) (setFrom (a .b .now) 0) (along-stop (c .before .before .before .before .before .before .before .before .before .before .before .before .before .loop .inv) (c .before .before .before .before .before .before .before .before .before .before .before .before .loop-test .taken) (c .before .before .before .before .before .before .before .before .before .before .before .decode-basic .ensures) (m .ensures) (not-true (m .result .fits) (c .if1 .taken)))
 
 add-pos : tie.Need-add-pos Inv-loop μ-loop
 add-pos c = let g = c .before .before .before .before .before .before .before .before .before .before .before .before .before .before .before .before .before .good .0 in let i = along-inside (c .before .before .before .before .before .before .before .before .before .before .before .before .before .loop .inv) (c .before .before .before .before .before .before .before .before .before .before .before .before .loop-test .taken) (c .before .before .before .before .before .before .before .before .before .before .before .decode-basic .ensures) in omega arith
@@ -76,7 +76,7 @@ loop-less c = let h = c .before .before .before .before .before .before .before 
 
 loop-again : tie.Need-loop-again Inv-loop μ-loop
 loop-again c =
-    let m = c .before .before .before .before .before .before .before .before .meet-all in
+    let m = c .before .before .before .before .before .before .before .before .meet-first in
     along-next (c .before .before .before .before .before .before .before .before .before .before .before .before .before .before .before .loop .inv) (c .before .before .before .before .before .before .before .before .before .before .before .before .before .before .loop-test .taken) (c .before .before .before .before .before .before .before .before .before .before .before .before .before .decode-basic .ensures) (m .ensures) (m .kept .1 .1 .0) (m .kept .1 .1 .1 .1 .0) (m .kept .1 .1 .1 .1 .1 .0) (m .kept .1 .1 .1 .1 .1 .1 .0) (not-false (m .result .fits) (c .before .before .if1 .left))
 
 same-length-2 : tie.Need-same-length-2 Inv-loop μ-loop
@@ -94,10 +94,10 @@ intersect-spec =
     loop-holds
     add-decode-basic
     decode-basic-requires
-    slice-aggregate-meet-all
-    slice-aggregate-meet-all-2
-    slice-aggregate-meet-all-3
-    meet-all-requires
+    slice-aggregate-meet-first
+    slice-aggregate-meet-first-2
+    slice-aggregate-meet-first-3
+    meet-first-requires
     same-length
     returns
     add-pos

@@ -8,7 +8,7 @@ use Rattle.algebra.specs.Cut.{keeps, bothFits}
 use Rattle.codec.proofs.Valid.{bytes-of}
 use Rattle.operations.specs.Operations.{meeting}
 use Rattle.operations.proofs.Meeting.{SoundOver}
-use Rattle.operations.proofs.Along.{Along, along-start, along-end, along-opened, along-inside, along-valid, along-stop, along-next}
+use Rattle.subtraction.proofs.Along.{Along, along-start, along-end, along-opened, along-inside, along-valid, along-stop, along-next}
 use Rattle.operations.proofs.pairs.meet_all.Statement.{statement}
 use Rattle.operations.proofs.pairs.meet_all.Tie as tie
 use Rattle.operations.proofs.pairs.meet_all.Reads as reads

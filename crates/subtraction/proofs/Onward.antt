@@ -9,7 +9,7 @@ use borrow.Author.Tests.{ltb-true, ltb-false}
 use lib.Dec.{ltb}
 use lib.ListN.{length, take, drop, getD, length-map, drop-of-length-le, List·getD-map}
 use lib.Seq.{drop-cons, getD-take, length-take-le}
-use Rattle.model.specs.Lists.{all, concatMap}
+use Rattle.model.specs.Lists.{all, any, concatMap}
 use Rattle.model.specs.Sets.{BasicSet, Set}
 use Rattle.model.specs.Values.{basicSetOf}
 use Rattle.model.specs.declared.BasicSet.{BasicSet as Stored}
@@ -18,17 +18,19 @@ use Rattle.codec.specs.Places.{setFrom, Opened, Decoded, after}
 use Rattle.codec.proofs.Boundaries.{Turn, turn, boundary-end, boundary-opened}
 use Rattle.codec.proofs.Valid.{All, Valid}
 use Rattle.algebra.specs.Cut.{keeps, cut, cutFits, cutAll, cutAllFits}
-use Rattle.algebra.proofs.Closed.{cut-valid}
+use Rattle.algebra.specs.Tighten.{divisible}
+use Rattle.algebra.proofs.Closed.{Tight, cut-valid, pieces-tight}
 use Rattle.cutting.specs.declared.pieces.CutSteps.{CutSteps}
 use Rattle.records.specs.Sound.{Sound}
-use Rattle.cutting.specs.Cutting.{Step, pieceOf, Pair, CutIs, Piece, PieceIs}
+use Rattle.cutting.specs.Cutting.{Step, pieceOf, Pair, CutTightIs, CutIs, Piece, PieceIs}
+use Rattle.cutting.proofs.Turns.{cut-is}
 use Rattle.joining.proofs.Placing.{All-at}
 use Rattle.results.specs.declared.results.Done.{Done}
 use Rattle.results.specs.Results.{Ready, Emits}
-use Rattle.operations.specs.Operations.{Level}
+use Rattle.subtraction.specs.Subtraction.{Level, TightAt}
 use Rattle.results.proofs.Chained.{emits-none, emits-refused, emits-more, emits-stop}
 
-emits-as : {l m : Set} {f g : Bool} {o o′ : List ℕ} {s r : Done} → l ≡ m → f ≡ g → Emits m g o s r o′ → Emits l f o s r o′
+pub emits-as : {l m : Set} {f g : Bool} {o o′ : List ℕ} {s r : Done} → l ≡ m → f ≡ g → Emits m g o s r o′ → Emits l f o s r o′
 emits-as {o = o} {o′ = o′} {s = s} {r = r} p q e = subst₂ (λ (x : Set) (y : Bool). Emits x y o s r o′) (sym p) (sym q) e
 
 -- ---- one basic set after the other
@@ -94,9 +96,10 @@ module _ {left : ℕ} {p : Stored} {b : List ℕ} {pos : ℕ} (level : Level lef
       pub level-pair : Pair p v
       level-pair = record { n = level .n; first = level .valid; second = level-cutters .0; divs = level .divs; cons = level .cons; divs′ = d .divs; cons′ = d .cons }
 
-      pub level-over : {c : CutSteps} → CutIs p v c → c .fits ≡ false → (o o′ : List ℕ) (s : Done) (at count : ℕ)
+      pub level-over : {c : CutSteps} → TightAt left p → CutTightIs p v c → c .fits ≡ false → (o o′ : List ℕ) (s : Done) (at count : ℕ)
           → Emits (cutAll keeps (setFrom b pos) (basicSetOf p)) (cutAllFits keeps (setFrom b pos) (basicSetOf p)) o s (record { at = at; count = count; fits = false }) o′
-      level-over k f o o′ s at count =
+      level-over {c} t i f o o′ s at count =
+          let k = cut-is p v (t some) c i in
           emits-refused (cutAll keeps (setFrom b pos) (basicSetOf p)) (cutAllFits keeps (setFrom b pos) (basicSetOf p)) o o′ s at count
           (ap (λ (cs : Set). cutAllFits keeps cs (basicSetOf p)) (level-turn .set)
           ∙ ap (λ (x : Bool). x && all (cutAllFits keeps (setFrom b (after (pos + 1) v))) (cut keeps (basicSetOf p) (basicSetOf v))) (sym (k .fits) ∙ f))
@@ -106,7 +109,8 @@ pub record Pieced (left : ℕ) (p : Stored) (b : List ℕ) (pos : ℕ) (v : Stor
   pub level : Level left p b pos
   pub some : left ≡ 0 → ⊥
   pub decoded : Decoded b (pos + 1) v
-  pub cut : CutIs p v c
+  pub cuts : TightAt left p
+  pub tight : CutTightIs p v c
   pub fits : c .fits ≡ true
   pub long : length (c .steps) ≡ 96
 
@@ -114,6 +118,9 @@ abbrev pub piecesOf : CutSteps → Set
 piecesOf c = map (pieceOf (basicSetOf (c .working))) (take (c .count) (c .steps))
 
 module _ {left : ℕ} {p : Stored} {b : List ℕ} {pos : ℕ} {v : Stored} {c : CutSteps} (x : Pieced left p b pos v c) where
+  is-cut : CutIs p v c
+  is-cut = cut-is p v (x .cuts (x .some)) c (x .tight)
+
   here-turn : Turn (x .level .n) b pos v
   here-turn = level-turn (x .level) (x .some) (x .decoded)
 
@@ -126,14 +133,14 @@ module _ {left : ℕ} {p : Stored} {b : List ℕ} {pos : ℕ} {v : Stored} {c : 
       → Emits (cutAll keeps (setFrom b pos) (basicSetOf p)) (cutAllFits keeps (setFrom b pos) (basicSetOf p)) o s r o′
   unfolding cutAll
   pieced-whole e =
-      let k = sym (x .cut .pieces (x .fits)) in
+      let k = sym (is-cut .pieces (x .fits)) in
       emits-as
       (ap (λ (cs : Set). cutAll keeps cs (basicSetOf p)) (here-turn .set) ∙ ap (concatMap (cutAll keeps (setFrom b (after (pos + 1) v)))) k)
-      (ap (λ (cs : Set). cutAllFits keeps cs (basicSetOf p)) (here-turn .set) ∙ ap₂ (λ (y : Bool) (l : Set). y && all (cutAllFits keeps (setFrom b (after (pos + 1) v))) l) (sym (x .cut .fits) ∙ x .fits) k)
+      (ap (λ (cs : Set). cutAllFits keeps cs (basicSetOf p)) (here-turn .set) ∙ ap₂ (λ (y : Bool) (l : Set). y && all (cutAllFits keeps (setFrom b (after (pos + 1) v))) l) (sym (is-cut .fits) ∙ x .fits) k)
       e
 
   steps-long : length (take (c .count) (c .steps)) ≡ c .count
-  steps-long = length-take-le (c .count) (c .steps) (let h = x .cut .count (x .fits) in let l = x .long in omega arith)
+  steps-long = length-take-le (c .count) (c .steps) (let h = is-cut .count (x .fits) in let l = x .long in omega arith)
 
   pieces-long : length (piecesOf c) ≡ c .count
   pieces-long = length-map (take (c .count) (c .steps)) (pieceOf (basicSetOf (c .working))) ∙ steps-long
@@ -145,10 +152,10 @@ module _ {left : ℕ} {p : Stored} {b : List ℕ} {pos : ℕ} {v : Stored} {c : 
     pub pieced-step : Piece (c .working) (getD (c .steps) i 0)
     pieced-step =
         record {
-          sound = record { n = x .level .n; valid = x .cut .valid (x .fits) (x .level .n) (x .level .valid) (valid .0); divs = x .cut .divs (x .fits); cons = x .cut .cons (x .fits) };
+          sound = record { n = x .level .n; valid = is-cut .valid (x .fits) (x .level .n) (x .level .valid) (valid .0); divs = is-cut .divs (x .fits); cons = is-cut .cons (x .fits) };
           step =
               subst (Step (basicSetOf (c .working) .constraints)) (getD-take (c .count) (c .steps) i 0 h)
-              (All-at (Step (basicSetOf (c .working) .constraints)) (take (c .count) (c .steps)) i 0 (subst (λ (m : ℕ). i < m) (sym steps-long) h) (x .cut .steps (x .fits)));
+              (All-at (Step (basicSetOf (c .working) .constraints)) (take (c .count) (c .steps)) i 0 (subst (λ (m : ℕ). i < m) (sym steps-long) h) (is-cut .steps (x .fits)));
         }
 
     module _ {q : Stored} (is : PieceIs (c .working) (getD (c .steps) i 0) q) where
@@ -167,14 +174,20 @@ module _ {left : ℕ} {p : Stored} {b : List ℕ} {pos : ℕ} {v : Stored} {c : 
       pub pieced-level : Level (left - 1) q b (after (pos + 1) v)
       pieced-level =
           let n = x .level .n in
-          let f = to-T (cutFits keeps (basicSetOf p) (basicSetOf v)) (sym (x .cut .fits) ∙ x .fits) in
-          let every = subst (All (Valid n)) (sym (x .cut .pieces (x .fits))) (cut-valid keeps n (basicSetOf p) (basicSetOf v) (x .level .valid) (valid .0) f) in
+          let f = to-T (cutFits keeps (basicSetOf p) (basicSetOf v)) (sym (is-cut .fits) ∙ x .fits) in
+          let every = subst (All (Valid n)) (sym (is-cut .pieces (x .fits))) (cut-valid keeps n (basicSetOf p) (basicSetOf v) (x .level .valid) (valid .0) f) in
           record {
             n = n;
             here = here-turn .there;
             cutters = valid .1;
             many = let e = ap length (here-turn .set) in let m = x .level .many in omega arith;
             valid = subst (Valid n) piece-at (All-at (Valid n) (piecesOf c) i (pieceOf (basicSetOf (c .working)) 0) inside every);
-            divs = let e = is .divs in let l = x .cut .divs (x .fits) in omega arith;
+            divs = let e = is .divs in let l = is-cut .divs (x .fits) in omega arith;
             cons = is .cons;
           }
+
+      -- and its piece is tight
+      pub pieced-tight : any divisible (basicSetOf q .constraints) ≡ false
+      pieced-tight =
+          let every = subst (All Tight) (sym (x .tight .pieces (x .fits))) (pieces-tight keeps (x .level .n) (basicSetOf p) (basicSetOf v) (x .cuts (x .some))) in
+          subst Tight piece-at (All-at Tight (piecesOf c) i (pieceOf (basicSetOf (c .working)) 0) inside every)

@@ -6,19 +6,19 @@ use borrow.Author.Tests.{not-true, not-false}
 use lib.ListN.{length, drop, length-map}
 use Rattle.codec.specs.Places.{setFrom}
 use Rattle.algebra.specs.Cut.{keeps, cutAll, cutAllFits}
-use Rattle.cutting.proofs.Steps.{tables-kept}
-use Rattle.operations.proofs.Onward.{Onward, Pieced, piecesOf, onward-start, onward-end, onward-next, onward-stop, level-sound, level-last, level-inside, level-opened, level-turn, level-pair, level-over, pieced-whole, pieced-end, pieced-step, pieced-next, pieced-level}
+use Rattle.candidates.proofs.Catching.{tables-kept}
+use Rattle.subtraction.proofs.Onward.{Onward, Pieced, piecesOf, onward-start, onward-end, onward-next, onward-stop, level-sound, level-last, level-inside, level-opened, level-turn, level-pair, level-over, pieced-whole, pieced-end, pieced-step, pieced-next, pieced-level, pieced-tight}
 use borrow.Fn.Kinds.{In}
 use borrow.Fn.PlainCycle.{Measures, is, falls, and}
-use Rattle.operations.proofs.levels.cut_all.Reads as cut-all
-use Rattle.operations.proofs.levels.cut_all.Kinds as cut-all-kinds
-use Rattle.operations.proofs.levels.+cut_all.Lts-cut_all as lts
+use Rattle.subtraction.proofs.levels.cut_all.Reads as cut-all
+use Rattle.subtraction.proofs.levels.cut_all.Kinds as cut-all-kinds
+use Rattle.subtraction.proofs.levels.+cut_all.Lts-cut_all as lts
 use Rattle.records.proofs.decode_basic.Reads as decode-basic-reads
 use Rattle.cutting.proofs.cut.Reads as cut-reads
 use Rattle.cutting.proofs.piece.Reads as piece-reads
 use Rattle.results.proofs.emit.Reads as emit-reads
-use Rattle.operations.proofs.levels.+cut_all.{statement}
-use Rattle.operations.proofs.levels.+cut_all.Tie.{close}
+use Rattle.subtraction.proofs.levels.+cut_all.{statement}
+use Rattle.subtraction.proofs.levels.+cut_all.Tie.{close}
 
 abbrev μ-cut-all : Measures 7 cut-all-kinds.ps ℕ
 μ-cut-all κs a = a .0
@@ -49,7 +49,8 @@ pieced t c =
       level = c .before .before .before .before .before .before .before .before .before .before .before .before .before .before .before .before .before .before .before .before .before .before .before .pre .1 .0;
       some = c .before .before .before .before .before .before .before .before .before .before .before .before .before .before .before .before .before .before .if1 .left;
       decoded = c .before .before .before .before .before .before .before .before .before .before .before .before .before .before .before .before .before .decode-basic .ensures;
-      cut = k .ensures;
+      cuts = c .before .before .before .before .before .before .before .before .before .before .before .before .before .before .before .before .before .before .before .before .before .before .before .pre .1 .4;
+      tight = k .ensures;
       fits = not-false (k .result .fits) (c .before .if2 .left);
       long = simp length-map at (k .ok .1 .1 .1 .0 .1 .0 .1);
     }
@@ -110,13 +111,13 @@ returns-2 : (t : ℕ) → lts.Need-returns-2 (callees t) (at t) cut-all.Post Inv
 returns-2 t c =
     let st = c .before .before .before .before .before .before .before .before .before .before .before .before .before .before .before .before .before .before .before .before .before .before in
     let p1 = c .before .before .before .before .before .before .before .before in
-    level-over (st .pre .1 .0) (c .before .before .before .before .before .before .before .before .before .before .before .before .before .before .before .before .before .if1 .left) (c .before .before .before .before .before .before .before .before .before .before .before .before .before .before .before .before .decode-basic .ensures) (p1 .cut .ensures) (not-true (p1 .cut .result .fits) (c .if2 .taken)) (st .args .out .now) (st .args .out .now) (st .args .s) _ _
+    level-over (st .pre .1 .0) (c .before .before .before .before .before .before .before .before .before .before .before .before .before .before .before .before .before .if1 .left) (c .before .before .before .before .before .before .before .before .before .before .before .before .before .before .before .before .decode-basic .ensures) (st .pre .1 .4) (p1 .cut .ensures) (not-true (p1 .cut .result .fits) (c .if2 .taken)) (st .args .out .now) (st .args .out .now) (st .args .s) _ _
 
 loop-holds : (t : ℕ) → lts.Need-loop-holds (callees t) (at t) cut-all.Post Inv-loop μ-loop
 loop-holds t c = (refl, refl, refl, refl, refl, refl, onward-start (c .before .before .before .before .before .before .before .before .before .before .before .before .before .before .before .before .before .before .before .before .before .before .before .pre .1 .1))
 
 element-copy-out-v : (t : ℕ) → lts.Need-element-copy-out-v (callees t) (at t) cut-all.Post Inv-loop μ-loop
-element-copy-out-v t c = let x = pieced t (c .before .before) in let h = x .cut .count (x .fits) in omega (arith, c .loop-test .taken)
+element-copy-out-v t c = let x = pieced t (c .before .before) in let h = x .tight .count (x .fits) in omega (arith, c .loop-test .taken)
 
 piece-requires : (t : ℕ) → lts.Need-piece-requires (callees t) (at t) cut-all.Post Inv-loop μ-loop
 piece-requires t c κs = pieced-step (pieced t (c .before .before .before)) (c .before .loop-test .taken)
@@ -128,7 +129,7 @@ cut-all-requires : (t : ℕ) → lts.Need-cut-all-requires (callees t) (at t) cu
 cut-all-requires t c κs =
     let st = c .before .before .before .before .before .before .before .before .before .before .before .before .before .before .before .before .before .before .before .before .before .before .before .before .before .before .before .before .before .before .before .before .before in
     let k = c .before .before .before .before .before .before .before .before .before .before .before .before .before .before .before .before .before .before .before .cut in let lo = c .before .before .before .before .before .before .before .before .before .loop in let m = st .pre .0 in let some = c .before .before .before .before .before .before .before .before .before .before .before .before .before .before .before .before .before .before .before .before .before .before .before .before .before .before .before .before .if1 .left in
-    (omega arith, (pieced-level (pieced t (c .before .before .before .before .before .before .before .before .before .before)) (c .before .before .before .before .before .before .before .before .loop-test .taken) (c .before .before .before .before .before .before .piece .ensures), lo .inv .6 .ready, tables-kept (st .pre .1 .2) (lo .inv .1 ∙ k .kept .1 .1 .0) (lo .inv .2 ∙ k .kept .1 .1 .1 .0) (lo .inv .3 ∙ k .kept .1 .1 .1 .1 .0), record { many = lo .inv .4 ∙ k .kept .1 .1 .1 .1 .1 .0 ∙ st .pre .1 .3 .many; high = lo .inv .5 ∙ k .kept .1 .1 .1 .1 .1 .1 .0 ∙ st .pre .1 .3 .high }))
+    (omega arith, (pieced-level (pieced t (c .before .before .before .before .before .before .before .before .before .before)) (c .before .before .before .before .before .before .before .before .loop-test .taken) (c .before .before .before .before .before .before .piece .ensures), lo .inv .6 .ready, tables-kept (st .pre .1 .2) (lo .inv .1 ∙ k .kept .1 .1 .0) (lo .inv .2 ∙ k .kept .1 .1 .1 .0) (lo .inv .3 ∙ k .kept .1 .1 .1 .1 .0), record { many = lo .inv .4 ∙ k .kept .1 .1 .1 .1 .1 .0 ∙ st .pre .1 .3 .many; high = lo .inv .5 ∙ k .kept .1 .1 .1 .1 .1 .1 .0 ∙ st .pre .1 .3 .high }, λ z. pieced-tight (pieced t (c .before .before .before .before .before .before .before .before .before .before)) (c .before .before .before .before .before .before .before .before .loop-test .taken) (c .before .before .before .before .before .before .piece .ensures)))
 
 same-length-7 : (t : ℕ) → lts.Need-same-length-7 (callees t) (at t) cut-all.Post Inv-loop μ-loop
 same-length-7 t c = c .before .before .before .before .before .before .before .before .before .before .cut-all .kept .1 .1 .1 .1 .0 ∙ c .before .before .before .before .before .before .before .before .before .before .before .before .before .before .before .before .before .before .before .before .loop .inv .0
@@ -155,7 +156,7 @@ returns-3 t c =
     pieced-whole x (onward-stop (pieced-next x (c .before .before .before .before .before .before .before .before .before .before .before .before .before .before .before .before .before .before .before .loop-test .taken) (c .before .before .before .before .before .before .before .before .before .before .before .before .before .before .before .before .before .piece .ensures)) (c .before .before .before .before .before .before .before .before .before .before .before .before .before .before .before .before .before .before .before .before .loop .inv .6) (st .cut-all .ensures) (not-true (st .cut-all .result .fits) (c .if3 .taken)))
 
 add-i : (t : ℕ) → lts.Need-add-i (callees t) (at t) cut-all.Post Inv-loop μ-loop
-add-i t c = let x = pieced t (c .before .before .before .before .before .before .before .before .before .before .before .before .before .before .before .before .before .before .before .before .before) in let h = x .cut .count (x .fits) in omega (arith, c .before .before .before .before .before .before .before .before .before .before .before .before .before .before .before .before .before .before .before .loop-test .taken)
+add-i t c = let x = pieced t (c .before .before .before .before .before .before .before .before .before .before .before .before .before .before .before .before .before .before .before .before .before) in let h = x .tight .count (x .fits) in omega (arith, c .before .before .before .before .before .before .before .before .before .before .before .before .before .before .before .before .before .before .before .loop-test .taken)
 
 loop-less : (t : ℕ) → lts.Need-loop-less (callees t) (at t) cut-all.Post Inv-loop μ-loop
 loop-less t c = omega (arith, c .before .before .before .before .before .before .before .before .before .before .before .before .before .before .before .before .before .before .before .loop-test .taken)

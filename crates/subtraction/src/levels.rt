@@ -1,19 +1,23 @@
 // The difference: recursion over the cutters left; each level hands each of its pieces to the next at once.
+ghost use mathlib.Core.Path.{_≡_};
 ghost use Rattle.model.specs.Values.{basicSetOf};
 ghost use Rattle.codec.specs.Places.{setFrom};
 ghost use Rattle.algebra.specs.Cut.{keeps, cutAll, cutAllFits, difference, differenceFits};
-ghost use Rattle.cutting.specs.Cutting.{Tables, Spares};
+ghost use Rattle.candidates.specs.Candidates.{Tables};
+ghost use Rattle.cutting.specs.Cutting.{Spares};
 ghost use Rattle.results.specs.Results.{Ready, Emits, Made};
-ghost use Rattle.operations.specs.Operations.{Sets, Level};
+ghost use Rattle.subtraction.specs.Subtraction.{Sets, Level, TightAt};
 use cutting::cut;
 use cutting::piece;
+use joining::any_divisible;
+use joining::tight_set;
 use model::BasicSet;
 use records::decode_basic;
 use results::Done;
 use results::count;
 use results::emit;
 
-// The pieces that the `left` cutters from `pos` on leave of p.
+// The pieces that the `left` cutters from `pos` on leave of p, which is tight where there is one.
 pub fn cut_all(
     left: usize,
     p: BasicSet,
@@ -27,7 +31,7 @@ pub fn cut_all(
     past: &mut [[i64; 18]],
     spare: &mut [[i64; 18]],
 ) -> Done
-    requires { ⌜ Level left p (now b) pos × Ready s × Tables (now rows) (now place) (now kinds) × Spares (now past) (now spare) ⌝ }
+    requires { ⌜ Level left p (now b) pos × Ready s × Tables (now rows) (now place) (now kinds) × Spares (now past) (now spare) × TightAt left p ⌝ }
     ensures { λ r. ⌜ Emits (cutAll keeps (setFrom (now (b .entry)) pos) (basicSetOf p)) (cutAllFits keeps (setFrom (now (b .entry)) pos) (basicSetOf p)) (now (out .entry)) s r (now (out .exit)) ⌝ }
 {
     if left == 0 {
@@ -61,6 +65,60 @@ pub fn cut_all(
     t
 }
 
+// p once its constraints are tightened, cut by all of b; where one of them is void nothing is left, and nothing is over a limit.
+fn cut_divided(
+    left: usize,
+    p: BasicSet,
+    b: &[u8],
+    out: &mut [u8],
+    s: Done,
+    rows: &mut [[i64; 18]],
+    place: &mut [usize],
+    kinds: &mut [u8],
+    past: &mut [[i64; 18]],
+    spare: &mut [[i64; 18]],
+) -> Done
+    requires { ⌜ Level left p (now b) 0 × Ready s × Tables (now rows) (now place) (now kinds) × Spares (now past) (now spare) × (left ≡ 0 → ⊥) ⌝ }
+    ensures { λ r. ⌜ Emits (cutAll keeps (setFrom (now (b .entry)) 0) (basicSetOf p)) (cutAllFits keeps (setFrom (now (b .entry)) 0) (basicSetOf p)) (now (out .entry)) s r (now (out .exit)) ⌝ }
+{
+    let t = tight_set(p);
+    let none = t.void;
+    if none {
+        return Done {
+            at: s.at,
+            count: s.count,
+            fits: true,
+        };
+    }
+    let q = t.set;
+    cut_all(left, q, b, 0, out, s, rows, place, kinds, past, spare)
+}
+
+// A basic set of the first set, cut by all of b; with no cutter it stays as it is. Most are tight already.
+fn cut_first(
+    left: usize,
+    p: BasicSet,
+    b: &[u8],
+    out: &mut [u8],
+    s: Done,
+    rows: &mut [[i64; 18]],
+    place: &mut [usize],
+    kinds: &mut [u8],
+    past: &mut [[i64; 18]],
+    spare: &mut [[i64; 18]],
+) -> Done
+    requires { ⌜ Level left p (now b) 0 × Ready s × Tables (now rows) (now place) (now kinds) × Spares (now past) (now spare) ⌝ }
+    ensures { λ r. ⌜ Emits (cutAll keeps (setFrom (now (b .entry)) 0) (basicSetOf p)) (cutAllFits keeps (setFrom (now (b .entry)) 0) (basicSetOf p)) (now (out .entry)) s r (now (out .exit)) ⌝ }
+{
+    if left == 0 {
+        return emit(p, out, s);
+    }
+    if any_divisible(p) {
+        return cut_divided(left, p, b, out, s, rows, place, kinds, past, spare);
+    }
+    cut_all(left, p, b, 0, out, s, rows, place, kinds, past, spare)
+}
+
 // Each basic set of a in order, cut by all of b.
 pub fn subtract(a: &[u8], b: &[u8], out: &mut [u8]) -> Done
     requires { ⌜ Sets (now a) (now b) ⌝ }
@@ -80,11 +138,10 @@ pub fn subtract(a: &[u8], b: &[u8], out: &mut [u8]) -> Done
     let mut pos = 0;
     while pos < a.len() {
         let p = decode_basic(a, pos + 1);
-        t = cut_all(
+        t = cut_first(
             left,
             p,
             b,
-            0,
             out,
             t,
             &mut rows,

@@ -16,13 +16,13 @@ use Rattle.codec.proofs.Boundaries.{Turn, turn, boundary-start, boundary-end, b
 use Rattle.codec.proofs.Decoded.{Bytes}
 use Rattle.codec.proofs.Valid.{All, Valid, boundary-valid}
 use Rattle.algebra.specs.Cut.{keeps, cutAll, cutAllFits, difference, differenceFits}
-use Rattle.cutting.specs.Cutting.{Tables}
-use Rattle.cutting.proofs.Steps.{tables-kept}
+use Rattle.candidates.specs.Candidates.{Tables}
+use Rattle.candidates.proofs.Catching.{tables-kept}
 use Rattle.results.specs.declared.results.Done.{Done}
 use Rattle.results.specs.Results.{Ready, Emits, Made}
-use Rattle.operations.specs.Operations.{Level}
+use Rattle.subtraction.specs.Subtraction.{Level}
 use Rattle.results.proofs.Chained.{made-of}
-use Rattle.operations.proofs.Onward.{Onward, onward-start, onward-end, onward-next, onward-stop}
+use Rattle.subtraction.proofs.Onward.{Onward, onward-start, onward-end, onward-next, onward-stop}
 
 -- the basic sets of a up to a place are done: f of each, unless g of it is false; K is known of the number of axes
 pub record Along (K : ℕ → Type 0) (f : BasicSet → Set) (g : BasicSet → Bool) (a o : List ℕ) (s : Done) (rows : List (List ℤ)) (place kinds o′ : List ℕ) (t : Done) (pos : ℕ) : Type 0 where

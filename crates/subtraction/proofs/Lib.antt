@@ -1,0 +1,3 @@
+pub mod Onward
+pub mod Along
+pub mod Firsts
