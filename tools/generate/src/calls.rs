@@ -93,8 +93,8 @@ fn test(rng: &mut Rng, world: &World) -> String {
     format!("test {} {} {k}", axes(rng, n), bytes(rng, &set, 2))
 }
 
-/// The two sets of an operation and their number of axes.
-fn operands(rng: &mut Rng, world: &World) -> (usize, Set, Set) {
+/// The two sets of an operation of this kind and their number of axes.
+fn operands(rng: &mut Rng, world: &World, kind: &str) -> (usize, Set, Set) {
     match rng.below(40) {
         0 => {
             let (n, basic) = hard::near(rng);
@@ -107,6 +107,10 @@ fn operands(rng: &mut Rng, world: &World) -> (usize, Set, Set) {
             (world.n, first, second)
         }
         7..=10 => (world.n, vec![world.wide(rng)], world.small(rng)),
+        11..=26 => {
+            let (first, second) = world.half_slots(rng, kind == "difference");
+            (world.n, first, second)
+        }
         _ => (world.n, world.any(rng), world.any(rng)),
     }
 }
@@ -124,7 +128,7 @@ fn room(rng: &mut Rng, line: impl Fn(usize) -> String) -> String {
 }
 
 fn operation(rng: &mut Rng, world: &World, kind: &str) -> String {
-    let (n, a, b) = operands(rng, world);
+    let (n, a, b) = operands(rng, world, kind);
     let n = axes(rng, n);
     let (a, b) = (bytes(rng, &a, 4), bytes(rng, &b, 4));
     if kind == "complement" {

@@ -1,6 +1,7 @@
 //! What the generated scripts and calls reach, by `second`.
 
-use crate::{calls, scripts};
+use crate::{calls, events, scripts};
+use hexscript::tokens::unhex;
 use second::algebra::{complement, difference, intersection, union, Watch};
 use second::{parse, BasicSet, Outcome, Set};
 use std::collections::BTreeMap;
@@ -8,7 +9,7 @@ use std::collections::BTreeMap;
 /// Counts by name.
 pub type Counts = BTreeMap<String, usize>;
 
-fn bump(counts: &mut Counts, name: &str) {
+pub(crate) fn bump(counts: &mut Counts, name: &str) {
     *counts.entry(name.to_string()).or_default() += 1;
 }
 
@@ -16,7 +17,7 @@ fn bump(counts: &mut Counts, name: &str) {
 pub fn wanted() -> Vec<String> {
     let refusals = (1..=15).map(|k| format!("refused {k}"));
     let others = ["test point", "test dropped", "test long", "test wide", "search at", "search none", "search spent"];
-    refusals.chain(others.map(str::to_string)).collect()
+    refusals.chain(others.into_iter().chain(events::EVENTS).map(str::to_string)).collect()
 }
 
 /// Counts the refusals and search outcomes of a script's output, line by line.
@@ -64,7 +65,17 @@ fn result(n: u8, command: &[u8], sets: &[Set], watch: &mut Watch) -> Option<Set>
     }
 }
 
-/// Counts the answers of the tests that the operations of a script make. Its output does not show them.
+/// Counts what tightening does in an operation.
+fn count_events(kind: &str, a: &Set, b: &Set, counts: &mut Counts) {
+    match kind {
+        "intersection" => events::of_intersection(a, b, counts),
+        "difference" => events::of_difference(a, b, counts),
+        "complement" => events::of_difference(&Set::everything(a.n), a, counts),
+        _ => {}
+    }
+}
+
+/// Counts the answers of the tests that a script's operations make, and what they tighten. Its output shows neither.
 fn count_tests(script: &[u8], counts: &mut Counts) {
     let Some(&[0x10, n @ 1..=8]) = script.get(..2) else { return };
     let mut sets = vec![Set::empty(usize::from(n)); 4];
@@ -72,6 +83,16 @@ fn count_tests(script: &[u8], counts: &mut Counts) {
         let target = usize::from(command[1]);
         if target > 3 {
             continue;
+        }
+        let kind = match command[0] {
+            0x42 => "intersection",
+            0x43 => "difference",
+            0x44 => "complement",
+            _ => "",
+        };
+        let set = |i: usize| command.get(i).and_then(|&number| sets.get(usize::from(number)));
+        if let (Some(a), Some(b)) = (set(2), set(command.len() - 1)) {
+            count_events(kind, a, b, counts);
         }
         let mut watch = |_: &BasicSet, outcome: Outcome| bump(counts, &format!("test {}", outcome.answer.word()));
         if let Some(set) = result(n, command, &sets, &mut watch) {
@@ -92,10 +113,21 @@ pub fn of_scripts(count: u64, seed: u64) -> Counts {
     counts
 }
 
+/// Counts what the operation of a call tightens, where its sets are good.
+fn count_call(call: &str, counts: &mut Counts) {
+    let words: Vec<&str> = call.split(' ').collect();
+    let [kind, n, _, first, ..] = words[..] else { return };
+    let set = |word: &str| parse(n.parse().ok()?, &unhex(word)?).ok();
+    if let (Some(a), Some(b)) = (set(first), set(words[words.len() - 1])) {
+        count_events(kind, &a, &b, counts);
+    }
+}
+
 pub fn of_calls(count: u64, seed: u64) -> Counts {
     let mut counts = Counts::new();
     for index in 0..count {
         let call = calls::call(seed, index, &calls::KINDS);
+        count_call(&call, &mut counts);
         let answer = second::run_call(&call);
         let kind = call.split(' ').next().unwrap_or("");
         let words: Vec<&str> = answer.split(' ').collect();

@@ -1,7 +1,8 @@
-//! Seeded scripts and calls that reach every refusal, test answer and search outcome.
+//! Seeded scripts and calls that reach every refusal, test answer and search outcome, and all that tightening does.
 
 pub mod calls;
 pub mod damage;
+pub mod events;
 pub mod hard;
 pub mod histogram;
 pub mod model;
@@ -9,3 +10,4 @@ pub mod queries;
 pub mod rng;
 pub mod scripts;
 pub mod sets;
+pub mod slots;

@@ -42,10 +42,10 @@ fn print_histogram(count: u64, seed: u64) -> ExitCode {
     let wanted = histogram::wanted();
     let line = |name: &String| {
         let (s, c) = (by_scripts.get(name).copied().unwrap_or(0), by_calls.get(name).copied().unwrap_or(0));
-        println!("{name:<20} {s:>9} {c:>9}");
+        println!("{name:<34} {s:>9} {c:>9}");
         (s, c)
     };
-    println!("{:<20} {:>9} {:>9}", "", "scripts", "calls");
+    println!("{:<34} {:>9} {:>9}", "", "scripts", "calls");
     let mut passed = 0;
     for name in &wanted {
         let (s, c) = line(name);

@@ -121,6 +121,26 @@ fn pivots(rng: &mut Rng) -> Vec<u8> {
     script.end()
 }
 
+/// Void equalities and alternating slots on both sides of the operations that tighten; their results are sources too.
+fn slots(rng: &mut Rng) -> Vec<u8> {
+    let world = World::new(rng);
+    let mut script = Script::new(world.n);
+    let cut = rng.chance(50);
+    let (first, second) = world.half_slots(rng, cut);
+    script.load(0, &encode(&first));
+    script.load(1, &encode(&second));
+    for code in [0x42, 0x43] {
+        script.operation(code, 2, 0, 1);
+        script.list(2);
+        script.member(2, rng);
+    }
+    script.complement(3, rng.below(2));
+    script.operation(rng.pick(&OPERATIONS), 3, 2 + rng.below(2), rng.below(3));
+    script.list(3);
+    script.search(3, rng);
+    script.end()
+}
+
 /// Sets near 32, 8 and 48, and results near them and near 8,000 bytes.
 fn limits(rng: &mut Rng) -> Vec<u8> {
     let world = World::new(rng);
@@ -189,8 +209,9 @@ fn bad_script(rng: &mut Rng) -> Vec<u8> {
 pub fn script(seed: u64, index: u64) -> Vec<u8> {
     let rng = &mut Rng::of(seed, index);
     match rng.below(100) {
-        0..=34 => mixed(rng),
-        35..=54 => chain(rng),
+        0..=29 => mixed(rng),
+        30..=41 => chain(rng),
+        42..=54 => slots(rng),
         55..=59 => pivots(rng),
         60..=69 => limits(rng),
         70..=84 => bad_sets(rng),

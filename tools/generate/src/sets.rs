@@ -2,6 +2,7 @@
 
 use crate::model::{Basic, Division, Rule, Set};
 use crate::rng::Rng;
+use crate::slots::{maybe_brought_down, maybe_multiplied};
 
 /// What the sets of one script or call have in common: axes, and a pool of divisions,
 /// so that joins meet equal divisions often.
@@ -10,7 +11,7 @@ pub struct World {
     pool: Vec<Division>,
 }
 
-fn coefficients(rng: &mut Rng, count: usize, size: i64) -> [i16; 8] {
+pub(crate) fn coefficients(rng: &mut Rng, count: usize, size: i64) -> [i16; 8] {
     let mut out = [0; 8];
     for place in out.iter_mut().take(count) {
         *place = rng.range(-size, size) as i16;
@@ -35,16 +36,17 @@ impl World {
     }
 
     fn rule(&self, rng: &mut Rng, divisions: usize, size: i64, constant: i64) -> Rule {
-        Rule {
+        let rule = Rule {
             equality: rng.chance(25),
             constant: rng.range(-constant, constant) as i32,
             axes: coefficients(rng, self.n, size),
             divisions: coefficients(rng, divisions, size),
-        }
+        };
+        maybe_multiplied(rng, rule, 33)
     }
 
     /// Few rules with small numbers.
-    fn small_basic(&self, rng: &mut Rng) -> Basic {
+    pub(crate) fn small_basic(&self, rng: &mut Rng) -> Basic {
         let count = if rng.chance(50) { 0 } else { 1 + rng.below(2) };
         let divisions = (0..count).map(|_| rng.pick(&self.pool)).collect();
         let rules = (0..rng.below(5)).map(|_| self.rule(rng, count, 3, 9)).collect();
@@ -94,7 +96,8 @@ impl World {
             let equality = rng.chance(25);
             let end = rng.pick(&[i32::MIN, i32::MIN + 1, i32::MAX, i32::MAX - 1, -65_537, 7]);
             let constant = if equality { end.max(-i32::MAX) } else { end };
-            basic.rules.push(Rule { equality, constant, axes: large(rng, self.n), divisions: large(rng, count) });
+            let rule = Rule { equality, constant, axes: large(rng, self.n), divisions: large(rng, count) };
+            basic.rules.push(maybe_brought_down(rng, rule, 33));
         }
         basic
     }
@@ -136,14 +139,15 @@ impl World {
         }
     }
 
-    /// A rule-less set, small sets, boxes, wide and dense ones.
+    /// A rule-less set, small sets, boxes, alternating slots, wide and dense ones.
     pub fn any(&self, rng: &mut Rng) -> Set {
-        match rng.below(20) {
+        match rng.below(24) {
             0 => vec![Basic::default()],
             1..=10 => self.small(rng),
             11..=14 => (0..1 + rng.below(3)).map(|_| self.boxed(rng)).collect(),
             15..=16 => vec![self.wide(rng)],
             17 => vec![self.wide(rng), self.small_basic(rng)],
+            18..=21 => self.slots(rng),
             _ => vec![self.dense(rng)],
         }
     }

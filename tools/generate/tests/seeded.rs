@@ -1,6 +1,6 @@
 //! The generator: the same from the same seed, well-formed, and its hard sets as hard as they say.
 
-use generate::{calls, hard, histogram, model, rng::Rng, scripts};
+use generate::{calls, events, hard, histogram, model, rng::Rng, scripts, sets::World, slots};
 use hexscript::tokens::hex;
 
 #[test]
@@ -49,6 +49,36 @@ fn changed_hard_sets_stay_near_200_pivots() {
 }
 
 #[test]
+fn the_sets_of_half_slots_are_good() {
+    let rng = &mut Rng::of(6, 0);
+    for round in 0..2_000 {
+        let world = World::new(rng);
+        let (first, second) = world.half_slots(rng, round % 2 == 0);
+        for set in [first, second, world.slots(rng), vec![world.wide(rng)]] {
+            assert!(second::parse(world.n as u8, &model::encode(&set)).is_ok());
+        }
+    }
+}
+
+/// 6 times 5,461 is 32,766; a rule with a number too large to be multiplied stays as it is.
+#[test]
+fn a_multiplied_rule_stays_within_its_ranges() {
+    let rng = &mut Rng::of(7, 0);
+    let divisions = vec![model::Division { d: 1, c: 0, axes: [0; 8] }; 8];
+    let mut changed = 0;
+    for round in 0..400 {
+        let k: i16 = rng.pick(&[5_461, -5_461, 5_462, 16_383, -16_384, 32_767, -32_767]);
+        let constant = rng.pick(&[i32::MAX, -i32::MAX, 1 << 30, -1 << 30, 7]);
+        let rule = model::Rule { equality: round % 2 == 0, constant, axes: [k; 8], divisions: [-k; 8] };
+        let new = slots::maybe_multiplied(rng, rule, 100);
+        let basic = model::Basic { divisions: divisions.clone(), rules: vec![new] };
+        assert!(second::parse(8, &model::encode(&[basic])).is_ok());
+        changed += usize::from(new != rule);
+    }
+    assert!(changed > 50, "{changed}");
+}
+
+#[test]
 fn wanted_names_are_all_there() {
-    assert_eq!(histogram::wanted().len(), 15 + 4 + 3);
+    assert_eq!(histogram::wanted().len(), 15 + 4 + 3 + events::EVENTS.len());
 }

@@ -2,6 +2,7 @@
 
 use crate::fractions::has_point;
 use crate::sets::{holds, read, Basic, Set};
+use crate::tight::{is_tight, tightened};
 use crate::walk::Walk;
 use generate::model::{self, encode, Rule};
 use generate::rng::Rng;
@@ -79,9 +80,22 @@ fn may_refuse(first: &[model::Basic], cutters: &[model::Basic]) -> bool {
     pieces > 32 || divisions > 8 || rules > 40 || bytes > ROOM
 }
 
-/// A kept candidate has a point with fractions: on sets this small the test is never wide.
+/// Whether the candidates of all pairs, if all are kept, may be too many or too long.
+fn pairs_may_refuse(a: &[model::Basic], b: &[model::Basic]) -> bool {
+    let all = |f: fn(&model::Basic) -> usize| -> usize {
+        let sum = |set: &[model::Basic]| set.iter().map(f).sum::<usize>();
+        sum(a) * b.len() + sum(b) * a.len()
+    };
+    let (divisions, rules, pairs) = (all(|b| b.divisions.len()), all(|b| b.rules.len()), a.len() * b.len());
+    pairs > 32 || pairs + 23 * divisions + 37 * rules > ROOM
+}
+
+/// A kept candidate is tight and has a point with fractions: on sets this small the test is never wide.
 fn kept_have_points(n: usize, set: &[Basic]) -> Result<(), String> {
     for (i, basic) in set.iter().enumerate() {
+        if !is_tight(basic) {
+            return Err(format!("basic set {} of the result has a rule that is not tightened", i + 1));
+        }
         let small = n + basic.divisions.len() <= 6;
         if small && has_point(n, basic) == Some(false) {
             return Err(format!("basic set {} of the result has no point with fractions", i + 1));
@@ -94,9 +108,10 @@ impl Case {
     fn new(rng: &mut Rng) -> Case {
         let n = 1 + rng.below(3);
         let world = World::with_axes(rng, n);
-        let set = |rng: &mut Rng| match rng.below(4) {
+        let set = |rng: &mut Rng| match rng.below(6) {
             0 => vec![world.boxed(rng)],
             1 => [world.small(rng), vec![world.boxed(rng)]].concat(),
+            2 | 3 => world.slots(rng),
             _ => world.small(rng),
         };
         let (a, b) = (set(rng), set(rng));
@@ -118,7 +133,7 @@ impl Case {
         let case = Rc::clone(self);
         let allowed = match kind {
             "union" => self.a.len() + self.b.len() > 32,
-            "intersection" => self.a.len() * self.b.len() > 10,
+            "intersection" => pairs_may_refuse(&self.a, &self.b),
             "complement" => may_refuse(&[model::Basic::default()], &self.a),
             _ => may_refuse(&self.a, &self.b),
         };
@@ -191,6 +206,31 @@ impl Case {
         Check { call, judge: Box::new(move |answer| judge_search(answer, &expected, &first)) }
     }
 
+    /// A basic set intersected with the rule-less set: kept with its rules tightened, or dropped.
+    fn dropping(self: &Rc<Case>, basic: model::Basic) -> Check {
+        let call = format!("intersection {} {ROOM} {} 11", self.n, hex(&encode(std::slice::from_ref(&basic))));
+        let case = Rc::clone(self);
+        Check { call, judge: Box::new(move |answer| case.judge_dropping(&basic, answer)) }
+    }
+
+    /// Dropped where no point with fractions meets the tightened rules, or an equality is void, which a point with
+    /// fractions may meet; and in both cases no integer point.
+    fn judge_dropping(&self, basic: &model::Basic, answer: &str) -> Verdict {
+        let Some(found) = result(answer) else { return Verdict::Bad("no result".to_string()) };
+        let given = meaning(std::slice::from_ref(basic));
+        if let Some(point) = self.points.iter().find(|p| found.is_empty() && holds(&given, p)) {
+            return Verdict::Bad(format!("dropped, but holds {point:?}"));
+        }
+        let Some(tight) = tightened(basic).map(|tight| meaning(&[tight])) else {
+            return verdict(found.is_empty(), || "kept with a void equality".to_string());
+        };
+        match has_point(self.n, &tight[0]) {
+            None => Verdict::Untold,
+            Some(true) => verdict(found == tight, || "should be kept with its rules tightened".to_string()),
+            Some(false) => verdict(found.is_empty(), || "has no point with fractions".to_string()),
+        }
+    }
+
     fn member(self: &Rc<Case>, rng: &mut Rng) -> Check {
         let point = self.points[rng.below(self.points.len())];
         let words = point.map(|x| x.to_string()).join(" ");
@@ -224,7 +264,7 @@ fn judge_search(answer: &str, expected: &str, first: &Option<Vec<i32>>) -> Verdi
     verdict(by_points && answer == expected, || format!("should be {expected}; first point by enumeration {first:?}"))
 }
 
-/// A candidate of a cut: rules of one basic set, some rules of another, and the opposite of one more.
+/// A candidate of a cut, as given: rules of one basic set, some rules of another, and the opposite of one more.
 /// Divisions are only appended: sharing them is not the test's matter.
 fn candidate(rng: &mut Rng, first: &model::Basic, cutter: &model::Basic) -> model::Basic {
     let mut out = first.clone();
@@ -244,9 +284,9 @@ fn candidate(rng: &mut Rng, first: &model::Basic, cutter: &model::Basic) -> mode
     out
 }
 
-/// A test's answer against elimination. Every number of such a tableau is at most a determinant of 7 rows,
-/// each no longer than 13 (coefficients up to 6 and 3, constants up to 10), so by Hadamard's inequality
-/// at most 13^7, far inside the bound: wide is wrong here.
+/// The test of tightened rules against elimination. Every number of such a tableau is at most a determinant of 8 rows,
+/// each no longer than 13 (tight coefficients up to 3 and divisors up to 6, constants up to 10, or up to 12 beside one
+/// coefficient of 1), so by Hadamard's inequality at most 13^8, inside the bound: wide is wrong here.
 fn test(n: usize, basic: model::Basic) -> Check {
     let call = format!("test {n} {} 1", hex(&encode(std::slice::from_ref(&basic))));
     let judge = move |answer: &str| {
@@ -272,8 +312,11 @@ pub fn checks(seed: u64, index: u64) -> Vec<Check> {
     }
     out.extend([case.search(rng), case.search(rng), case.member(rng), case.holder(rng)]);
     for first in &case.a {
-        out.push(test(case.n, first.clone()));
-        out.extend(case.b.iter().map(|cutter| test(case.n, candidate(rng, first, cutter))));
+        let cut = case.b.iter().map(|cutter| candidate(rng, first, cutter));
+        for basic in std::iter::once(first.clone()).chain(cut) {
+            out.extend(tightened(&basic).map(|tight| test(case.n, tight)));
+            out.push(case.dropping(basic));
+        }
     }
     out
 }

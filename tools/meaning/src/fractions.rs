@@ -32,7 +32,7 @@ fn rows(n: usize, basic: &Basic) -> (Vec<Row>, Vec<Row>) {
     (inequalities, equalities)
 }
 
-fn gcd(a: i128, b: i128) -> i128 {
+pub fn gcd(a: i128, b: i128) -> i128 {
     if b == 0 { a.abs() } else { gcd(b, a % b) }
 }
 

@@ -4,6 +4,7 @@
 mod cases;
 mod fractions;
 mod sets;
+mod tight;
 mod walk;
 
 use cases::{checks, Check, Verdict};

@@ -1,12 +1,14 @@
 //! Sets read from bytes and what they mean: its own reading and its own membership, so that no
 //! fault of `second` is shared. (document 01, "Points, rules, sets" and "Bytes of a set")
 
+#[derive(PartialEq)]
 pub struct Division {
     pub d: i128,
     pub c: i128,
     pub axes: Vec<i128>,
 }
 
+#[derive(PartialEq)]
 pub struct Rule {
     pub equality: bool,
     pub constant: i128,
@@ -14,7 +16,7 @@ pub struct Rule {
     pub places: Vec<i128>,
 }
 
-#[derive(Default)]
+#[derive(Default, PartialEq)]
 pub struct Basic {
     pub divisions: Vec<Division>,
     pub rules: Vec<Rule>,

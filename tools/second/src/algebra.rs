@@ -1,5 +1,7 @@
-//! "Cutting rules": union, intersection, difference, complement.
+//! "Cutting rules": union, intersection, difference, complement, with rules
+//! tightened by request 3, "Half slots".
 
+use crate::exact::gcd;
 use crate::model::{
     BasicSet, Kind, Rule, Set, MAX_BASIC_SETS, MAX_DIVISIONS, MAX_RULES,
 };
@@ -71,15 +73,67 @@ fn move_rule(rule: &Rule, places: &[usize]) -> Rule {
     moved
 }
 
-/// Tests a candidate, or refuses one over 48 rules, whatever the test would
-/// say (reading 8).
-fn try_candidate(n: usize, candidate: &BasicSet, watch: &mut Watch) -> Result<bool, u8> {
-    if candidate.rules.len() > MAX_RULES {
+/// "the common divisor of its coefficients", of axes and divisions alike; 0
+/// where all are 0.
+fn common_divisor(rule: &Rule) -> i64 {
+    let coefficients = rule.axes.iter().chain(&rule.divs);
+    let divisor = coefficients.fold(0, |g, k| gcd(k.unsigned_abs().into(), g));
+    // It divides a number of 16 bits, or is 0.
+    divisor as i64
+}
+
+/// A rule "divided by g with its constant rounded down", if g is over 1. None
+/// for a void equality: g does not divide its constant, and no integer point
+/// meets it.
+pub fn tightened(rule: &Rule) -> Option<Rule> {
+    let g = common_divisor(rule);
+    // "Rules with all coefficients 0 remain": their g is 0.
+    if g <= 1 {
+        return Some(rule.clone());
+    }
+    if rule.kind == Kind::Equality && rule.constant % g != 0 {
+        return None;
+    }
+    Some(Rule {
+        kind: rule.kind,
+        // As g is positive, this rounds down and not towards 0.
+        constant: rule.constant.div_euclid(g),
+        axes: rule.axes.map(|k| k / g),
+        divs: rule.divs.map(|k| k / g),
+    })
+}
+
+/// All the rules tightened; None if one of them is void.
+fn all_tightened(rules: &[Rule]) -> Option<Vec<Rule>> {
+    rules.iter().map(tightened).collect()
+}
+
+/// "First sets are tightened before joining": None for a basic set with a
+/// void rule, which "contributes nothing" and so gives no 10 either.
+fn first_tightened(basic: &BasicSet) -> Option<BasicSet> {
+    let rules = all_tightened(&basic.rules)?;
+    Some(BasicSet { divisions: basic.divisions.clone(), rules })
+}
+
+/// The candidate of the working rules, tight already, and further ones, if it
+/// is kept. Over 48 rules it is refused, whatever would become of it (reading
+/// 8); the further rules are tightened "after 10's join and candidate limits",
+/// and a void one drops it untested.
+fn kept_candidate(
+    n: usize,
+    working: &BasicSet,
+    further: &[Rule],
+    watch: &mut Watch,
+) -> Result<Option<BasicSet>, u8> {
+    if working.rules.len() + further.len() > MAX_RULES {
         return Err(refusal::TOO_MANY_RESULTING);
     }
-    let outcome = test(n, candidate);
-    watch(candidate, outcome);
-    Ok(outcome.kept())
+    let Some(tight) = all_tightened(further) else { return Ok(None) };
+    let mut candidate = working.clone();
+    candidate.rules.extend(tight);
+    let outcome = test(n, &candidate);
+    watch(&candidate, outcome);
+    Ok(outcome.kept().then_some(candidate))
 }
 
 /// Adds to a result; a 33rd basic set is refused.
@@ -91,7 +145,7 @@ fn push_result(result: &mut Set, basic: BasicSet) -> Result<(), u8> {
     Ok(())
 }
 
-/// First set's basic sets, then the second's, untested.
+/// First set's basic sets, then the second's, untested and as given.
 pub fn union(a: &Set, b: &Set) -> Result<Set, u8> {
     let mut result = Set::empty(a.n);
     for basic in a.basics.iter().chain(&b.basics) {
@@ -103,38 +157,41 @@ pub fn union(a: &Set, b: &Set) -> Result<Set, u8> {
 /// Every pair joined and tested, the first set's basic sets outermost.
 pub fn intersection(a: &Set, b: &Set, watch: &mut Watch) -> Result<Set, u8> {
     let mut result = Set::empty(a.n);
-    for first in &a.basics {
+    for first in a.basics.iter().filter_map(first_tightened) {
         for second in &b.basics {
-            let (mut candidate, moved) = join(first, second)?;
-            candidate.rules.extend(moved);
-            if try_candidate(a.n, &candidate, watch)? {
-                push_result(&mut result, candidate)?;
+            let (joined, moved) = join(&first, second)?;
+            if let Some(kept) = kept_candidate(a.n, &joined, &moved, watch)? {
+                push_result(&mut result, kept)?;
             }
         }
     }
     Ok(result)
 }
 
-/// "One cut": the pieces left of a basic set after one cutter.
+/// "One cut": the pieces left of a basic set after one cutter. Pieces of an
+/// earlier cutter are tight, so that tightening leaves them as they are.
 pub fn cut(
     n: usize,
     basic: &BasicSet,
     cutter: &BasicSet,
     watch: &mut Watch,
 ) -> Result<Vec<BasicSet>, u8> {
-    let (mut working, moved) = join(basic, cutter)?;
+    let Some(basic) = first_tightened(basic) else { return Ok(Vec::new()) };
+    let (mut working, moved) = join(&basic, cutter)?;
     let mut pieces = Vec::new();
     for rule in moved {
         let before = pieces.len();
+        // A void rule's opposites are those of the rule as given.
         for opposite in opposites(&rule) {
-            let mut candidate = working.clone();
-            candidate.rules.push(opposite);
-            if try_candidate(n, &candidate, watch)? {
-                pieces.push(candidate);
-            }
+            pieces.extend(kept_candidate(n, &working, &[opposite], watch)?);
         }
-        if pieces.len() > before {
-            working.rules.push(rule);
+        if pieces.len() == before {
+            continue;
+        }
+        match tightened(&rule) {
+            Some(tight) => working.rules.push(tight),
+            // "joining working rules, it ends the cut with the pieces so far"
+            None => break,
         }
     }
     Ok(pieces)
@@ -142,7 +199,8 @@ pub fn cut(
 
 /// Pieces wait on a stack with the number of cutters they have met, so that
 /// the pieces between two cutters, which have no limit, take little room.
-/// Any refusal met is 10, so it does not matter which is met first.
+/// Any refusal met is 10, so it does not matter which is met first. A basic
+/// set with no cutter is written as given.
 pub fn difference(a: &Set, b: &Set, watch: &mut Watch) -> Result<Set, u8> {
     let mut result = Set::empty(a.n);
     let mut waiting: Vec<(BasicSet, usize)> =

@@ -1,9 +1,11 @@
-//! The second program: document 01 ("Integer rule sets for the pit board")
-//! written down once more, from the document alone, so that every answer of
-//! the engine can be held against a program that shares no line with it.
+//! The second program: document 01 ("Integer rule sets for the pit board") and
+//! the requests of document 02 that have landed, written down once more, from
+//! the documents alone, so that every answer of the engine can be held against
+//! a program that shares no line with it.
 //!
-//! Headings cited in comments are headings of document 01; "reading k" is
-//! number k of readings.md.
+//! Headings cited in comments are headings of document 01, "request k" is
+//! number k of document 02; "reading k" is number k of readings.md, and a void
+//! equality is so called by readings-02.md.
 
 pub mod algebra;
 pub mod ask;

@@ -81,9 +81,10 @@ fn dropped_and_wide_at_the_bound() {
 }
 
 #[test]
-fn a_half_is_kept_and_not_found() {
+fn a_half_is_dropped_and_not_found() {
     let half = set(1, "basic; eq -1 2");
-    table("intersection", 1, &half, &[0x11], &half);
+    table("intersection", 1, &half, &[0x11], &[]);
+    // As stored it has a point with fractions.
     assert_eq!(tested(1, &half), "point 1");
     assert_eq!(search(1, &half, 1_000_000, &[0], &[1]), "none 2");
     assert_eq!(search(1, &half, 2, &[0], &[1]), "none 2");

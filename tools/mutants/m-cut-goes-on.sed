@@ -1,0 +1,3 @@
+# Request 3: a cut that goes on behind a void equality that joined.
+# file src/algebra.rs
+s/None => break,/None => working.rules.push(rule),/
