@@ -1,5 +1,8 @@
 #!/usr/bin/env python3
-"""table.py common DIR OPERATION K | table DIR MODE SEED | verdict DIR: what the harness wrote to DIR, as tables in Markdown."""
+"""What the harness wrote to DIR, as tables in Markdown.
+
+table.py common DIR FAMILY OPERATION K | table DIR MODE SEED | verdict DIR | compare DIR
+"""
 import collections
 import os
 import statistics
@@ -7,7 +10,8 @@ import sys
 
 OURS = "pitsets"
 PEERS = ["isl", "isl32", "mlir19"]
-FAMILIES = ["dispatch", "limit", "big"]
+BUILDS = ["before", "after"]  # of compare.sh
+FAMILIES = ["dispatch", "slots", "limit", "big"]
 OPERATIONS = {
     "difference": "difference A \\ C", "complement": "complement of C", "intersection": "intersection A ∩ B", "chain": "chain (A ∩ B) \\ C \\ D",
     "empty": "is E \\ A empty: difference, then emptiness", "subset": "the same, by the peer's own call for E ⊆ A", "union": "union A ∪ C",
@@ -36,7 +40,7 @@ def merged(rounds):
 
 
 def columns(run):
-    return [c for c in PEERS + [OURS] if any(column == c for _, _, column in run)]
+    return [c for c in PEERS + [OURS] + BUILDS if any(column == c for _, _, column in run)]
 
 
 def of(run, family, operation, column):
@@ -121,14 +125,19 @@ def refusals(run):
         markdown(["family", "operation", "column", "cases", "not finished"], body)
 
 
-def sizes(run):
+def size(run, family, operation, column, field):
+    return sum(getattr(run[family, operation, column][case], field) for case in common(run, family, operation))
+
+
+def sizes(run, family):
     body = []
     for operation in ("difference", "complement", "intersection", "chain"):
-        cases = common(run, "dispatch", operation)
-        done = {c: [run["dispatch", operation, c][case] for case in cases] for c in columns(run)}
-        body.append([operation, len(cases)] + [f"{sum(r.basic_sets for r in done[c])}; {sum(r.constraints for r in done[c])}" for c in columns(run)])
-    print("### dispatch: basic sets; constraints of the results\n")
-    markdown(["operation", "cases"] + columns(run), body)
+        if cases := common(run, family, operation):
+            sums = [[size(run, family, operation, c, x) for x in ("basic_sets", "constraints")] for c in columns(run)]
+            body.append([operation, len(cases)] + ["; ".join(map(str, pair)) for pair in sums])
+    if body:
+        print(f"### {family}: basic sets; constraints of the results\n")
+        markdown(["operation", "cases"] + columns(run), body)
 
 
 def checks(folder):
@@ -162,7 +171,8 @@ def check_table(folder):
     if not sums:
         return
     print("### results against membership by the definition\n")
-    print("`tiny`: every point of the box. The others: 256 points a case and every point of six small boxes near edges.\n")
+    print("`tiny` and `slots`: every point of the box.")
+    print("The others: 256 points a case and every point of six small boxes near edges.\n")
     order = [(f, c) for f in ["tiny"] + FAMILIES for c in PEERS + [OURS] if (f, c) in sums]
     body = [[f, c] + [f"{x:,}" for x in sums[f, c]] for f, c in order]
     markdown(["family", "column", "results", "points", "wrong results", "errors", "not finished"], body)
@@ -170,17 +180,62 @@ def check_table(folder):
     print("First points and emptiness that contradict isl's: " + ", ".join(f"{c} {found[c]}" for c in PEERS + [OURS] if c in found) + ".\n")
 
 
-def table(folder, mode, seed):
-    run = times(folder)
-    for name in ("machine.txt", "versions.txt"):
+def quote(folder, *names):
+    for name in names:
         for line in lines(folder, name):
             print("    " + ",".join(line))
+
+
+def beside(before, after, form=figure, ratio=None):
+    """Two cells: before and after, and their ratio."""
+    return [f"{form(before)} → {form(after)}", f"{ratio or after / before:.3f}" if before else "-"]
+
+
+def rounds(folder, family, operation, cases):
+    """Of each build the ns of each round, all the cases together."""
+    ns = collections.defaultdict(list)
+    for column, f, o, case, _, t, *_ in lines(folder, "time.csv"):
+        if (f, o) == (family, operation):
+            ns[column, int(case)].append(int(t))
+    return [[sum(r) for r in zip(*(ns[c, case] for case in cases))] for c in BUILDS]
+
+
+def compared(folder, run, counts, family, operation):
+    cases = common(run, family, operation)
+    before, after = rounds(folder, family, operation, cases)
+    row = [operation, len(cases)]
+    row += beside(*(counts.get((c, family, operation), 0) / len(cases) / 1000 for c in BUILDS))
+    row += beside(*(statistics.median(r) / len(cases) / 1000 for r in (before, after)),
+                  ratio=statistics.median(b / a for a, b in zip(before, after)))
+    row += beside(*(size(run, family, operation, c, "basic_sets") for c in BUILDS), str)
+    stopped = [sum(r.status != "ok" for r in run[family, operation, c].values()) for c in BUILDS]
+    return row + [" → ".join(map(str, stopped))]
+
+
+def compare(folder):
+    """The engine before and after a change, over the cases that both finished."""
+    run = times(folder)
+    counts = {(c, f, o): int(n) for c, f, o, n in lines(folder, "count.csv") if n}
+    quote(folder, "machine.txt")
+    print("\nMeans of the cases. µs: the median round; its ratio: the median of the rounds' ratios, after over before.")
+    head = ["operation", "cases", "thousand instructions", "ratio", "µs", "ratio", "basic sets of all results", "ratio",
+            "not finished"]
+    for family in dict.fromkeys(f for f, _, _ in run):
+        asked = dict.fromkeys(o for f, o, _ in run if f == family)
+        print(f"\n### {family}: before → after\n")
+        markdown(head, [compared(folder, run, counts, family, o) for o in asked if common(run, family, o)])
+
+
+def table(folder, mode, seed):
+    run = times(folder)
+    quote(folder, "machine.txt", "versions.txt")
     print(f"\nSeed {seed}, mode {mode}. Ratio: the best peer's figure over the engine's, above 1 the engine is ahead.\n")
     for family in FAMILIES:
         time_table(run, family)
     count_table(folder)
     refusals(run)
-    sizes(run)
+    for family in ("dispatch", "slots"):
+        sizes(run, family)
     check_table(folder)
 
 
@@ -194,8 +249,10 @@ def verdict(folder):
 
 if __name__ == "__main__":
     if sys.argv[1] == "common":
-        print(",".join(map(str, common(times(sys.argv[2]), "dispatch", sys.argv[3])[:int(sys.argv[4])])))
+        print(",".join(map(str, common(times(sys.argv[2]), sys.argv[3], sys.argv[4])[:int(sys.argv[5])])))
     elif sys.argv[1] == "verdict":
         sys.exit(verdict(sys.argv[2]))
+    elif sys.argv[1] == "compare":
+        compare(sys.argv[2])
     else:
         table(*sys.argv[2:5])

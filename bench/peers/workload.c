@@ -3,6 +3,9 @@
  *   dispatch  5 axes: payload in 100 kg, road, grade in 0.1 %, truck class, minute of the shift; divisions for tonnes, half-hour slots,
  *             hours and road zones. A of 1 to 10 permits, B of 1 to 6, C and D of 1 to 6 closures, E of basic sets of A with further
  *             constraints, in half of the cases one of them a little outside
+ *   slots     3 axes: half-hour slot of the day, truck, load in 10 t. Alternating slots and trucks: equalities modulo 2
+ *             and 3 over divisions, many times 2, 3 or 6, a few at a half slot, which no whole number meets; windows
+ *             that end at half slots. A of 1 to 5 permits, B of 1 to 3, closures C of 1 to 3, D of 1 to 2, E as above
  *   limit     8 axes, 8 divisions, up to 32 constraints a basic set: near document 01's limits
  *   big       4 axes, coefficients to 32,767, constants to 1,000,000,000; closures without bounds of their own
  *   tiny      1 to 3 axes and small numbers in a box of 15 values an axis, of which every point is checked
@@ -46,19 +49,24 @@ static void pair(basic_set *b, int equality, int64_t constant, int v, int p, int
     c->coefficient[w] = (int16_t)q;
 }
 
-/* the place of floor((axis + c) / d) among the coefficients */
+/* the place of a division among the coefficients */
+static int placed(basic_set *b, const division *q)
+{
+    for (int i = 0; i < b->divs; i++)
+        if (!memcmp(&b->div[i], q, sizeof *q)) return AXES + i;
+    b->div[b->divs] = *q;
+    return AXES + b->divs++;
+}
+
+/* floor((axis + c) / d) */
 static int divided(basic_set *b, int axis, int d, int c)
 {
     division q = {d, c, {0}};
     q.axis[axis] = 1;
-    for (int i = 0; i < b->divs; i++)
-        if (!memcmp(&b->div[i], &q, sizeof q)) return AXES + i;
-    b->div[b->divs] = q;
-    return AXES + b->divs++;
+    return placed(b, &q);
 }
 
 enum { PAYLOAD, ROAD, GRADE, CLASS, MINUTE };
-static const int32_t DISPATCH_LOW[AXES] = {0, 0, -120, 0, 0}, DISPATCH_HIGH[AXES] = {2186, 63, 120, 7, 719};
 
 /* constraints on class, grade and load until there are `target` */
 static void permit_rest(basic_set *b, int target)
@@ -183,6 +191,104 @@ static void dispatch(set *s)
     inside(&s[A], &s[E]);
 }
 
+enum { SLOT, TRUCK, LOAD };
+
+/* the last rule counted in halves, thirds or sixths; `between`: its constant is no multiple of the common divisor */
+static void finer(basic_set *b, int between)
+{
+    static const int PARTS[] = {2, 3, 6};
+    constraint *c = &b->con[b->cons - 1];
+    int g = PARTS[from(0, 2)];
+    for (int j = 0; j < AXES + DIVISIONS; j++) c->coefficient[j] = (int16_t)(g * c->coefficient[j]);
+    c->constant = g * c->constant + (between ? from(1, g - 1) : 0);
+}
+
+/* bounds, two in five of them finer, mostly between two whole numbers: 2·slot − 7 ≥ 0 for slot − 4 ≥ 0 */
+static void window(basic_set *b, int v, int low, int high)
+{
+    lower(b, v, low);
+    if (chance(40)) finer(b, chance(75));
+    upper(b, v, high);
+    if (chance(40)) finer(b, chance(75));
+}
+
+/* every second or third slot or truck, or turns by slot + truck; of the finer ones `percent` hold at no whole number */
+static void alternate(basic_set *b, int percent)
+{
+    int m = from(2, 3), kind = from(0, 3);
+    division q = {m, 0, {kind != 2, kind > 1}};
+    int place = placed(b, &q);
+    constraint *c = add(b, 1, -from(0, m - 1));
+    c->coefficient[SLOT] = q.axis[SLOT];
+    c->coefficient[TRUCK] = q.axis[TRUCK];
+    c->coefficient[place] = (int16_t)-m;
+    if (chance(60)) finer(b, chance(percent));
+}
+
+/* truck t starts in slot p·t + start */
+static void convoy(basic_set *b, int percent)
+{
+    int p = from(1, 2), start = from(0, 12);
+    pair(b, 1, -start, SLOT, 1, TRUCK, -p);
+    if (chance(70)) finer(b, chance(percent));
+}
+
+static void slots_permit(basic_set *b, int first_truck, int last_truck)
+{
+    int start = from(0, 24), end = start + from(8, 24), most = from(12, 30);
+    window(b, TRUCK, first_truck, last_truck);
+    window(b, SLOT, start, end > 47 ? 47 : end);
+    window(b, LOAD, 0, from(8, 22));
+    if (chance(70)) alternate(b, 10);
+    if (chance(15)) convoy(b, 10);
+    if (chance(40)) pair(b, 0, most, LOAD, -2, TRUCK, 1); /* higher numbers are larger trucks */
+}
+
+/* some trucks, some slots or a single one (a blast), every second or third, heavy loads */
+static void slots_closure(basic_set *b)
+{
+    int first = from(0, 20), last = first + from(0, 6), start = from(0, 40), end = start + from(1, 12);
+    int least = from(4, 18), blast = chance(15), early = chance(50);
+    if (early && chance(60)) alternate(b, 15);
+    if (chance(60)) window(b, TRUCK, first, last);
+    if (blast) {
+        equal(b, SLOT, start);
+        finer(b, chance(30));
+    } else if (chance(70)) window(b, SLOT, start, end);
+    if (!early && !blast && chance(60)) alternate(b, 15);
+    if (chance(10)) convoy(b, 15);
+    if (b->cons && !chance(30)) return;
+    lower(b, LOAD, least);
+    if (chance(40)) finer(b, chance(75));
+}
+
+/* basic sets of a with further rules; in half of the cases a bound of one of them moves out by 1 */
+static void slots_inside(const set *a, set *e)
+{
+    e->count = from(1, a->count);
+    for (int i = 0; i < e->count; i++) {
+        e->basic[i] = a->basic[i];
+        upper(&e->basic[i], LOAD, from(4, 16));
+        if (chance(50)) alternate(&e->basic[i], 10);
+    }
+    constraint *c = &e->basic[from(0, e->count - 1)].con[from(0, 3)];
+    if (chance(50)) c->constant += abs(c->coefficient[SLOT] + c->coefficient[TRUCK]);
+}
+
+static void slots(set *s)
+{
+    for (int k = A; k <= D; k++) {
+        s[k].count = from(1, k == A ? 5 : k == D ? 2 : 3);
+        int trucks = 24 / s[k].count;
+        for (int i = 0; i < s[k].count; i++) {
+            int last = (i + 1) * trucks - 1 + from(0, 2);
+            if (k <= B) slots_permit(&s[k].basic[i], i * trucks, last > 23 ? 23 : last);
+            else slots_closure(&s[k].basic[i]);
+        }
+    }
+    slots_inside(&s[A], &s[E]);
+}
+
 static const int PERIOD[DIVISIONS] = {10, 30, 60, 7, 12, 24, 5, 9};
 
 /* constraints around a centre, so that sets meet */
@@ -285,9 +391,9 @@ static void small(basic_set *b, int n, int divs, const int *period, const int *o
     }
 }
 
-static void tiny(set *s, int n)
+static void tiny(set *s)
 {
-    int divs = from(0, 2), period[2], offset[2], axis[2];
+    int n = s->n, divs = from(0, 2), period[2], offset[2], axis[2];
     for (int i = 0; i < 2; i++) period[i] = from(2, 5);
     for (int i = 0; i < 2; i++) offset[i] = from(-3, 3);
     for (int i = 0; i < 2; i++) axis[i] = from(0, n - 1);
@@ -336,29 +442,35 @@ static void point(const set *s, int n, uint32_t number, const int32_t *low, cons
     for (const constraint *c = b->con; c < b->con + b->cons; c++) to_edge(b, c, n, low, high, x);
 }
 
-static int family_of(const char *name, set *s, int32_t *low, int32_t *high)
+#define EACH(x) {x, x, x, x, x, x, x, x}
+typedef struct { const char *name; int n; void (*fill)(set *); int32_t low[AXES], high[AXES]; } family;
+static const family FAMILIES[] = {
+    {"dispatch", 5, dispatch, {0, 0, -120, 0, 0}, {2186, 63, 120, 7, 719}},
+    {"slots", 3, slots, {0}, {47, 23, 22}},
+    {"limit", 8, limit, {0}, EACH(1000)},
+    {"big", 4, big, EACH(-1048576), EACH(1048576)},
+    {"tiny", 0, tiny, EACH(-7), EACH(7)}, /* 1 to 3 axes */
+};
+
+static const family *family_of(const char *name)
 {
-    int n = !strcmp(name, "dispatch") ? 5 : !strcmp(name, "limit") ? 8 : !strcmp(name, "big") ? 4 : from(1, 3);
-    for (int k = 0; k < SETS; k++) s[k].n = n;
-    for (int j = 0; j < n; j++) {
-        low[j] = n == 5 ? DISPATCH_LOW[j] : n == 8 ? 0 : n == 4 ? -1048576 : -7;
-        high[j] = n == 5 ? DISPATCH_HIGH[j] : n == 8 ? 1000 : n == 4 ? 1048576 : 7;
-    }
-    if (n == 5) dispatch(s);
-    else if (n == 8) limit(s);
-    else if (n == 4) big(s);
-    else tiny(s, n);
-    return n;
+    for (size_t i = 0; i < sizeof FAMILIES / sizeof *FAMILIES; i++)
+        if (!strcmp(name, FAMILIES[i].name)) return &FAMILIES[i];
+    return NULL;
 }
 
-static void write_case(const char *family, FILE *f)
+static void write_case(const family *of, FILE *f)
 {
     static set s[SETS];
     static uint8_t bytes[LONGEST];
     int32_t low[AXES] = {0}, high[AXES] = {0};
     uint32_t points = 256;
+    int n = of->n ? of->n : from(1, 3);
     memset(s, 0, sizeof s);
-    int n = family_of(family, s, low, high);
+    for (int k = 0; k < SETS; k++) s[k].n = n;
+    memcpy(low, of->low, (size_t)n * sizeof *low);
+    memcpy(high, of->high, (size_t)n * sizeof *high);
+    of->fill(s);
     uint8_t head[2] = {(uint8_t)n, n < 4};
     fwrite(head, 1, 2, f);
     for (int k = 0; k < SETS; k++) {
@@ -378,12 +490,13 @@ static void write_case(const char *family, FILE *f)
 
 int main(int argc, char **argv)
 {
-    if (argc != 5) {
-        fputs("workload dispatch|limit|big|tiny SEED CASES FILE\n", stderr);
+    const family *of = argc == 5 ? family_of(argv[1]) : NULL;
+    if (!of) {
+        fputs("workload dispatch|slots|limit|big|tiny SEED CASES FILE\n", stderr);
         return 2;
     }
-    char family[16] = {0};
-    strncpy(family, argv[1], sizeof family - 1);
+    char name[16] = {0};
+    strncpy(name, of->name, sizeof name - 1);
     state = strtoull(argv[2], NULL, 10) * 0x1000193u + 77;
     uint32_t cases = (uint32_t)strtoul(argv[3], NULL, 10);
     FILE *f = fopen(argv[4], "wb");
@@ -391,8 +504,8 @@ int main(int argc, char **argv)
         perror(argv[4]);
         return 2;
     }
-    fwrite(family, sizeof family, 1, f);
+    fwrite(name, sizeof name, 1, f);
     fwrite(&cases, 4, 1, f);
-    for (uint32_t i = 0; i < cases; i++) write_case(family, f);
+    for (uint32_t i = 0; i < cases; i++) write_case(of, f);
     return fclose(f) ? 2 : 0;
 }
