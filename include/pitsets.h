@@ -66,7 +66,10 @@ int64_t pitsets_member(size_t n, const uint8_t *set, size_t set_length, int32_t 
                        int32_t x5, int32_t x6, int32_t x7, int32_t x8);
 
 /* The operations write the result to `result` and return its length. Past the result the table is filled with 0; after a refusal it is
- * all 0. Refusals: 1, the first set's 2 to 9, the second set's 2 to 9, 10, 11. */
+ * all 0. Refusals: 1, the first set's 2 to 9, the second set's 2 to 9, 10, 11.
+ * Intersection, difference and complement divide each rule by the common divisor of its coefficients, an inequality's constant
+ * rounded down; an equality whose constant that does not divide (2x - 1 = 0) holds no integer point and leaves no basic set. Union, and
+ * a basic set of the first set that nothing is taken from, keep their rules as given. */
 int64_t pitsets_union(size_t n, const uint8_t *first, size_t first_length, const uint8_t *second, size_t second_length,
                       uint8_t *result, size_t result_length);
 int64_t pitsets_intersection(size_t n, const uint8_t *first, size_t first_length, const uint8_t *second, size_t second_length,
