@@ -1,6 +1,8 @@
 pub mod Rows
 pub mod Reduce
 pub mod Exchange
+pub mod Reach
+pub mod Sizes
 pub mod Start
 pub mod Points
 pub mod Verdicts

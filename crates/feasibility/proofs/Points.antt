@@ -17,9 +17,10 @@ use Rattle.integers.specs.Order.{mul-nonneg, mul-pos-pos, <ℤ-≤ℤ}
 use Rattle.integers.specs.Size.{natAbs-nonneg}
 use Rattle.model.specs.Lists.{all}
 use Rattle.model.specs.Sets.{dot, Kind, equality, inequality, Constraint, BasicSet, isZero, meets, value, holds, conditions, RationalPoint, meetsBasic}
-use Rattle.feasibility.specs.Tableau.{point, dropped, long, wide, Row, Tableau, entry, constantOf, sortOf, violates, lowest, violatedRows, solved, replaced, reduced, exchange, narrow, noRow, Look, noneViolated, noneHelps, pivot, look, run, pad, from, firstRows, start, test, testAt, bound, sorts, begin}
+use Rattle.feasibility.specs.Tableau.{point, dropped, long, wide, Row, Tableau, entry, constantOf, sortOf, violates, lowest, violatedRows, solved, replaced, reduced, exchange, narrow, noRow, Look, noneViolated, noneHelps, pivot, look, Ending, ended, reach, run, endsAt, pad, from, firstRows, start, test, bound, sorts, begin}
 use Rattle.model.proofs.Count.{and-make, from-T, no-suc, suc-inj}
 use Rattle.model.proofs.Values.{isZero→, nn}
+use Rattle.feasibility.proofs.Sizes.{test-128}
 use Rattle.feasibility.proofs.Exchange.{Holds, Solves, Shaped, shape-at, Pivot, exchange-shaped, exchange-back}
 use Rattle.feasibility.proofs.Verdicts.{Meets, Found, calm, turns, looked, when-none, to-not}
 use Rattle.feasibility.proofs.Start.{length-from, free, row-value, start-shaped}
@@ -100,7 +101,7 @@ module _ (i j : ℕ) (t : Tableau) (p : Pivot i j t) (pl : Placed t) where
       inj e = cc
 
   new-rows : (k : ℕ) → k < length (t .rows) → (b : Bool) → eqb k i ≡ b → loc′ (getD (exchange i j t .rows) k noRow .var) ≡ inRow k
-  unfolding testAt run look exchange
+  unfolding reach look exchange
   new-rows k h true e =
       let q : k ≡ i = eqb→eq k i (subst T (sym e) tt) in
       ap (λ (m : ℕ). loc′ (getD (exchange i j t .rows) m noRow .var)) q
@@ -122,7 +123,7 @@ module _ (i j : ℕ) (t : Tableau) (p : Pivot i j t) (pl : Placed t) where
       inj e = cc
 
   pub exchange-placed : Placed (exchange i j t)
-  unfolding testAt run look exchange
+  unfolding reach look exchange
   exchange-placed =
       record {
         loc = loc′;
@@ -270,16 +271,16 @@ calm-solution sort t sh pl e =
 
 -- point: there is one
 pub run-point : (fits : ℕ → Tableau → Bool) (sort : ℕ → Option Kind) (n : ℕ) (t : Tableau) → Shaped (length (t .cols)) (t .rows) → Placed t → run fits sort n t ≡ point → Solution sort t
-unfolding testAt run look exchange
+unfolding reach look exchange
 run-point fits sort zero t sh pl e = at (look sort t) refl (looked sort t)
   where
     at : (l : Look) → look sort t ≡ l → Found sort t l → Solution sort t
     at noneViolated q (calm z) = calm-solution sort t sh pl z
-    at noneHelps q f = let d : dropped ≡ point = rw (q, run) at e in let z : _≡_ {A = ℕ} 0 1 = cc in absurd (clash z)
+    at noneHelps q f = let d : dropped ≡ point = rw (q, run, reach) at e in let z : _≡_ {A = ℕ} 0 1 = cc in absurd (clash z)
       where
         clash : _≡_ {A = ℕ} 0 1 → ⊥
         clash z = omega arith
-    at (pivot i j) q f = let d : long ≡ point = rw (q, run) at e in let z : _≡_ {A = ℕ} 0 1 = cc in absurd (clash z)
+    at (pivot i j) q f = let d : long ≡ point = rw (q, run, reach) at e in let z : _≡_ {A = ℕ} 0 1 = cc in absurd (clash z)
       where
         clash : _≡_ {A = ℕ} 0 1 → ⊥
         clash z = omega arith
@@ -293,13 +294,13 @@ run-point fits sort (suc n) t sh pl e = at (look sort t) refl (looked sort t) (�
 
     at : (l : Look) → look sort t ≡ l → Found sort t l → ((t′ : Tableau) → Shaped (length (t′ .cols)) (t′ .rows) → Placed t′ → run fits sort n t′ ≡ point → Solution sort t′) → Solution sort t
     at noneViolated q (calm z) ih = calm-solution sort t sh pl z
-    at noneHelps q f ih = let d : dropped ≡ point = rw (q, run) at e in clash (cc)
-    at (pivot _ _) q (turns i j p) ih = on (fits j t) (rw (q, run) at e)
+    at noneHelps q f ih = let d : dropped ≡ point = rw (q, run, reach) at e in clash (cc)
+    at (pivot _ _) q (turns i j p) ih = on (fits j t) (rw (q, run, reach) at e)
       where
         back : Solution sort (exchange i j t) → Solution sort t
         back s = record { w = s .w; D = s .D; positive = s .positive; meets = s .meets; solves = exchange-back i j t (p .pivots) sh (s .w) (s .D) (s .solves) }
 
-        on : (b : Bool) → elim b [ false ↦ wide | true ↦ run fits sort n (exchange i j t) ] ≡ point → Solution sort t
+        on : (b : Bool) → (elim b as (λ (b : Bool). Ending) [ false ↦ ended wide (suc n) t | true ↦ reach fits sort n (exchange i j t) ]) .verdict ≡ point → Solution sort t
         on false d = clash (cc)
         on true d = back (ih (exchange i j t) (exchange-shaped i j t (p .pivots) sh) (exchange-placed i j t (p .pivots) pl) d)
 
@@ -423,5 +424,5 @@ run-witness fits n b e =
     witness b (run-point fits (sorts b) n (begin b) (start-shaped (length (b .divisions)) (8 + length (b .divisions)) (conditions b)) (start-placed (length (b .divisions)) (conditions b)) e)
 
 pub point-sound : (b : BasicSet) → test b ≡ point → Witness b
-unfolding testAt
-point-sound b e = run-witness (narrow (bound 64)) 200 b e
+unfolding endsAt
+point-sound b e = run-witness (narrow (bound 128)) 200 b (sym (test-128 b) ∙ e)

@@ -12,10 +12,11 @@ use lib.ListN.{length, getD, length-append, length-map}
 use Rattle.integers.specs.Ring.{ring, quote}
 use Rattle.model.specs.Lists.{all}
 use Rattle.model.specs.Sets.{dot, Constraint, BasicSet, value, holds, conditions, RationalPoint, meetsBasic}
-use Rattle.feasibility.specs.Tableau.{dropped, Tableau, sortOf, violates, run, pad, from, firstRows, start, test, testAt, narrow, bound, sorts, begin}
+use Rattle.feasibility.specs.Tableau.{dropped, Tableau, sortOf, violates, run, pad, from, firstRows, start, test, endsAt, narrow, bound, sorts, begin}
 use Rattle.model.proofs.Count.{and-left, and-right, suc-inj, no-suc}
 use Rattle.model.proofs.Values.{dot-nil}
 use Rattle.feasibility.proofs.Exchange.{Solves, Shaped}
+use Rattle.feasibility.proofs.Sizes.{test-128}
 use Rattle.feasibility.proofs.Verdicts.{Meets, run-dropped}
 
 -- ---- lists
@@ -128,5 +129,5 @@ run-empty fits n b e p h xlen qlen t =
     start-dropped (pos (p .denominator)) (p .x) (p .q) (length (b .divisions)) xlen qlen fits (conditions b) n (record { lt = lt→ltb 0 (p .denominator) h }) t e
 
 pub dropped-sound : (b : BasicSet) → test b ≡ dropped → (p : RationalPoint) → 0 < p .denominator → length (p .x) ≤ 8 → length (p .q) ≤ length (b .divisions) → ¬ T (meetsBasic p b)
-unfolding testAt
-dropped-sound b e = run-empty (narrow (bound 64)) 200 b e
+unfolding endsAt
+dropped-sound b e = run-empty (narrow (bound 128)) 200 b (sym (test-128 b) ∙ e)

@@ -13,7 +13,7 @@ use lib.ListN.{length, getD}
 use Rattle.integers.specs.Lin.{le, lt, eq, lin, lia-le, lia-no}
 use Rattle.integers.specs.Order.{mul-nonneg, mul-pos-pos, mul-nonpos, <ℤ-≤ℤ}
 use Rattle.model.specs.Sets.{dot, Kind, equality, inequality, isZero}
-use Rattle.feasibility.specs.Tableau.{point, dropped, long, wide, Row, Tableau, entry, constantOf, violates, helps, lower, lowest, when, violatedRows, helpfulCols, exchange, noRow, Look, noneViolated, noneHelps, pivot, column, row, look, run}
+use Rattle.feasibility.specs.Tableau.{point, dropped, long, wide, Row, Tableau, entry, constantOf, violates, helps, lower, lowest, when, violatedRows, helpfulCols, exchange, noRow, Look, noneViolated, noneHelps, pivot, column, row, look, Ending, ended, reach, run}
 use Rattle.model.proofs.Values.{isZero→, nn}
 use Rattle.feasibility.proofs.Rows.{rest}
 use Rattle.model.proofs.Count.{no-suc}
@@ -224,7 +224,7 @@ module _ (sort : ℕ → Option Kind) (t : Tableau) where
       (lowest 0 (helpfulCols sort (constantOf (getD (t .rows) (a .1) noRow)) (t .cols) (tail (getD (t .rows) (a .1) noRow .nums)))) refl
 
   pub looked : Found sort t (look sort t)
-  unfolding run look exchange
+  unfolding reach look exchange
   looked = found-by-row (lowest 0 (violatedRows sort (t .rows))) refl
 
 -- ---- no column helps: the row cannot reach its condition
@@ -295,20 +295,20 @@ module _ (sort : ℕ → Option Kind) (w : ℕ → ℤ) (ok : Meets sort w) wher
 
     -- dropped: there is no solution
     pub run-dropped : (fits : ℕ → Tableau → Bool) (n : ℕ) (t : Tableau) → Shaped (length (t .cols)) (t .rows) → Solves w D (t .cols) (t .rows) → run fits sort n t ≡ dropped → ⊥
-    unfolding run look exchange
+    unfolding reach look exchange
     run-dropped fits zero t sh k e = at (look sort t) refl (looked sort t)
       where
         at : (l : Look) → look sort t ≡ l → Found sort t l → ⊥
-        at noneViolated q f = let d : point ≡ dropped = rw (q, run) at e in let z : _≡_ {A = ℕ} 0 1 = cc in omega arith
+        at noneViolated q f = let d : point ≡ dropped = rw (q, run, reach) at e in let z : _≡_ {A = ℕ} 0 1 = cc in omega arith
         at noneHelps q (stuck i h v u) = stuck-at (getD (t .rows) i noRow) (t .cols) (length (t .cols)) (shape-at (length (t .cols)) (t .rows) i h sh) (solves-at w D (t .cols) (t .rows) i h k) v u
-        at (pivot i j) q f = let d : long ≡ dropped = rw (q, run) at e in let z : _≡_ {A = ℕ} 0 1 = cc in omega arith
+        at (pivot i j) q f = let d : long ≡ dropped = rw (q, run, reach) at e in let z : _≡_ {A = ℕ} 0 1 = cc in omega arith
     run-dropped fits (suc n) t sh k e = at (look sort t) refl (looked sort t) (λ t′. run-dropped fits n t′)
       where
         at : (l : Look) → look sort t ≡ l → Found sort t l → ((t′ : Tableau) → Shaped (length (t′ .cols)) (t′ .rows) → Solves w D (t′ .cols) (t′ .rows) → run fits sort n t′ ≡ dropped → ⊥) → ⊥
-        at noneViolated q f ih = let d : point ≡ dropped = rw (q, run) at e in let z : _≡_ {A = ℕ} 0 1 = cc in omega arith
+        at noneViolated q f ih = let d : point ≡ dropped = rw (q, run, reach) at e in let z : _≡_ {A = ℕ} 0 1 = cc in omega arith
         at noneHelps q (stuck i h v u) ih = stuck-at (getD (t .rows) i noRow) (t .cols) (length (t .cols)) (shape-at (length (t .cols)) (t .rows) i h sh) (solves-at w D (t .cols) (t .rows) i h k) v u
-        at (pivot _ _) q (turns i j p) ih = on (fits j t) (rw (q, run) at e)
+        at (pivot _ _) q (turns i j p) ih = on (fits j t) (rw (q, run, reach) at e)
           where
-            on : (b : Bool) → elim b [ false ↦ wide | true ↦ run fits sort n (exchange i j t) ] ≡ dropped → ⊥
+            on : (b : Bool) → (elim b as (λ (b : Bool). Ending) [ false ↦ ended wide (suc n) t | true ↦ reach fits sort n (exchange i j t) ]) .verdict ≡ dropped → ⊥
             on false d = let z : _≡_ {A = ℕ} 0 1 = cc in omega arith
             on true d = ih (exchange i j t) (exchange-shaped i j t (p .pivots) sh) (exchange-on i j t (p .pivots) sh w D k) d

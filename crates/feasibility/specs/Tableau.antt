@@ -124,7 +124,7 @@ exchange i j t =
 
 -- ---- the steps
 
--- document 000's bound for a·b − c·d at W bits: 2,147,483,647 at 64
+-- document 000's bound for a·b − c·d at W bits: 2,147,483,647 at 64, 9,223,372,036,854,775,807 at 128
 abbrev pub bound : ℕ → ℕ
 bound W = 2 ^ (W / 2 - 1) - 1
 
@@ -150,25 +150,31 @@ row sort t (some k) =
 unfoldable pub look : (ℕ → Option Kind) → Tableau → Look
 look sort t = row sort t (lowest 0 (violatedRows sort (t .rows)))
 
+-- how a test ends: its answer, the pivots left, the tableau reached
+pub record Ending : Type 0 where
+  pub verdict : Verdict
+  pub left : ℕ
+  pub tableau : Tableau
+
+abbrev pub ended : Verdict → ℕ → Tableau → Ending
+ended v n t = record { verdict = v; left = n; tableau = t }
+
 -- n more pivots may be made, each one if fits says so of its column and tableau
-unfoldable pub run : (ℕ → Tableau → Bool) → (ℕ → Option Kind) → ℕ → Tableau → Verdict
-run fits sort zero t = elim (look sort t) [ noneViolated ↦ point | noneHelps ↦ dropped | pivot i j ↦ long ]
-run fits sort (suc n) t =
+unfoldable pub reach : (ℕ → Tableau → Bool) → (ℕ → Option Kind) → ℕ → Tableau → Ending
+reach fits sort zero t = elim (look sort t) [ noneViolated ↦ ended point 0 t | noneHelps ↦ ended dropped 0 t | pivot i j ↦ ended long 0 t ]
+reach fits sort (suc n) t =
     elim (look sort t) [
-      | noneViolated ↦ point
-      | noneHelps ↦ dropped
-      | pivot i j ↦ elim (fits j t) [ false ↦ wide | true ↦ run fits sort n (exchange i j t) ]
+      | noneViolated ↦ ended point (suc n) t
+      | noneHelps ↦ ended dropped (suc n) t
+      | pivot i j ↦ elim (fits j t) [ false ↦ ended wide (suc n) t | true ↦ reach fits sort n (exchange i j t) ]
     ]
 
--- how many pivots it makes
-unfoldable pub pivots : (ℕ → Tableau → Bool) → (ℕ → Option Kind) → ℕ → Tableau → ℕ
-pivots fits sort zero t = 0
-pivots fits sort (suc n) t =
-    elim (look sort t) [
-      | noneViolated ↦ 0
-      | noneHelps ↦ 0
-      | pivot i j ↦ elim (fits j t) [ false ↦ 0 | true ↦ suc (pivots fits sort n (exchange i j t)) ]
-    ]
+abbrev pub run : (ℕ → Tableau → Bool) → (ℕ → Option Kind) → ℕ → Tableau → Verdict
+run fits sort n t = reach fits sort n t .verdict
+
+-- document 02, request 9: "carry the tableau as it is .. and go on from that very pivot", under another bound; "the pivot count runs on"
+abbrev pub carried : (ℕ → Tableau → Bool) → (ℕ → Option Kind) → Ending → Ending
+carried fits sort e = elim (e .verdict) [ point ↦ e | dropped ↦ e | long ↦ e | wide ↦ reach fits sort (e .left) (e .tableau) ]
 
 -- the first k numbers, with 0 for what is not there
 abbrev pub pad : ℕ → List ℤ → List ℤ
@@ -196,15 +202,20 @@ sorts b = sortOf (8 + length (b .divisions)) (conditions b)
 abbrev pub begin : BasicSet → Tableau
 begin b = start (length (b .divisions)) (conditions b)
 
--- at W bits
-unfoldable pub testAt : ℕ → BasicSet → Verdict
-testAt W b = run (narrow (bound W)) (sorts b) 200 (begin b)
+-- at W bits alone
+unfoldable pub endsAt : ℕ → BasicSet → Ending
+endsAt W b = reach (narrow (bound W)) (sorts b) 200 (begin b)
+
+abbrev pub testAt : ℕ → BasicSet → Verdict
+testAt W b = endsAt W b .verdict
+
+-- at 64 bits, and what is wide there is carried over to 128
+unfoldable pub testEnds : BasicSet → Ending
+testEnds b = carried (narrow (bound 128)) (sorts b) (endsAt 64 b)
 
 abbrev pub test : BasicSet → Verdict
-test b = testAt 64 b
+test b = testEnds b .verdict
 
-unfoldable pub pivotsAt : ℕ → BasicSet → ℕ
-pivotsAt W b = pivots (narrow (bound W)) (sorts b) 200 (begin b)
-
+-- the pivots made, of both
 abbrev pub pivotsMade : BasicSet → ℕ
-pivotsMade b = pivotsAt 64 b
+pivotsMade b = 200 - testEnds b .left

@@ -8,14 +8,15 @@ use native.Mathlib.Omega.{arith}
 use borrow.Author.Tests.{le-ltb}
 use lib.Dec.{ltb}
 use lib.ListN.{length, getD, replicate, length-map, length-append, length-replicate}
+use Rattle.integers.specs.Size.{bound}
 use Rattle.model.specs.Sets.{Kind, Constraint, BasicSet, conditions}
 use Rattle.feasibility.specs.Tableau as T
-use Rattle.feasibility.specs.Tableau.{start, begin, sorts, testAt}
+use Rattle.feasibility.specs.Tableau.{start, begin, sorts, endsAt}
 use Rattle.simplex.specs.Answers.{verdictOf}
 use Rattle.simplex.specs.Table.{startRow, placeAt, kindNumber, tabulate, Fine}
 use Rattle.simplex.proofs.Columns.{tabulate-at, tabulate-length}
 use Rattle.simplex.proofs.Shows.{Shows}
-use Rattle.simplex.proofs.Bridge.{run-shows}
+use Rattle.simplex.proofs.Bridge.{reach-shows}
 use Rattle.simplex.proofs.Fills.{map-append}
 use Rattle.simplex.proofs.Filled.{start-shows, shows-fine}
 use Rattle.sharing.specs.Trace.{trace}
@@ -48,13 +49,13 @@ module _ (k : ℕ) (cs : List Constraint) (few : k ≤ 8) (room : length cs ≤ 
       shows-fine k (firstTable k cs) (firstPlace k (length cs)) (firstKinds k cs) (start k cs) first-shows (kinds-long k cs ∙ sym (place-long k (length cs))) (let e = place-long k (length cs) in omega arith)
 
 -- the answer is the test's
-pub first-tests : (b : BasicSet) → length (b .divisions) ≤ 8 → length (conditions b) ≤ 64 → verdictOf (traceOf (length (b .divisions)) (conditions b) .verdict) ≡ T.test b
-unfolding traceOf testAt
+pub first-tests : (b : BasicSet) → length (b .divisions) ≤ 8 → length (conditions b) ≤ 64 → verdictOf (traceOf (length (b .divisions)) (conditions b) .verdict) ≡ T.testAt 64 b
+unfolding traceOf endsAt
 first-tests b few room =
     let k : ℕ = length (b .divisions) in
     let cs : List Constraint = conditions b in
     ap verdictOf (trace-run (firstKinds k cs) 200 (firstTable k cs) (firstPlace k (length cs)))
-    ∙ run-shows k (sorts b) (firstKinds k cs) 200 (begin b) (firstTable k cs) (firstPlace k (length cs)) (first-shows k cs few room) (λ v h. kind-at (replicate (8 + k) none ++ map kindOf cs) v) .verdict-is
+    ∙ reach-shows k (sorts b) (firstKinds k cs) (bound 64) 200 (begin b) (firstTable k cs) (firstPlace k (length cs)) (first-shows k cs few room) (λ v h. kind-at (replicate (8 + k) none ++ map kindOf cs) v) .verdict-is
 
 -- ---- one condition more
 

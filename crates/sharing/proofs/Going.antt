@@ -17,7 +17,7 @@ use Rattle.simplex.specs.declared.Verdict.the-variants.{Point, Dropped, Long, W
 use Rattle.simplex.specs.declared.Move.{Move}
 use Rattle.simplex.specs.declared.Move.the-variants.{Stop, Pivot}
 use Rattle.tableau.specs.Rows.{den, solveRow, rebuildRow, exchangeRows, violated, helping, narrowRows}
-use Rattle.simplex.specs.Table.{moveOf, pivotRows, pivotPlace, runTable, Fine, Crossing}
+use Rattle.simplex.specs.Table.{moveOf, moveAt, pivotRows, pivotPlace, runTable, runTableAt, Fine, Crossing}
 use Rattle.simplex.specs.Table as Table
 use Rattle.tableau.proofs.Lines.{Sound, solve-sound, divisor-of}
 use Rattle.simplex.proofs.Moves.{pivot-left, pivot-fine, crossing, pivot-length, rows-length}
@@ -146,7 +146,7 @@ module _ (m : ℕ) (t₀ : List (List ℤ)) (place₀ kinds : List ℕ) (past₀
 -- ---- forgetting the pivots it is the run
 
 pub trace-run : (kinds : List ℕ) (n : ℕ) (t : List (List ℤ)) (place : List ℕ) → trace kinds n t place .verdict ≡ runTable kinds n t place .verdict
-unfolding trace runTable
+unfolding trace runTableAt
 trace-run kinds zero t place = at (moveOf t place kinds 0)
   where
     at : (m : Move) → follow m (stopped Long) t place .verdict ≡ Table.follow m 0 (λ rows place. record { verdict = Long; left = 0; rows = rows; place = place }) t place .verdict
@@ -208,7 +208,7 @@ module _ (m : ℕ) (kinds : List ℕ) where
     pub calm : y .verdict ≡ Point → length (y .place) ≤ violated (y .rows) (y .place) kinds
 
   point-calm : (n : ℕ) (t : List (List ℤ)) (place : List ℕ) (x : Verdict) → moveOf t place kinds n ≡ Stop x → x ≡ Point → length place ≤ violated t place kinds
-  unfolding moveOf
+  unfolding moveAt
   point-calm n t place x e z = leb-true (length place) (violated t place kinds) (at (leb (length place) (violated t place kinds)) (leb (length place) w) (eqb n 0) (narrowRows (getD place w 0 - 64) t) (e ∙ ap Stop z))
     where
       v : ℕ

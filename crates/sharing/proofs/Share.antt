@@ -13,7 +13,7 @@ use lib.IntN.{ℤ, pos}
 use Rattle.simplex.specs.declared.Verdict.{Verdict}
 use Rattle.simplex.specs.declared.Verdict.the-variants.{Point, Dropped, Long, Wide}
 use Rattle.simplex.specs.declared.Move.the-variants.{Stop, Pivot}
-use Rattle.tableau.specs.Rows.{solveRow, exchangeRows, exchangeBy, first, violatedBy, violatedAt, violated, helpsBy, helpsAt, helping, narrowRow, narrowRows}
+use Rattle.tableau.specs.Rows.{solveRow, exchangeRows, exchangeBy, first, violatedBy, violatedAt, violated, helpsBy, helpsAt, helping, narrowRow, narrowRows, narrowRowsAt}
 use Rattle.simplex.specs.Table.{moveOf, pivotRows, pivotPlace, Fine, Crossing}
 use Rattle.simplex.proofs.Moves.{choose-point, choose-dropped, choose-long, choose-last, row-spot, crossing, pivot-fine, rows-length}
 use Rattle.sharing.specs.Past.{put, through, brought}
@@ -62,7 +62,7 @@ map-snoc f [] a = refl
 map-snoc f (x ∷ l) a = ap (λ (r : List (List ℤ)). f x ∷ r) (map-snoc f l a)
 
 narrow-snoc : (j : ℕ) (t : List (List ℤ)) (s : List ℤ) → narrowRows j (t ++ (s ∷ [])) ≡ cond (narrowRows j t) (narrowRow j s) false
-unfolding narrowRows
+unfolding narrowRowsAt
 narrow-snoc j [] s = at (narrowRow j s)
   where
     at : (b : Bool) → cond b true false ≡ b

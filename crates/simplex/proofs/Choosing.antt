@@ -18,18 +18,18 @@ use Rattle.model.specs.Sets.{Kind, equality, inequality, isZero}
 use Rattle.model.specs.Lists.{all}
 use Rattle.model.proofs.Count.{from-T, to-T}
 use Rattle.feasibility.specs.Tableau as T
-use Rattle.feasibility.specs.Tableau.{Row, Tableau, bound, constantOf, violates, helps, lowest, violatedRows, helpfulCols, look, row, column, noneViolated, noneHelps, pivot, noRow}
+use Rattle.feasibility.specs.Tableau.{Row, Tableau, constantOf, violates, helps, lowest, violatedRows, helpfulCols, look, row, column, noneViolated, noneHelps, pivot, noRow}
 use Rattle.simplex.specs.declared.Verdict.the-variants.{Point, Dropped, Long, Wide}
 use Rattle.simplex.specs.declared.Move.the-variants.{Stop, Pivot}
-use Rattle.tableau.specs.Rows.{den, narrowRows, first, violatedBy, violatedAt, violated, helpsBy, helpsAt, helping}
-use Rattle.simplex.specs.Table.{columnOf, numberAt, layout, kindNumber, moveOf}
+use Rattle.tableau.specs.Rows.{den, narrowRowsAt, first, violatedBy, violatedAt, violated, helpsBy, helpsAt, helping}
+use Rattle.simplex.specs.Table.{columnOf, numberAt, layout, kindNumber, moveAt}
 use Rattle.feasibility.proofs.Exchange as X
 use Rattle.feasibility.proofs.Exchange.{Shaped}
 use Rattle.feasibility.proofs.Points.{calm-at}
 use Rattle.feasibility.proofs.Verdicts.{rowVar, colVar, Violated, lowest-some, lowest-none, lowest-least, found-row, listed-row, found-col, listed-col, helps-nonzero, zero-calm, tail-entry}
 use Rattle.simplex.proofs.Columns.{lay-at, lay-entry}
 use Rattle.simplex.proofs.Shown.{narrow-shows}
-use Rattle.simplex.proofs.Moves.{choose-point, choose-dropped, choose-long, choose-last}
+use Rattle.simplex.proofs.Moves.{choose-pointAt, choose-droppedAt, choose-longAt, choose-lastAt}
 use Rattle.simplex.proofs.Shows.{Named, in-row, in-col, Shows, map-at}
 
 -- ---- the searches
@@ -218,75 +218,76 @@ module _ (k : ℕ) (sort : ℕ → Option Kind) (t : Tableau) (rows : List (List
 
   -- ---- the number test
 
-  narrow-rows : (j : ℕ) → j < 8 + k → (rs : List Row) → Shaped (8 + k) rs → narrowRows (columnOf k j) (map (layout k) rs) ≡ all (λ (r : Row). isZero (T.entry r j) || all (λ (z : ℤ). leb (natAbs z) (bound 64)) (r .den ∷ r .nums)) rs
-  unfolding narrowRows
-  narrow-rows j b [] sh = refl
-  narrow-rows j b (r ∷ rs) sh =
-      ap₂ (λ x y. cond x y false) (narrow-shows k (s .few) r j b (sh .0)) (narrow-rows j b rs (sh .1))
-      ∙ and-is (isZero (T.entry r j) || all (λ (z : ℤ). leb (natAbs z) (bound 64)) (r .den ∷ r .nums)) _
-    where
-      and-is : (a b : Bool) → cond a b false ≡ (a && b)
-      and-is true b = refl
-      and-is false b = refl
+  module _ (bnd : ℕ) where
+    narrow-rows : (j : ℕ) → j < 8 + k → (rs : List Row) → Shaped (8 + k) rs → narrowRowsAt bnd (columnOf k j) (map (layout k) rs) ≡ all (λ (r : Row). isZero (T.entry r j) || all (λ (z : ℤ). leb (natAbs z) bnd) (r .den ∷ r .nums)) rs
+    unfolding narrowRowsAt
+    narrow-rows j b [] sh = refl
+    narrow-rows j b (r ∷ rs) sh =
+        ap₂ (λ x y. cond x y false) (narrow-shows k (s .few) bnd r j b (sh .0)) (narrow-rows j b rs (sh .1))
+        ∙ and-is (isZero (T.entry r j) || all (λ (z : ℤ). leb (natAbs z) bnd) (r .den ∷ r .nums)) _
+      where
+        and-is : (a b : Bool) → cond a b false ≡ (a && b)
+        and-is true b = refl
+        and-is false b = refl
 
-  narrow-is : (j : ℕ) → j < length (t .cols) → narrowRows (getD place (colVar t j) 0 - 64) rows ≡ T.narrow (bound 64) j t
-  narrow-is j b =
-      let jin : j < 8 + k = subst (λ n. j < n) (s .width) b in
-      ap₂ (λ n u. narrowRows (n - 64) u) (s .cols-at j b .1) (s .rows-are)
-      ∙ ap (λ n. narrowRows n (map (layout k) (t .rows))) minus
-      ∙ narrow-rows j jin (t .rows) (subst (λ n. Shaped n (t .rows)) (s .width) (s .shaped))
-    where
-      minus : 64 + columnOf k j - 64 ≡ columnOf k j
-      minus = omega arith
+    narrow-is : (j : ℕ) → j < length (t .cols) → narrowRowsAt bnd (getD place (colVar t j) 0 - 64) rows ≡ T.narrow bnd j t
+    narrow-is j b =
+        let jin : j < 8 + k = subst (λ n. j < n) (s .width) b in
+        ap₂ (λ n u. narrowRowsAt bnd (n - 64) u) (s .cols-at j b .1) (s .rows-are)
+        ∙ ap (λ n. narrowRowsAt bnd n (map (layout k) (t .rows))) minus
+        ∙ narrow-rows j jin (t .rows) (subst (λ n. Shaped n (t .rows)) (s .width) (s .shaped))
+      where
+        minus : 64 + columnOf k j - 64 ≡ columnOf k j
+        minus = omega arith
 
-  -- ---- what look finds, and what the code chooses with n pivots left
+    -- ---- what look finds, and what the code chooses with n pivots left
 
-  pub data Chosen (n : ℕ) : T.Look → Type 0 where
-    calm : moveOf rows place kinds n ≡ Stop Point → Chosen n noneViolated
-    stuck : moveOf rows place kinds n ≡ Stop Dropped → Chosen n noneHelps
-    spent : (i j : ℕ) → n ≡ 0 → moveOf rows place kinds n ≡ Stop Long → Chosen n (pivot i j)
-    turns : (i j : ℕ) → X.Pivot i j t → (n ≡ 0 → ⊥) → cond (T.narrow (bound 64) j t) (Pivot (rowVar t i) (colVar t j)) (Stop Wide) ≡ moveOf rows place kinds n → Chosen n (pivot i j)
+    pub data Chosen (n : ℕ) : T.Look → Type 0 where
+      calm : moveAt bnd rows place kinds n ≡ Stop Point → Chosen n noneViolated
+      stuck : moveAt bnd rows place kinds n ≡ Stop Dropped → Chosen n noneHelps
+      spent : (i j : ℕ) → n ≡ 0 → moveAt bnd rows place kinds n ≡ Stop Long → Chosen n (pivot i j)
+      turns : (i j : ℕ) → X.Pivot i j t → (n ≡ 0 → ⊥) → cond (T.narrow bnd j t) (Pivot (rowVar t i) (colVar t j)) (Stop Wide) ≡ moveAt bnd rows place kinds n → Chosen n (pivot i j)
 
-  chosen-column : (n i : ℕ) → i < length (t .rows) → Violated sort (t .rows) i → ((m : ℕ) → Violated sort (t .rows) m → rowVar t i ≤ rowVar t m)
-      → (o : Option (ℕ × ℕ)) → lowest 0 (helpfulCols sort (constantOf (getD (t .rows) i noRow)) (t .cols) (tail (getD (t .rows) i noRow .nums))) ≡ o → Chosen n (column i o)
-  chosen-column n i h x f none e =
-      let v = rowVar t i in
-      let es = tail (getD (t .rows) i noRow .nums) in
-      let w = none-helping i h x (λ j b y. lowest-none 0 (helpfulCols sort (constantOf (getD (t .rows) i noRow)) (t .cols) es) e j (colVar t j)
-      (listed-col sort (constantOf (getD (t .rows) i noRow)) (t .cols) es j b (subst (λ a. T (helps (sort (colVar t j)) (constantOf (getD (t .rows) i noRow)) a)) (sym (tail-entry (getD (t .rows) i noRow .nums) j)) y))) in
-      stuck (sym (choose-dropped rows place kinds n v (sym (violated-is i h x f)) (s .rows-at i h .0) (length place) (sym (ap (λ m. helping (getD rows m []) place kinds) (s .rows-at i h .1) ∙ w)) (le-refl (length place))))
-  chosen-column n i h x f (some g) e =
-      let r : Row = getD (t .rows) i noRow in
-      let es : List ℤ = tail (r .nums) in
-      let l = lowest-some 0 (helpfulCols sort (constantOf r) (t .cols) es) g e in
-      let c = found-col sort (constantOf r) (t .cols) es (l .m) (g .0) (l .found) in
-      let p : g .1 ≡ l .m = l .place ∙ zero-add (l .m) in
-      let help : T (helps (sort (colVar t (l .m))) (constantOf r) (T.entry r (l .m))) = subst (λ (z : ℤ). T (helps (sort (colVar t (l .m))) (constantOf r) z)) (tail-entry (r .nums) (l .m)) (c .1) in
-      let w : helping (getD rows i []) place kinds ≡ colVar t (l .m) = helping-is i h x (l .m) (c .0) help
-      (λ m b y. subst (λ (n : ℕ). n ≤ colVar t m) (sym (c .2))
-      (lowest-least 0 (helpfulCols sort (constantOf r) (t .cols) es) g e m (colVar t m)
-      (listed-col sort (constantOf r) (t .cols) es m b (subst (λ (z : ℤ). T (helps (sort (colVar t m)) (constantOf r) z)) (sym (tail-entry (r .nums) m)) y)))) in
-      subst (λ j. Chosen n (pivot i j)) (sym p) (on n (l .m) (c .0) (helps-nonzero (sort (colVar t (l .m))) (constantOf r) (T.entry r (l .m)) help) w)
-    where
-      on : (n j : ℕ) → j < length (t .cols) → (T.entry (getD (t .rows) i noRow) j ≡ pos 0 → ⊥) → helping (getD rows i []) place kinds ≡ colVar t j → Chosen n (pivot i j)
-      on zero j b y w =
-          spent i j refl
-          (sym (choose-long rows place kinds 0 (rowVar t i) (sym (violated-is i h x f)) (s .rows-at i h .0) (colVar t j) (sym (ap (λ m. helping (getD rows m []) place kinds) (s .rows-at i h .1) ∙ w)) (s .cols-at j b .0) refl))
-      on (suc n) j b y w =
-          turns i j (record { row = h; col = b; entry = y }) (λ e. omega arith)
-          (choose-last rows place kinds (suc n) (rowVar t i) (sym (violated-is i h x f)) (s .rows-at i h .0) (colVar t j) (sym (ap (λ m. helping (getD rows m []) place kinds) (s .rows-at i h .1) ∙ w)) (T.narrow (bound 64) j t) (s .cols-at j b .0) (λ e. omega arith) (narrow-is j b))
+    chosen-column : (n i : ℕ) → i < length (t .rows) → Violated sort (t .rows) i → ((m : ℕ) → Violated sort (t .rows) m → rowVar t i ≤ rowVar t m)
+        → (o : Option (ℕ × ℕ)) → lowest 0 (helpfulCols sort (constantOf (getD (t .rows) i noRow)) (t .cols) (tail (getD (t .rows) i noRow .nums))) ≡ o → Chosen n (column i o)
+    chosen-column n i h x f none e =
+        let v = rowVar t i in
+        let es = tail (getD (t .rows) i noRow .nums) in
+        let w = none-helping i h x (λ j b y. lowest-none 0 (helpfulCols sort (constantOf (getD (t .rows) i noRow)) (t .cols) es) e j (colVar t j)
+        (listed-col sort (constantOf (getD (t .rows) i noRow)) (t .cols) es j b (subst (λ a. T (helps (sort (colVar t j)) (constantOf (getD (t .rows) i noRow)) a)) (sym (tail-entry (getD (t .rows) i noRow .nums) j)) y))) in
+        stuck (sym (choose-droppedAt bnd rows place kinds n v (sym (violated-is i h x f)) (s .rows-at i h .0) (length place) (sym (ap (λ m. helping (getD rows m []) place kinds) (s .rows-at i h .1) ∙ w)) (le-refl (length place))))
+    chosen-column n i h x f (some g) e =
+        let r : Row = getD (t .rows) i noRow in
+        let es : List ℤ = tail (r .nums) in
+        let l = lowest-some 0 (helpfulCols sort (constantOf r) (t .cols) es) g e in
+        let c = found-col sort (constantOf r) (t .cols) es (l .m) (g .0) (l .found) in
+        let p : g .1 ≡ l .m = l .place ∙ zero-add (l .m) in
+        let help : T (helps (sort (colVar t (l .m))) (constantOf r) (T.entry r (l .m))) = subst (λ (z : ℤ). T (helps (sort (colVar t (l .m))) (constantOf r) z)) (tail-entry (r .nums) (l .m)) (c .1) in
+        let w : helping (getD rows i []) place kinds ≡ colVar t (l .m) = helping-is i h x (l .m) (c .0) help
+        (λ m b y. subst (λ (n : ℕ). n ≤ colVar t m) (sym (c .2))
+        (lowest-least 0 (helpfulCols sort (constantOf r) (t .cols) es) g e m (colVar t m)
+        (listed-col sort (constantOf r) (t .cols) es m b (subst (λ (z : ℤ). T (helps (sort (colVar t m)) (constantOf r) z)) (sym (tail-entry (r .nums) m)) y)))) in
+        subst (λ j. Chosen n (pivot i j)) (sym p) (on n (l .m) (c .0) (helps-nonzero (sort (colVar t (l .m))) (constantOf r) (T.entry r (l .m)) help) w)
+      where
+        on : (n j : ℕ) → j < length (t .cols) → (T.entry (getD (t .rows) i noRow) j ≡ pos 0 → ⊥) → helping (getD rows i []) place kinds ≡ colVar t j → Chosen n (pivot i j)
+        on zero j b y w =
+            spent i j refl
+            (sym (choose-longAt bnd rows place kinds 0 (rowVar t i) (sym (violated-is i h x f)) (s .rows-at i h .0) (colVar t j) (sym (ap (λ m. helping (getD rows m []) place kinds) (s .rows-at i h .1) ∙ w)) (s .cols-at j b .0) refl))
+        on (suc n) j b y w =
+            turns i j (record { row = h; col = b; entry = y }) (λ e. omega arith)
+            (choose-lastAt bnd rows place kinds (suc n) (rowVar t i) (sym (violated-is i h x f)) (s .rows-at i h .0) (colVar t j) (sym (ap (λ m. helping (getD rows m []) place kinds) (s .rows-at i h .1) ∙ w)) (T.narrow bnd j t) (s .cols-at j b .0) (λ e. omega arith) (narrow-is j b))
 
-  chosen-row : (n : ℕ) (o : Option (ℕ × ℕ)) → lowest 0 (violatedRows sort (t .rows)) ≡ o → Chosen n (row sort t o)
-  chosen-row n none e = calm (sym (choose-point rows place kinds n (length place) (sym (none-violated e)) (le-refl (length place))))
-  chosen-row n (some g) e =
-      let l = lowest-some 0 (violatedRows sort (t .rows)) g e in
-      let c = found-row sort (t .rows) (l .m) (g .0) (l .found) in
-      let p : g .1 ≡ l .m = l .place ∙ zero-add (l .m) in
-      chosen-column n (g .1) (subst (λ (k : ℕ). k < length (t .rows)) (sym p) (c .0))
-      (subst (λ (k : ℕ). Violated sort (t .rows) k) (sym p) (c .1))
-      (λ k u. subst (λ (n : ℕ). n ≤ rowVar t k) (sym (ap (rowVar t) p ∙ c .2)) (lowest-least 0 (violatedRows sort (t .rows)) g e k (rowVar t k) (listed-row sort (t .rows) k u)))
-      (lowest 0 (helpfulCols sort (constantOf (getD (t .rows) (g .1) noRow)) (t .cols) (tail (getD (t .rows) (g .1) noRow .nums)))) refl
+    chosen-row : (n : ℕ) (o : Option (ℕ × ℕ)) → lowest 0 (violatedRows sort (t .rows)) ≡ o → Chosen n (row sort t o)
+    chosen-row n none e = calm (sym (choose-pointAt bnd rows place kinds n (length place) (sym (none-violated e)) (le-refl (length place))))
+    chosen-row n (some g) e =
+        let l = lowest-some 0 (violatedRows sort (t .rows)) g e in
+        let c = found-row sort (t .rows) (l .m) (g .0) (l .found) in
+        let p : g .1 ≡ l .m = l .place ∙ zero-add (l .m) in
+        chosen-column n (g .1) (subst (λ (k : ℕ). k < length (t .rows)) (sym p) (c .0))
+        (subst (λ (k : ℕ). Violated sort (t .rows) k) (sym p) (c .1))
+        (λ k u. subst (λ (n : ℕ). n ≤ rowVar t k) (sym (ap (rowVar t) p ∙ c .2)) (lowest-least 0 (violatedRows sort (t .rows)) g e k (rowVar t k) (listed-row sort (t .rows) k u)))
+        (lowest 0 (helpfulCols sort (constantOf (getD (t .rows) (g .1) noRow)) (t .cols) (tail (getD (t .rows) (g .1) noRow .nums)))) refl
 
-  pub chosen : (n : ℕ) → Chosen n (look sort t)
-  unfolding look
-  chosen n = chosen-row n (lowest 0 (violatedRows sort (t .rows))) refl
+    pub chosen : (n : ℕ) → Chosen n (look sort t)
+    unfolding look
+    chosen n = chosen-row n (lowest 0 (violatedRows sort (t .rows))) refl

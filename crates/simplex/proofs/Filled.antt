@@ -20,11 +20,9 @@ use Rattle.model.specs.Values.{divisionOf, constraintOf, basicSetOf}
 use Rattle.model.specs.declared.Constraint.{Constraint}
 use Rattle.model.specs.declared.BasicSet.{BasicSet}
 use Rattle.feasibility.specs.Tableau as T
-use Rattle.feasibility.specs.Tableau.{Tableau, firstRows, start, begin, sorts, noRow, testAt, pivotsAt}
-use Rattle.simplex.specs.declared.Ended.{Ended}
-use Rattle.simplex.specs.Answers.{verdictOf, Tests}
+use Rattle.feasibility.specs.Tableau.{Tableau, firstRows, start, begin, sorts, noRow}
 use Rattle.tableau.specs.Rows.{den, Line}
-use Rattle.simplex.specs.Table.{columnOf, standing, numberAt, layout, startRow, placeAt, kindNumber, Fine, Valid, Bounded, Ruled, Ran}
+use Rattle.simplex.specs.Table.{columnOf, standing, numberAt, layout, startRow, placeAt, kindNumber, Fine, Valid, Bounded, Ruled}
 use Rattle.simplex.specs.Table as Table
 use Rattle.feasibility.proofs.Exchange.{Shape, Shaped, shape-at}
 use Rattle.feasibility.proofs.Start.{length-from, start-shaped}
@@ -33,7 +31,6 @@ use Rattle.feasibility.proofs.Verdicts.{rowVar, colVar}
 use Rattle.simplex.proofs.Columns.{lay-at, lay-length, column-in, column-low, column-mid, standing-high}
 use Rattle.simplex.proofs.Fills.{past-end, map-append, map-get}
 use Rattle.simplex.proofs.Shows.{Named, in-row, in-col, Shows, map-at}
-use Rattle.simplex.proofs.Bridge.{run-shows}
 
 -- ---- a table that shows a tableau is fine
 
@@ -318,7 +315,7 @@ module _ (b : BasicSet) (rows₂ : List (List ℤ)) (place′ kinds₂ : List �
   pub kinds-long : length (take n kinds₂) ≡ n
   kinds-long = let w = wide in let h = f .kinds-room in length-take-le n kinds₂ (subst (λ i. n ≤ i) (sym (ruled .names ∙ named .names)) (omega arith))
 
-  shows : Shows k (take m rows₂) (take n place′) (begin B)
+  pub shows : Shows k (take m rows₂) (take n place′) (begin B)
   shows =
       subst (λ j. Shows k (take m rows₂) (take n place′) (start j (conditions B))) (sym ds-long)
       (start-shows k (conditions B) few m conditions-long most (take n place′) place-long (λ v h. getD-take n place′ v 0 h ∙ named .places v h) (take m rows₂) rows-are)
@@ -364,18 +361,10 @@ module _ (b : BasicSet) (rows₂ : List (List ℤ)) (place′ kinds₂ : List �
           map-map [] = refl
           map-map (x ∷ l) = ap (λ u. constraintKind x ∷ u) (map-map l)
 
-  sorted : (v : ℕ) → v < length (take n place′) → getD (take n kinds₂) v 0 ≡ kindNumber (sorts B v)
+  pub sorted : (v : ℕ) → v < length (take n place′) → getD (take n kinds₂) v 0 ≡ kindNumber (sorts B v)
   sorted v h =
       let l : v < n = subst (λ i. v < i) place-long h in
       getD-take n kinds₂ v 0 l ∙ kind-of v l ∙ ap (λ j. kindNumber (T.sortOf (8 + j) (conditions B) v)) (sym ds-long)
 
   pub filled-fine : Fine (k + 10) (take m rows₂) (take n place′) (take n kinds₂)
   filled-fine = shows-fine k (take m rows₂) (take n place′) (take n kinds₂) (begin B) shows (kinds-long ∙ sym place-long) (subst (λ i. i ≤ 80) (sym place-long) wide)
-
-  pub filled-tests : (x : Ended) (rows′ : List (List ℤ)) (place″ : List ℕ) → Ran (take m rows₂) (take n place′) (take n kinds₂) x rows′ place″ → Tests B x
-  unfolding testAt pivotsAt
-  filled-tests x rows′ place″ r =
-      let a = run-shows k (sorts B) (take n kinds₂) 200 (begin B) (take m rows₂) (take n place′) shows sorted in
-      let l = a .left-is in
-      let p = r .pivots-are in
-      record { verdict-is = ap verdictOf (r .verdict-is) ∙ a .verdict-is; pivots-are = omega arith }

@@ -7,4 +7,3 @@ pub mod Choosing
 pub mod Bridge
 pub mod Fills
 pub mod Filled
-pub mod Asked

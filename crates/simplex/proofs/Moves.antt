@@ -9,43 +9,59 @@ use borrow.Author.Tests.{le-leb, lt-leb, leb-false, eq-eqb, ne-eqb}
 use lib.Dec.{leb, eqb, T}
 use lib.ListN.{length, getD, set, length-set}
 use lib.IntN.{ℤ}
-use Rattle.tableau.specs.Rows.{violated, helping, narrowRows}
+use Rattle.integers.specs.Size.{bound}
+use Rattle.tableau.specs.Rows.{violated, helping, narrowRowsAt}
 use Rattle.tableau.proofs.Searches.{violated-found, column-spot, narrow-at, narrow-small, inside, Whole, exchange-whole, exchange-length}
 use Rattle.simplex.specs.declared.Verdict.{Verdict}
 use Rattle.simplex.specs.declared.Verdict.the-variants.{Point, Dropped, Long, Wide}
 use Rattle.simplex.specs.declared.Move.the-variants.{Stop, Pivot}
-use Rattle.simplex.specs.Table.{moveOf, moveFor, moveBy, follow, runTable, pivotRows, pivotPlace, Fine, Crossing}
+use Rattle.simplex.specs.Table.{moveAt, moveForAt, moveByAt, moveOf, follow, runTableAt, runTable, pivotRows, pivotPlace, Fine, CrossingAt}
 
 -- ---- the five ways of a step, by what the searches found
+module _ (b : ℕ) (t : List (List ℤ)) (place kinds : List ℕ) (left v : ℕ) (e : v ≡ violated t place kinds) where
+  pub choose-pointAt : length place ≤ v → Stop Point ≡ moveAt b t place kinds left
+  unfolding moveAt
+  choose-pointAt h =
+      sym (ap (λ x. cond x (Stop Point) (moveByAt b t place left v (helping (getD t (getD place v 0) []) place kinds))) (le-leb (length place) v h))
+      ∙ ap (moveForAt b t place kinds left) e
+
+  choose-on : v < length place → moveByAt b t place left v (helping (getD t (getD place v 0) []) place kinds) ≡ moveAt b t place kinds left
+  unfolding moveAt
+  choose-on h =
+      sym (ap (λ x. cond x (Stop Point) (moveByAt b t place left v (helping (getD t (getD place v 0) []) place kinds))) (lt-leb (length place) v h))
+      ∙ ap (moveForAt b t place kinds left) e
+
+  module _ (h : v < length place) (w : ℕ) (f : w ≡ helping (getD t (getD place v 0) []) place kinds) where
+    pub choose-droppedAt : length place ≤ w → Stop Dropped ≡ moveAt b t place kinds left
+    choose-droppedAt k =
+        sym (ap (λ x. cond x (Stop Dropped) (cond (eqb left 0) (Stop Long) (cond (narrowRowsAt b (getD place w 0 - 64) t) (Pivot v w) (Stop Wide)))) (le-leb (length place) w k))
+        ∙ ap (moveByAt b t place left v) f ∙ choose-on h
+
+    pub choose-longAt : w < length place → left ≡ 0 → Stop Long ≡ moveAt b t place kinds left
+    choose-longAt k z =
+        sym (ap₂ (λ x c. cond x (Stop Dropped) (cond c (Stop Long) (cond (narrowRowsAt b (getD place w 0 - 64) t) (Pivot v w) (Stop Wide)))) (lt-leb (length place) w k) (eq-eqb left 0 z))
+        ∙ ap (moveByAt b t place left v) f ∙ choose-on h
+
+    pub choose-lastAt : (y : Bool) → w < length place → (left ≡ 0 → ⊥) → narrowRowsAt b (getD place w 0 - 64) t ≡ y → cond y (Pivot v w) (Stop Wide) ≡ moveAt b t place kinds left
+    choose-lastAt y k z n =
+        ap (λ x. cond x (Pivot v w) (Stop Wide)) (sym n)
+        ∙ sym (ap₂ (λ x c. cond x (Stop Dropped) (cond c (Stop Long) (cond (narrowRowsAt b (getD place w 0 - 64) t) (Pivot v w) (Stop Wide)))) (lt-leb (length place) w k) (ne-eqb left 0 z))
+        ∙ ap (moveByAt b t place left v) f ∙ choose-on h
+
+-- at 64 bits
 module _ (t : List (List ℤ)) (place kinds : List ℕ) (left v : ℕ) (e : v ≡ violated t place kinds) where
   pub choose-point : length place ≤ v → Stop Point ≡ moveOf t place kinds left
-  unfolding moveOf
-  choose-point h =
-      sym (ap (λ b. cond b (Stop Point) (moveBy t place left v (helping (getD t (getD place v 0) []) place kinds))) (le-leb (length place) v h))
-      ∙ ap (moveFor t place kinds left) e
-
-  choose-on : v < length place → moveBy t place left v (helping (getD t (getD place v 0) []) place kinds) ≡ moveOf t place kinds left
-  unfolding moveOf
-  choose-on h =
-      sym (ap (λ b. cond b (Stop Point) (moveBy t place left v (helping (getD t (getD place v 0) []) place kinds))) (lt-leb (length place) v h))
-      ∙ ap (moveFor t place kinds left) e
+  choose-point h = choose-pointAt (bound 64) t place kinds left v e h
 
   module _ (h : v < length place) (w : ℕ) (f : w ≡ helping (getD t (getD place v 0) []) place kinds) where
     pub choose-dropped : length place ≤ w → Stop Dropped ≡ moveOf t place kinds left
-    choose-dropped k =
-        sym (ap (λ b. cond b (Stop Dropped) (cond (eqb left 0) (Stop Long) (cond (narrowRows (getD place w 0 - 64) t) (Pivot v w) (Stop Wide)))) (le-leb (length place) w k))
-        ∙ ap (moveBy t place left v) f ∙ choose-on h
+    choose-dropped k = choose-droppedAt (bound 64) t place kinds left v e h w f k
 
     pub choose-long : w < length place → left ≡ 0 → Stop Long ≡ moveOf t place kinds left
-    choose-long k z =
-        sym (ap₂ (λ b c. cond b (Stop Dropped) (cond c (Stop Long) (cond (narrowRows (getD place w 0 - 64) t) (Pivot v w) (Stop Wide)))) (lt-leb (length place) w k) (eq-eqb left 0 z))
-        ∙ ap (moveBy t place left v) f ∙ choose-on h
+    choose-long k z = choose-longAt (bound 64) t place kinds left v e h w f k z
 
-    pub choose-last : (b : Bool) → w < length place → (left ≡ 0 → ⊥) → narrowRows (getD place w 0 - 64) t ≡ b → cond b (Pivot v w) (Stop Wide) ≡ moveOf t place kinds left
-    choose-last b k z n =
-        ap (λ b. cond b (Pivot v w) (Stop Wide)) (sym n)
-        ∙ sym (ap₂ (λ b c. cond b (Stop Dropped) (cond c (Stop Long) (cond (narrowRows (getD place w 0 - 64) t) (Pivot v w) (Stop Wide)))) (lt-leb (length place) w k) (ne-eqb left 0 z))
-        ∙ ap (moveBy t place left v) f ∙ choose-on h
+    pub choose-last : (b : Bool) → w < length place → (left ≡ 0 → ⊥) → narrowRowsAt (bound 64) (getD place w 0 - 64) t ≡ b → cond b (Pivot v w) (Stop Wide) ≡ moveOf t place kinds left
+    choose-last b k z n = choose-lastAt (bound 64) t place kinds left v e h w f b k z n
 
 -- ---- the tableau of a test, where its variables are
 pub row-spot : (m : ℕ) (t : List (List ℤ)) (place kinds : List ℕ) (v : ℕ) → Fine m t place kinds → v ≡ violated t place kinds → v < length place → getD place v 0 < length t
@@ -63,18 +79,18 @@ pivot-inv false false true d v w v′ w′ e = absurd (stop≢pivot Long v′ w�
 pivot-inv false false false false v w v′ w′ e = absurd (stop≢pivot Wide v′ w′ e)
 pivot-inv false false false true v w v′ w′ e = (refl, refl, refl, refl, cc, cc)
 
-pub crossing : (m : ℕ) (t : List (List ℤ)) (place kinds : List ℕ) (left v w : ℕ) → Fine m t place kinds → moveOf t place kinds left ≡ Pivot v w → Crossing m t place v w
-unfolding moveOf
-crossing m t place kinds left v w f e =
+pub crossingAt : (b m : ℕ) (t : List (List ℤ)) (place kinds : List ℕ) (left v w : ℕ) → Fine m t place kinds → moveAt b t place kinds left ≡ Pivot v w → CrossingAt b m t place v w
+unfolding moveAt
+crossingAt b m t place kinds left v w f e =
     let v′ = violated t place kinds in
     let w′ = helping (getD t (getD place v′ 0) []) place kinds in
-    let i = pivot-inv (leb (length place) v′) (leb (length place) w′) (eqb left 0) (narrowRows (getD place w′ 0 - 64) t) v′ w′ v w e in
+    let i = pivot-inv (leb (length place) v′) (leb (length place) w′) (eqb left 0) (narrowRowsAt b (getD place w′ 0 - 64) t) v′ w′ v w e in
     let hv = subst (λ n. n < length place) (i .4) (leb-false (length place) v′ (i .0)) in
     let hw = subst (λ n. n < length place) (i .5) (leb-false (length place) w′ (i .1)) in
     let ev : v ≡ v′ = sym (i .4) in
     let ew : w ≡ helping (getD t (getD place v 0) []) place kinds = sym (i .5) ∙ ap (λ n. helping (getD t (getD place n 0) []) place kinds) (i .4) in
     let c = column-spot (getD t (getD place v 0) []) place kinds w ew hw in
-    let n : narrowRows (getD place w 0 - 64) t ≡ true = ap (λ n. narrowRows (getD place n 0 - 64) t) (sym (i .5)) ∙ i .3 in
+    let n : narrowRowsAt b (getD place w 0 - 64) t ≡ true = ap (λ n. narrowRowsAt b (getD place n 0 - 64) t) (sym (i .5)) ∙ i .3 in
     let row = row-spot m t place kinds v f ev hv in
     record {
       named = hv;
@@ -85,33 +101,33 @@ crossing m t place kinds left v w f e =
         col = inside m (getD t (getD place v 0) []) (getD place w 0 - 64) (f .line (getD place v 0) row) (c .1);
         count = f .count;
         cross = c .1;
-        rows = λ k l. record { line = f .line k l; dens = λ z. f .dens k l; small = narrow-small (getD place w 0 - 64) (getD t k []) (narrow-at (getD place w 0 - 64) t n k l) };
+        rows = λ k l. record { line = f .line k l; dens = λ z. f .dens k l; small = narrow-small (getD place w 0 - 64) (getD t k []) (narrow-at b (getD place w 0 - 64) t n k l) };
       };
     }
 
 -- ---- the run
-pub run-stop : (kinds : List ℕ) (n : ℕ) (t : List (List ℤ)) (place : List ℕ) (x : Verdict) → moveOf t place kinds n ≡ Stop x → runTable kinds n t place ≡ record { verdict = x; left = n; rows = t; place = place }
-unfolding runTable
-run-stop kinds zero t place x e = ap (λ m. follow m 0 (λ rows place. record { verdict = Long; left = 0; rows = rows; place = place }) t place) e
-run-stop kinds (suc n) t place x e = ap (λ m. follow m (suc n) (runTable kinds n) t place) e
+pub run-stopAt : (b : ℕ) (kinds : List ℕ) (n : ℕ) (t : List (List ℤ)) (place : List ℕ) (x : Verdict) → moveAt b t place kinds n ≡ Stop x → runTableAt b kinds n t place ≡ record { verdict = x; left = n; rows = t; place = place }
+unfolding runTableAt
+run-stopAt b kinds zero t place x e = ap (λ m. follow m 0 (λ rows place. record { verdict = Long; left = 0; rows = rows; place = place }) t place) e
+run-stopAt b kinds (suc n) t place x e = ap (λ m. follow m (suc n) (runTableAt b kinds n) t place) e
 
-pub pivot-left : (kinds : List ℕ) (n : ℕ) (t : List (List ℤ)) (place : List ℕ) (v w : ℕ) → moveOf t place kinds n ≡ Pivot v w → 0 < n
-unfolding moveOf
-pivot-left kinds zero t place v w e =
+pub pivot-leftAt : (b : ℕ) (kinds : List ℕ) (n : ℕ) (t : List (List ℤ)) (place : List ℕ) (v w : ℕ) → moveAt b t place kinds n ≡ Pivot v w → 0 < n
+unfolding moveAt
+pivot-leftAt b kinds zero t place v w e =
     let v′ = violated t place kinds in
     let w′ = helping (getD t (getD place v′ 0) []) place kinds in
-    let i = pivot-inv (leb (length place) v′) (leb (length place) w′) true (narrowRows (getD place w′ 0 - 64) t) v′ w′ v w e in
+    let i = pivot-inv (leb (length place) v′) (leb (length place) w′) true (narrowRowsAt b (getD place w′ 0 - 64) t) v′ w′ v w e in
     absurd (subst T (i .2) tt)
-pivot-left kinds (suc n) t place v w e = omega arith
+pivot-leftAt b kinds (suc n) t place v w e = omega arith
 
-pub run-more : (kinds : List ℕ) (n : ℕ) (t : List (List ℤ)) (place : List ℕ) (v w : ℕ) → moveOf t place kinds (suc n) ≡ Pivot v w → runTable kinds n (pivotRows t place v w) (pivotPlace place v w) ≡ runTable kinds (suc n) t place
-unfolding runTable
-run-more kinds n t place v w e = sym (ap (λ m. follow m (suc n) (runTable kinds n) t place) e)
+pub run-moreAt : (b : ℕ) (kinds : List ℕ) (n : ℕ) (t : List (List ℤ)) (place : List ℕ) (v w : ℕ) → moveAt b t place kinds (suc n) ≡ Pivot v w → runTableAt b kinds n (pivotRows t place v w) (pivotPlace place v w) ≡ runTableAt b kinds (suc n) t place
+unfolding runTableAt
+run-moreAt b kinds n t place v w e = sym (ap (λ m. follow m (suc n) (runTableAt b kinds n) t place) e)
 
-pub run-pivot : (kinds : List ℕ) (n : ℕ) (t : List (List ℤ)) (place : List ℕ) (v w : ℕ) → moveOf t place kinds n ≡ Pivot v w → runTable kinds (n - 1) (pivotRows t place v w) (pivotPlace place v w) ≡ runTable kinds n t place
-run-pivot kinds zero t place v w e = absurd (let h = pivot-left kinds 0 t place v w e in omega arith)
-run-pivot kinds (suc n) t place v w e =
-    ap (λ k. runTable kinds k (pivotRows t place v w) (pivotPlace place v w)) {x = suc n - 1} {y = n} (omega arith) ∙ run-more kinds n t place v w e
+pub run-pivotAt : (b : ℕ) (kinds : List ℕ) (n : ℕ) (t : List (List ℤ)) (place : List ℕ) (v w : ℕ) → moveAt b t place kinds n ≡ Pivot v w → runTableAt b kinds (n - 1) (pivotRows t place v w) (pivotPlace place v w) ≡ runTableAt b kinds n t place
+run-pivotAt b kinds zero t place v w e = absurd (let h = pivot-leftAt b kinds 0 t place v w e in omega arith)
+run-pivotAt b kinds (suc n) t place v w e =
+    ap (λ k. runTableAt b kinds k (pivotRows t place v w) (pivotPlace place v w)) {x = suc n - 1} {y = n} (omega arith) ∙ run-moreAt b kinds n t place v w e
 
 -- ---- a pivot keeps the tableau fine
 set-near : (P : ℕ → Type 0) (l : List ℕ) (i x : ℕ) → P x → ((v : ℕ) → v < length l → P (getD l v 0)) → (v : ℕ) → v < length (set l i x) → P (getD (set l i x) v 0)
@@ -133,15 +149,15 @@ place-all : (P : ℕ → Type 0) (place : List ℕ) (v w : ℕ) → v < length p
 unfolding pivotPlace
 place-all P place v w hv hw h = set-near P (set place v (getD place w 0)) w (getD place v 0) (h v hv) (set-near P place v (getD place w 0) (h w hw) h)
 
-whole-rows : (n : ℕ) (t : List (List ℤ)) (place : List ℕ) (v w : ℕ) → Crossing n t place v w → ((k : ℕ) → k < length t → Whole n (getD t k [])) → (k : ℕ) → k < length (pivotRows t place v w) → Whole n (getD (pivotRows t place v w) k [])
+whole-rows : {W : ℕ} → 2 ≤ W → (n : ℕ) (t : List (List ℤ)) (place : List ℕ) (v w : ℕ) → CrossingAt (bound W) n t place v w → ((k : ℕ) → k < length t → Whole n (getD t k [])) → (k : ℕ) → k < length (pivotRows t place v w) → Whole n (getD (pivotRows t place v w) k [])
 unfolding pivotRows
-whole-rows n t place v w c h = exchange-whole n t (getD place v 0) (getD place w 0 - 64) (c .ready) h
+whole-rows big n t place v w c h = exchange-whole big n t (getD place v 0) (getD place w 0 - 64) (c .ready) h
 
-pub pivot-fine : (m : ℕ) (t : List (List ℤ)) (place kinds : List ℕ) (v w : ℕ) → Fine m t place kinds → Crossing m t place v w → Fine m (pivotRows t place v w) (pivotPlace place v w) kinds
-pivot-fine m t place kinds v w f c =
+pub pivot-fineAt : {W : ℕ} → 2 ≤ W → (m : ℕ) (t : List (List ℤ)) (place kinds : List ℕ) (v w : ℕ) → Fine m t place kinds → CrossingAt (bound W) m t place v w → Fine m (pivotRows t place v w) (pivotPlace place v w) kinds
+pivot-fineAt big m t place kinds v w f c =
     let lr = rows-length t place v w in
     let lp = pivot-length place v w in
-    let whole = whole-rows m t place v w c (λ k l. record { line = f .line k l; over = f .dens k l }) in
+    let whole = whole-rows big m t place v w c (λ k l. record { line = f .line k l; over = f .dens k l }) in
     let b = f .count in
     let n = f .names in
     record {
@@ -153,3 +169,19 @@ pivot-fine m t place kinds v w f c =
       near = place-all (λ n. n < 80) place v w (c .named) (c .other) (f .near);
       spot = place-all (λ n. n < 64 → n < length (pivotRows t place v w)) place v w (c .named) (c .other) (λ u l k. subst (λ m. getD place u 0 < m) (sym lr) (f .spot u l k));
     }
+
+-- at 64 bits
+pub crossing : (m : ℕ) (t : List (List ℤ)) (place kinds : List ℕ) (left v w : ℕ) → Fine m t place kinds → moveOf t place kinds left ≡ Pivot v w → CrossingAt (bound 64) m t place v w
+crossing m t place kinds left v w f e = crossingAt (bound 64) m t place kinds left v w f e
+
+pub run-stop : (kinds : List ℕ) (n : ℕ) (t : List (List ℤ)) (place : List ℕ) (x : Verdict) → moveOf t place kinds n ≡ Stop x → runTable kinds n t place ≡ record { verdict = x; left = n; rows = t; place = place }
+run-stop kinds n t place x e = run-stopAt (bound 64) kinds n t place x e
+
+pub pivot-left : (kinds : List ℕ) (n : ℕ) (t : List (List ℤ)) (place : List ℕ) (v w : ℕ) → moveOf t place kinds n ≡ Pivot v w → 0 < n
+pivot-left kinds n t place v w e = pivot-leftAt (bound 64) kinds n t place v w e
+
+pub run-pivot : (kinds : List ℕ) (n : ℕ) (t : List (List ℤ)) (place : List ℕ) (v w : ℕ) → moveOf t place kinds n ≡ Pivot v w → runTable kinds (n - 1) (pivotRows t place v w) (pivotPlace place v w) ≡ runTable kinds n t place
+run-pivot kinds n t place v w e = run-pivotAt (bound 64) kinds n t place v w e
+
+pub pivot-fine : (m : ℕ) (t : List (List ℤ)) (place kinds : List ℕ) (v w : ℕ) → Fine m t place kinds → CrossingAt (bound 64) m t place v w → Fine m (pivotRows t place v w) (pivotPlace place v w) kinds
+pivot-fine m t place kinds v w f c = pivot-fineAt {W = 64} (omega arith) m t place kinds v w f c

@@ -22,8 +22,8 @@ use Rattle.model.specs.Sets.{isZero, floorDiv}
 use Rattle.model.specs.Lists.{all}
 use Rattle.model.proofs.Count.{from-T, to-T, and-left, and-right}
 use Rattle.feasibility.specs.Tableau as T
-use Rattle.feasibility.specs.Tableau.{Row, bound, reduced, positive, solved, replaced, commonDivisor, combine}
-use Rattle.tableau.specs.Rows.{den, entry, divisorFrom, reduceRow, divideRow, turnRow, turnBy, solveRow, replaceRow, rebuildRow, combineRows, minusRow, small, narrowRow}
+use Rattle.feasibility.specs.Tableau.{Row, reduced, positive, solved, replaced, commonDivisor, combine}
+use Rattle.tableau.specs.Rows.{den, entry, divisorFrom, reduceRow, divideRow, turnRow, turnBy, solveRow, replaceRow, rebuildRow, combineRows, minusRow, smallAt, narrowRowAt}
 use Rattle.simplex.specs.Table.{columnOf, standing, numberAt, layout}
 use Rattle.feasibility.proofs.Rows.{length-combine}
 use Rattle.feasibility.proofs.Reduce.{evenly, exactly, common-divides, reduced-like}
@@ -431,44 +431,45 @@ module _ (k : ℕ) (kin : k ≤ 8) where
 
   -- ---- the number test of a row
 
-  abbrev within-bound : ℤ → Bool
-  within-bound z = leb (natAbs z) (bound 64)
+  module _ (m : ℕ) where
+    abbrev within-bound : ℤ → Bool
+    within-bound z = leb (natAbs z) m
 
-  small-shows : (r : Row) → Shape (8 + k) r → small (layout k r) ≡ all within-bound (r .den ∷ r .nums)
-  unfolding small
-  small-shows r sh =
-      same (small (layout k r)) (all within-bound (r .den ∷ r .nums))
-      (λ e. all-of (r .den ∷ r .nums)
-      (stands (λ z. within-bound z ≡ true) (r .den) (r .nums) (sh .long)
-      (λ i h. le-leb _ _ (subst (λ z. natAbs z ≤ bound 64) (lay-at k kin (r .den) (r .nums) i h) (small-within (layout k r) e i .size)))))
-      (λ e. small-of (layout k r)
-      (λ i. by-length i (number-of (λ z. within-bound z ≡ true) (r .den) (r .nums) (all-at (r .den ∷ r .nums) e))))
-    where
-      same : (a b : Bool) → (a ≡ true → b ≡ true) → (b ≡ true → a ≡ true) → a ≡ b
-      same true b f g = sym (f refl)
-      same false true f g = g refl
-      same false false f g = refl
+    small-shows : (r : Row) → Shape (8 + k) r → smallAt m (layout k r) ≡ all within-bound (r .den ∷ r .nums)
+    unfolding smallAt
+    small-shows r sh =
+        same (smallAt m (layout k r)) (all within-bound (r .den ∷ r .nums))
+        (λ e. all-of (r .den ∷ r .nums)
+        (stands (λ z. within-bound z ≡ true) (r .den) (r .nums) (sh .long)
+        (λ i h. le-leb _ _ (subst (λ z. natAbs z ≤ m) (lay-at k kin (r .den) (r .nums) i h) (small-within (layout k r) e i .size)))))
+        (λ e. small-of (layout k r)
+        (λ i. by-length i (number-of (λ z. within-bound z ≡ true) (r .den) (r .nums) (all-at (r .den ∷ r .nums) e))))
+      where
+        same : (a b : Bool) → (a ≡ true → b ≡ true) → (b ≡ true → a ≡ true) → a ≡ b
+        same true b f g = sym (f refl)
+        same false true f g = g refl
+        same false false f g = refl
 
-      all-of : (xs : List ℤ) → ((i : ℕ) → i < length xs → within-bound (getD xs i (pos 0)) ≡ true) → all within-bound xs ≡ true
-      all-of [] h = refl
-      all-of (x ∷ xs) h = ap₂ _&&_ (h 0 (suc-le-suc zero-le)) (all-of xs (λ i l. h (suc i) (suc-le-suc l)))
+        all-of : (xs : List ℤ) → ((i : ℕ) → i < length xs → within-bound (getD xs i (pos 0)) ≡ true) → all within-bound xs ≡ true
+        all-of [] h = refl
+        all-of (x ∷ xs) h = ap₂ _&&_ (h 0 (suc-le-suc zero-le)) (all-of xs (λ i l. h (suc i) (suc-le-suc l)))
 
-      all-at : (xs : List ℤ) → all within-bound xs ≡ true → (i : ℕ) → within-bound (getD xs i (pos 0)) ≡ true
-      all-at [] e i = refl
-      all-at (x ∷ xs) e zero = from-T (within-bound x) (and-left (within-bound x) (all within-bound xs) (to-T _ e))
-      all-at (x ∷ xs) e (suc i) = all-at xs (from-T (all within-bound xs) (and-right (within-bound x) (all within-bound xs) (to-T _ e))) i
+        all-at : (xs : List ℤ) → all within-bound xs ≡ true → (i : ℕ) → within-bound (getD xs i (pos 0)) ≡ true
+        all-at [] e i = le-leb 0 m zero-le
+        all-at (x ∷ xs) e zero = from-T (within-bound x) (and-left (within-bound x) (all within-bound xs) (to-T _ e))
+        all-at (x ∷ xs) e (suc i) = all-at xs (from-T (all within-bound xs) (and-right (within-bound x) (all within-bound xs) (to-T _ e))) i
 
-      small-of : (l : List ℤ) → ((i : ℕ) → i < length l → within-bound (getD l i (pos 0)) ≡ true) → small l ≡ true
-      small-of [] h = refl
-      small-of (x ∷ l) h = ap₂ (λ a b. cond a b false) (h 0 (suc-le-suc zero-le)) (small-of l (λ i b. h (suc i) (suc-le-suc b)))
+        small-of : (l : List ℤ) → ((i : ℕ) → i < length l → within-bound (getD l i (pos 0)) ≡ true) → smallAt m l ≡ true
+        small-of [] h = refl
+        small-of (x ∷ l) h = ap₂ (λ a b. cond a b false) (h 0 (suc-le-suc zero-le)) (small-of l (λ i b. h (suc i) (suc-le-suc b)))
 
-      by-length : (i : ℕ) → ((i : ℕ) → within-bound (numberAt k (r .den) (r .nums) i) ≡ true) → i < length (layout k r) → within-bound (getD (layout k r) i (pos 0)) ≡ true
-      by-length i h l = ap within-bound (lay-at k kin (r .den) (r .nums) i (subst (λ n. i < n) (lay-length k kin (r .den) (r .nums)) l)) ∙ h i
+        by-length : (i : ℕ) → ((i : ℕ) → within-bound (numberAt k (r .den) (r .nums) i) ≡ true) → i < length (layout k r) → within-bound (getD (layout k r) i (pos 0)) ≡ true
+        by-length i h l = ap within-bound (lay-at k kin (r .den) (r .nums) i (subst (λ n. i < n) (lay-length k kin (r .den) (r .nums)) l)) ∙ h i
 
-  pub narrow-shows : (r : Row) (j : ℕ) → j < 8 + k → Shape (8 + k) r → narrowRow (columnOf k j) (layout k r) ≡ (isZero (T.entry r j) || all within-bound (r .den ∷ r .nums))
-  narrow-shows r j jin sh =
-      ap₂ (λ z b. cond (isZero z) true b) (lay-entry k kin (r .den) (r .nums) j jin) (small-shows r sh) ∙ either (isZero (T.entry r j)) (all within-bound (r .den ∷ r .nums))
-    where
-      either : (a b : Bool) → cond a true b ≡ (a || b)
-      either true b = refl
-      either false b = refl
+    pub narrow-shows : (r : Row) (j : ℕ) → j < 8 + k → Shape (8 + k) r → narrowRowAt m (columnOf k j) (layout k r) ≡ (isZero (T.entry r j) || all within-bound (r .den ∷ r .nums))
+    narrow-shows r j jin sh =
+        ap₂ (λ z b. cond (isZero z) true b) (lay-entry k kin (r .den) (r .nums) j jin) (small-shows r sh) ∙ either (isZero (T.entry r j)) (all within-bound (r .den ∷ r .nums))
+      where
+        either : (a b : Bool) → cond a true b ≡ (a || b)
+        either true b = refl
+        either false b = refl

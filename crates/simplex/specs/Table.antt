@@ -9,7 +9,8 @@ use lib.Dec.{leb, ltb, eqb}
 use lib.ListN.{getD, set, length, take}
 use lib.IntN.{ℤ, pos, _*ℤ_}
 use lib.Signed.{_<ℤ_}
-use Rattle.tableau.specs.Rows.{den, exchangeRows, violated, helping, narrowRows, Line, Ready}
+use Rattle.tableau.specs.Rows.{den, exchangeRows, violated, helping, narrowRowsAt, Line, ReadyAt}
+use Rattle.integers.specs.Size.{bound}
 use Rattle.model.specs.Sets as S
 use Rattle.model.specs.Sets.{Kind, equality, inequality, bounds}
 use Rattle.model.specs.Values.{divisionOf, constraintOf}
@@ -25,19 +26,22 @@ use Rattle.simplex.specs.declared.Move.the-variants.{Stop, Pivot}
 -- ---- the steps
 
 -- steps 1 to 4, with so many pivots left: v is the violated row's variable, w the helping column's
-abbrev pub moveBy : List (List ℤ) → List ℕ → ℕ → ℕ → ℕ → Move
-moveBy rows place left v w =
+abbrev pub moveByAt : ℕ → List (List ℤ) → List ℕ → ℕ → ℕ → ℕ → Move
+moveByAt m rows place left v w =
     cond (leb (length place) w) (Stop Dropped)
     (cond (eqb left 0) (Stop Long)
-    (cond (narrowRows (getD place w 0 - 64) rows) (Pivot v w) (Stop Wide)))
+    (cond (narrowRowsAt m (getD place w 0 - 64) rows) (Pivot v w) (Stop Wide)))
 
-abbrev pub moveFor : List (List ℤ) → List ℕ → List ℕ → ℕ → ℕ → Move
-moveFor rows place kinds left v =
+abbrev pub moveForAt : ℕ → List (List ℤ) → List ℕ → List ℕ → ℕ → ℕ → Move
+moveForAt m rows place kinds left v =
     cond (leb (length place) v) (Stop Point)
-    (moveBy rows place left v (helping (getD rows (getD place v 0) []) place kinds))
+    (moveByAt m rows place left v (helping (getD rows (getD place v 0) []) place kinds))
 
-unfoldable pub moveOf : List (List ℤ) → List ℕ → List ℕ → ℕ → Move
-moveOf rows place kinds left = moveFor rows place kinds left (violated rows place kinds)
+unfoldable pub moveAt : ℕ → List (List ℤ) → List ℕ → List ℕ → ℕ → Move
+moveAt m rows place kinds left = moveForAt m rows place kinds left (violated rows place kinds)
+
+abbrev pub moveOf : List (List ℤ) → List ℕ → List ℕ → ℕ → Move
+moveOf rows place kinds left = moveAt (bound 64) rows place kinds left
 
 -- step 5: the row and the column of two variables change places
 unfoldable pub pivotRows : List (List ℤ) → List ℕ → ℕ → ℕ → List (List ℤ)
@@ -58,9 +62,12 @@ follow (Stop x) n go rows place = record { verdict = x; left = n; rows = rows; p
 follow (Pivot v w) n go rows place = go (pivotRows rows place v w) (pivotPlace place v w)
 
 -- with so many pivots left
-unfoldable pub runTable : List ℕ → ℕ → List (List ℤ) → List ℕ → Ending
-runTable kinds zero rows place = follow (moveOf rows place kinds 0) 0 (λ rows place. record { verdict = Long; left = 0; rows = rows; place = place }) rows place
-runTable kinds (suc n) rows place = follow (moveOf rows place kinds (suc n)) (suc n) (runTable kinds n) rows place
+unfoldable pub runTableAt : ℕ → List ℕ → ℕ → List (List ℤ) → List ℕ → Ending
+runTableAt m kinds zero rows place = follow (moveAt m rows place kinds 0) 0 (λ rows place. record { verdict = Long; left = 0; rows = rows; place = place }) rows place
+runTableAt m kinds (suc n) rows place = follow (moveAt m rows place kinds (suc n)) (suc n) (runTableAt m kinds n) rows place
+
+abbrev pub runTable : List ℕ → ℕ → List (List ℤ) → List ℕ → Ending
+runTable kinds n rows place = runTableAt (bound 64) kinds n rows place
 
 -- ---- how a table shows a tableau of 8 + k columns: the k divisions' columns come first, so that those of absent axes are the last
 
@@ -113,11 +120,14 @@ pub record Fine (n : ℕ) (rows : List (List ℤ)) (place kinds : List ℕ) : Ty
   pub spot : (v : ℕ) → v < length place → getD place v 0 < 64 → getD place v 0 < length rows
 
 -- what an exchange of the row of v and the column of w asks
-pub record Crossing (n : ℕ) (rows : List (List ℤ)) (place : List ℕ) (v w : ℕ) : Type 0 where
+pub record CrossingAt (m n : ℕ) (rows : List (List ℤ)) (place : List ℕ) (v w : ℕ) : Type 0 where
   pub named : v < length place
   pub other : w < length place
   pub column : 64 ≤ getD place w 0
-  pub ready : Ready n rows (getD place v 0) (getD place w 0 - 64)
+  pub ready : ReadyAt m n rows (getD place v 0) (getD place w 0 - 64)
+
+abbrev pub Crossing : ℕ → List (List ℤ) → List ℕ → ℕ → ℕ → Type 0
+Crossing n rows place v w = CrossingAt (bound 64) n rows place v w
 
 -- the run from (rows, place) ends in x, with these rows and places
 pub record Ran (rows : List (List ℤ)) (place kinds : List ℕ) (x : Ended) (rows′ : List (List ℤ)) (place′ : List ℕ) : Type 0 where

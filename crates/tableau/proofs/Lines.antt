@@ -2,7 +2,7 @@
 use mathlib.Core.Path.{_≡_, refl, sym, ap, ap₂, _∙_, subst}
 use mathlib.Core.List.{List, [], _∷_, map}
 use mathlib.Core.Bool.{Bool, true, false, cond}
-use Prim.Native.Nat.{ℕ, zero, suc, _+_, _*_, _/_, _≤_, _<_, zero-le, suc-le-suc}
+use Prim.Native.Nat.{ℕ, zero, suc, _+_, _-_, _*_, _/_, _^_, _≤_, _<_, zero-le, suc-le-suc}
 use native.Mathlib.Nat.{le-of-suc-le-suc, le-refl, le-trans, not-suc-le-zero, mod-one, div-le-self, le-div-iff-mul-le, le-of-dvd, pos-of-dvd-of-pos}
 use native.Mathlib.Omega.{arith}
 use native.Mathlib.Numerals.{add-one}
@@ -17,12 +17,12 @@ use mir.Facts.{toZ-ofZ, toZ-pos}
 use Rattle.integers.specs.Z.{Within}
 use Rattle.integers.specs.Gcd.{gcd, gcd-is, gcd-zero, gcd-step, gcd-comm}
 use Rattle.integers.specs.Order.{mul-pos-pos}
-use Rattle.integers.specs.Size.{within-neg, within-mono, within-mul, within-sub, within-fits}
+use Rattle.integers.specs.Size.{within-neg, within-mono, within-fits, products}
 use Rattle.model.specs.Sets.{isZero}
 unfoldable pub use Rattle.model.proofs.Lists.{upTo, each}
 pub use Rattle.model.proofs.Lists.{upTo-none, upTo-length, upTo-next, upTo-more, upTo-rest, each-at, upTo-each}
 use Rattle.integers.specs.Size.{bound}
-use Rattle.tableau.specs.Rows.{divisorFrom, divideRow, reduceRow, turnRow, turnBy, solveRow, combineRows, minusRow, Fit, Divisor, rebuilt, touched, entry, Small, Line}
+use Rattle.tableau.specs.Rows.{divisorFrom, divideRow, reduceRow, turnRow, turnBy, solveRow, combineRows, minusRow, FitAt, DivisorAt, rebuilt, touched, entry, Small, Line}
 
 -- ---- numbers of 64 bits
 abbrev pub top : ℕ
@@ -230,9 +230,13 @@ module _ (n : ℕ) (m b : ℤ) (l q : List ℤ) (hl : Line n l) (hq : Line n q) 
         blank = λ k a. combine-at m b l q k same-long ∙ ap₂ (λ x y. x *ℤ m -ℤ b *ℤ y) (hl .blank k a) (hq .blank k a) ∙ mulSub-none m b;
       }
 
+  -- at W bits
+  pub combine-smallAt : (W : ℕ) → 2 ≤ W → Within (bound W) m → Within (bound W) b → Small (bound W) l → Small (bound W) q → Small (2 ^ (W - 1) - 1) (combineRows m b l q)
+  combine-smallAt W w hm hb sl sq k =
+      subst (Within (2 ^ (W - 1) - 1)) (sym (combine-at m b l q k same-long)) (products W w (sl k) hm hb (sq k) .difference)
+
   pub combine-small : Within (bound 64) m → Within (bound 64) b → Small (bound 64) l → Small (bound 64) q → Small top (combineRows m b l q)
-  combine-small hm hb sl sq k =
-      subst (Within top) (sym (combine-at m b l q k same-long)) (within-mono (omega arith) (within-sub (within-mul (sl k) hm) (within-mul hb (sq k))))
+  combine-small hm hb sl sq k = combine-smallAt 64 (omega arith) hm hb sl sq k
 
   -- the divisor of a combination, with one number more, and with all
   pub divisor-more : (i g : ℕ) (z : ℤ) → i < n → z ≡ getD l i (pos 0) *ℤ m -ℤ b *ℤ getD q i (pos 0) → divisorFrom (gcd (natAbs z) g) (drop (i + 1) (combineRows m b l q)) ≡ divisorFrom g (drop i (combineRows m b l q))
@@ -296,15 +300,15 @@ nonzero-positive (pos zero) h f = absurd (f refl)
 nonzero-positive (pos (suc n)) h f = positive (suc n) (omega arith)
 nonzero-positive (negsuc n) h f = absurd (subst T h tt)
 
-module _ (n : ℕ) (r : List ℤ) (j : ℕ) (jn : j + 2 < n) (f : Line n r) (w : Small (bound 64) r) (e : entry r j ≡ pos 0 → ⊥) where
-  turnBy-sound : (b : Bool) → ltZ (entry r j) (pos 0) ≡ b → Sound n (bound 64) (turnBy b r j)
+module _ (m n : ℕ) (r : List ℤ) (j : ℕ) (jn : j + 2 < n) (f : Line n r) (w : Small m r) (e : entry r j ≡ pos 0 → ⊥) where
+  turnBy-sound : (b : Bool) → ltZ (entry r j) (pos 0) ≡ b → Sound n m (turnBy b r j)
   turnBy-sound true t =
       let a = getD r (j + 2) (pos 0) in
       let d = getD r 0 (pos 0) in
       let len = f .long in
       record {
         line = set-line n (set r 0 (pos 0 -ℤ a)) (j + 2) (pos 0 -ℤ d) jn (set-line n r 0 (pos 0 -ℤ a) (omega arith) f);
-        small = set-small (bound 64) (set r 0 (pos 0 -ℤ a)) (j + 2) (pos 0 -ℤ d) (within-minus (w 0)) (set-small (bound 64) r 0 (pos 0 -ℤ a) (within-minus (w (j + 2))) w);
+        small = set-small m (set r 0 (pos 0 -ℤ a)) (j + 2) (pos 0 -ℤ d) (within-minus (w 0)) (set-small m r 0 (pos 0 -ℤ a) (within-minus (w (j + 2))) w);
         den = rw (set-den (set r 0 (pos 0 -ℤ a)) j (pos 0 -ℤ d), getD-set-same r 0 (pos 0 -ℤ a) (pos 0) (omega arith)) (minus-positive a t);
       }
   turnBy-sound false t =
@@ -315,17 +319,24 @@ module _ (n : ℕ) (r : List ℤ) (j : ℕ) (jn : j + 2 < n) (f : Line n r) (w :
       let len = g .long in
       record {
         line = set-line n (set l 0 a) (j + 2) d jn (set-line n l 0 a (omega arith) g);
-        small = set-small (bound 64) (set l 0 a) (j + 2) d (w 0) (set-small (bound 64) l 0 a (w (j + 2)) (minus-small (bound 64) r w));
+        small = set-small m (set l 0 a) (j + 2) d (w 0) (set-small m l 0 a (w (j + 2)) (minus-small m r w));
         den = rw (set-den (set l 0 a) j d, getD-set-same l 0 a (pos 0) (omega arith)) (nonzero-positive a t e);
       }
 
-  pub turn-sound : Sound n (bound 64) (turnRow r j)
+  pub turn-soundAt : Sound n m (turnRow r j)
   unfolding turnRow
-  turn-sound = turnBy-sound (ltZ (entry r j) (pos 0)) refl
+  turn-soundAt = turnBy-sound (ltZ (entry r j) (pos 0)) refl
+
+  pub solve-soundAt : Sound n m (solveRow r j)
+  unfolding solveRow
+  solve-soundAt = reduce-sound n m (turnRow r j) turn-soundAt
+
+module _ (n : ℕ) (r : List ℤ) (j : ℕ) (jn : j + 2 < n) (f : Line n r) (w : Small (bound 64) r) (e : entry r j ≡ pos 0 → ⊥) where
+  pub turn-sound : Sound n (bound 64) (turnRow r j)
+  turn-sound = turn-soundAt (bound 64) n r j jn f w e
 
   pub solve-sound : Sound n (bound 64) (solveRow r j)
-  unfolding solveRow
-  solve-sound = reduce-sound n (bound 64) (turnRow r j) turn-sound
+  solve-sound = solve-soundAt (bound 64) n r j jn f w e
 
 -- ---- the test for 0, on a number and on its bits
 pub isZero-no : (z : ℤ) → (z ≡ pos 0 → ⊥) → isZero z ≡ false
@@ -371,12 +382,12 @@ zeros-at (suc n) zero = refl
 zeros-at (suc n) (suc k) = zeros-at n k
 
 -- a row without an entry in the column
-pub cleared-fit : (n j : ℕ) (r : List ℤ) → Line n r → Fit n (set r (j + 2) (pos 0)) j
+pub cleared-fit : {m : ℕ} (n j : ℕ) (r : List ℤ) → Line n r → FitAt m n (set r (j + 2) (pos 0)) j
 cleared-fit n j r h =
     let z : getD (set r (j + 2) (pos 0)) (j + 2) (pos 0) ≡ pos 0 = cleared-at r (j + 2) in
     record { line = clear-line n r (j + 2) h; dens = λ f. absurd (f z); small = λ f. absurd (f z) }
 
-pub fit-set : (n j i : ℕ) (t : List (List ℤ)) (z : List ℤ) → Fit n z j → ((k : ℕ) → k < length t → Fit n (getD t k []) j) → (k : ℕ) → k < length (set t i z) → Fit n (getD (set t i z) k []) j
+pub fit-set : {m : ℕ} (n j i : ℕ) (t : List (List ℤ)) (z : List ℤ) → FitAt m n z j → ((k : ℕ) → k < length t → FitAt m n (getD t k []) j) → (k : ℕ) → k < length (set t i z) → FitAt m n (getD (set t i z) k []) j
 fit-set n j i [] z f h k l = h k l
 fit-set n j zero (r ∷ t) z f h zero l = f
 fit-set n j zero (r ∷ t) z f h (suc k) l = h (suc k) l
@@ -389,12 +400,12 @@ set-map-set f (r ∷ t) zero z p = refl
 set-map-set f (r ∷ t) (suc i) z p = ap (λ u. f r ∷ u) (set-map-set f t i z p)
 
 -- a solved row, as it is put into the others
-pub divisor-of : (n : ℕ) (p : List ℤ) → Sound n (bound 64) p → Divisor n (getD p 0 (pos 0)) (set p 0 (pos 0))
-divisor-of n p h =
+pub divisor-of : {m : ℕ} (n : ℕ) (p : List ℤ) → Sound n m p → DivisorAt m n (getD p 0 (pos 0)) (set p 0 (pos 0))
+divisor-of {m} n p h =
     let l = h .line .long in
     record {
       line = clear-line n p 0 (h .line);
-      small = set-small (bound 64) p 0 (pos 0) (record { size = zero-le }) (h .small);
+      small = set-small m p 0 (pos 0) (record { size = zero-le }) (h .small);
       none = cleared-at p 0;
       near = h .small 0;
       over = h .den;

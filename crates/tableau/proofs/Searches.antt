@@ -2,7 +2,7 @@
 use mathlib.Core.Path.{_≡_, refl, sym, ap, _∙_, subst}
 use mathlib.Core.List.{List, [], _∷_, map}
 use mathlib.Core.Bool.{Bool, true, false, cond}
-use Prim.Native.Nat.{ℕ, zero, suc, _+_, _-_, _≤_, _<_, zero-le, suc-le-suc}
+use Prim.Native.Nat.{ℕ, zero, suc, _+_, _-_, _^_, _≤_, _<_, zero-le, suc-le-suc}
 use native.Mathlib.Nat.{not-suc-le-zero, le-of-suc-le-suc}
 use native.Mathlib.Numerals.{add-one}
 use native.Mathlib.Omega.{arith}
@@ -16,8 +16,8 @@ use mir.Syntax.{w64}
 use mir.Val.{SFits, ofZ}
 use Rattle.integers.specs.Size.{bound}
 use Rattle.model.specs.Sets.{isZero}
-use Rattle.tableau.specs.Rows.{entry, den, Small, Line, combineRows, replaceRow, rebuildRow, solveRow, exchangeRows, Divisor, Ready, first, small, narrowRows, narrowRow, violatedAt, violated, helpsBy, helpsAt, helping}
-use Rattle.tableau.proofs.Lines.{isZero-no, combine-line, combine-den, clear-line, reduce-sound, set-den, solve-sound, divisor-of, combine-small, set-small, within-minus, top}
+use Rattle.tableau.specs.Rows.{entry, den, Small, Line, combineRows, replaceRow, rebuildRow, solveRow, exchangeRows, DivisorAt, ReadyAt, first, smallAt, narrowRowsAt, narrowRowAt, violatedAt, violated, helpsBy, helpsAt, helping}
+use Rattle.tableau.proofs.Lines.{isZero-no, combine-line, combine-den, clear-line, reduce-sound, set-den, solve-soundAt, divisor-of, combine-smallAt, set-small, within-minus}
 
 -- ---- the first number of which p holds
 first-more : (n v : ℕ) → v < n → n - v ≡ suc (n - (v + 1))
@@ -54,37 +54,39 @@ small-high (pos n) h = refl
 small-high (negsuc n) h = let k = ltb-false 2147483646 n h in sym (le-leb (suc n) (bound 64) (omega arith))
 
 -- ---- of a row, and of the rows with an entry in a column
-pub small-step : (l : List ℤ) (i : ℕ) (b : Bool) → i < length l → leb (natAbs (getD l i (pos 0))) (bound 64) ≡ b → small (drop i l) ≡ cond b (small (drop (i + 1) l)) false
-unfolding small
-small-step l i b h e = rw (add-one, drop-cons l i (pos 0)) (ap (λ b. cond b (small (drop (suc i) l)) false) e)
+module _ (m : ℕ) where
+  pub small-step : (l : List ℤ) (i : ℕ) (b : Bool) → i < length l → leb (natAbs (getD l i (pos 0))) m ≡ b → smallAt m (drop i l) ≡ cond b (smallAt m (drop (i + 1) l)) false
+  unfolding smallAt
+  small-step l i b h e = rw (add-one, drop-cons l i (pos 0)) (ap (λ b. cond b (smallAt m (drop (suc i) l)) false) e)
 
-pub narrow-step : (j : ℕ) (t : List (List ℤ)) (k : ℕ) (b : Bool) → k < length t → narrowRow j (getD t k []) ≡ b → narrowRows j (drop k t) ≡ cond b (narrowRows j (drop (k + 1) t)) false
-unfolding narrowRows
-narrow-step j t k b h e = rw (add-one, drop-cons t k []) (ap (λ b. cond b (narrowRows j (drop (suc k) t)) false) e)
+  pub narrow-step : (j : ℕ) (t : List (List ℤ)) (k : ℕ) (b : Bool) → k < length t → narrowRowAt m j (getD t k []) ≡ b → narrowRowsAt m j (drop k t) ≡ cond b (narrowRowsAt m j (drop (k + 1) t)) false
+  unfolding narrowRowsAt
+  narrow-step j t k b h e = rw (add-one, drop-cons t k []) (ap (λ b. cond b (narrowRowsAt m j (drop (suc k) t)) false) e)
 
-pub narrow-end : (j : ℕ) (t : List (List ℤ)) (k : ℕ) → length t ≤ k → true ≡ narrowRows j (drop k t)
-unfolding narrowRows
-narrow-end j t k h = sym (ap (narrowRows j) (drop-of-length-le t {i = k} h))
+  pub narrow-end : (j : ℕ) (t : List (List ℤ)) (k : ℕ) → length t ≤ k → true ≡ narrowRowsAt m j (drop k t)
+  unfolding narrowRowsAt
+  narrow-end j t k h = sym (ap (narrowRowsAt m j) (drop-of-length-le t {i = k} h))
 
 -- what the number test tells
 cond-true : (b : Bool) (c : Bool) → cond b c false ≡ true → (b ≡ true) × (c ≡ true)
 cond-true true c h = (refl, h)
 cond-true false c h = absurd (subst T (sym h) tt)
 
-pub small-within : (l : List ℤ) → small l ≡ true → Small (bound 64) l
-unfolding small
-small-within [] h k = record { size = zero-le }
-small-within (x ∷ l) h zero = record { size = leb-true _ _ (cond-true (leb (natAbs x) (bound 64)) (small l) h .0) }
-small-within (x ∷ l) h (suc k) = small-within l (cond-true (leb (natAbs x) (bound 64)) (small l) h .1) k
+module _ {m : ℕ} where
+  pub small-within : (l : List ℤ) → smallAt m l ≡ true → Small m l
+  unfolding smallAt
+  small-within [] h k = record { size = zero-le }
+  small-within (x ∷ l) h zero = record { size = leb-true _ _ (cond-true (leb (natAbs x) m) (smallAt m l) h .0) }
+  small-within (x ∷ l) h (suc k) = small-within l (cond-true (leb (natAbs x) m) (smallAt m l) h .1) k
 
-zeros-small : (l : List ℤ) → ((k : ℕ) → getD l k (pos 0) ≡ pos 0) → small l ≡ true
-unfolding small
-zeros-small [] h = refl
-zeros-small (x ∷ l) h = ap (λ z. cond (leb (natAbs z) (bound 64)) (small l) false) (h 0) ∙ zeros-small l (λ k. h (suc k))
+zeros-small : (n : ℕ) (l : List ℤ) → ((k : ℕ) → getD l k (pos 0) ≡ pos 0) → smallAt n l ≡ true
+unfolding smallAt
+zeros-small n [] h = refl
+zeros-small n (x ∷ l) h = ap (λ z. cond (leb (natAbs z) n) (smallAt n l) false) (h 0) ∙ ap (λ b. cond b (smallAt n l) false) (le-leb 0 n zero-le) ∙ zeros-small n l (λ k. h (suc k))
 
 -- the numbers past the n-th are 0
-pub small-end : (n i : ℕ) (l : List ℤ) → Line n l → n ≤ i → true ≡ small (drop i l)
-small-end n i l h k = sym (zeros-small (drop i l) (λ j. getD-drop i l j (pos 0) ∙ h .blank (i + j) (omega arith)))
+pub small-end : (m n i : ℕ) (l : List ℤ) → Line n l → n ≤ i → true ≡ smallAt m (drop i l)
+small-end m n i l h k = sym (zeros-small m (drop i l) (λ j. getD-drop i l j (pos 0) ∙ h .blank (i + j) (omega arith)))
 
 -- ---- what a search that found something tells
 found : (p : ℕ → Bool) (n v : ℕ) (b : Bool) → p v ≡ b → (first p n (suc v) < suc v + n → p (first p n (suc v)) ≡ true) → cond b v (first p n (suc v)) < v + suc n → p (cond b v (first p n (suc v))) ≡ true
@@ -140,14 +142,14 @@ column-spot row place kinds w e h =
     subst (λ n. (64 ≤ getD place n 0) × (getD row (getD place n 0 - 64 + 2) (pos 0) ≡ pos 0 → ⊥)) (sym e) (helping-found row place kinds (subst (λ n. n < length place) e h))
 
 -- ---- what the number test tells of a row, and where an entry stands
-pub narrow-at : (j : ℕ) (t : List (List ℤ)) → narrowRows j t ≡ true → (k : ℕ) → k < length t → narrowRow j (getD t k []) ≡ true
-unfolding narrowRows
-narrow-at j [] h k l = absurd (not-suc-le-zero l)
-narrow-at j (r ∷ t) h zero l = cond-true (narrowRow j r) (narrowRows j t) h .0
-narrow-at j (r ∷ t) h (suc k) l = narrow-at j t (cond-true (narrowRow j r) (narrowRows j t) h .1) k (le-of-suc-le-suc l)
+pub narrow-at : (m j : ℕ) (t : List (List ℤ)) → narrowRowsAt m j t ≡ true → (k : ℕ) → k < length t → narrowRowAt m j (getD t k []) ≡ true
+unfolding narrowRowsAt
+narrow-at m j [] h k l = absurd (not-suc-le-zero l)
+narrow-at m j (r ∷ t) h zero l = cond-true (narrowRowAt m j r) (narrowRowsAt m j t) h .0
+narrow-at m j (r ∷ t) h (suc k) l = narrow-at m j t (cond-true (narrowRowAt m j r) (narrowRowsAt m j t) h .1) k (le-of-suc-le-suc l)
 
-pub narrow-small : (j : ℕ) (r : List ℤ) → narrowRow j r ≡ true → (entry r j ≡ pos 0 → ⊥) → Small (bound 64) r
-narrow-small j r h f = small-within r (sym (ap (λ b. cond b true (small r)) (isZero-no (entry r j) f)) ∙ h)
+pub narrow-small : {m : ℕ} (j : ℕ) (r : List ℤ) → narrowRowAt m j r ≡ true → (entry r j ≡ pos 0 → ⊥) → Small m r
+narrow-small {m} j r h f = small-within r (sym (ap (λ b. cond b true (smallAt m r)) (isZero-no (entry r j) f)) ∙ h)
 
 -- an entry that is not 0 stands among the first n numbers
 pub inside : (n : ℕ) (r : List ℤ) (j : ℕ) → Line n r → (entry r j ≡ pos 0 → ⊥) → j + 2 < n
@@ -175,37 +177,40 @@ pub record Whole (n : ℕ) (r : List ℤ) : Type 0 where
   pub line : Line n r
   pub over : pos 0 <ℤ den r
 
-module _ (n j : ℕ) (m : ℤ) (q r : List ℤ) (h : Whole n r) (d : Divisor n m q) where
-  replace-whole : Small (bound 64) r → Whole n (replaceRow r j m q)
+module _ {W : ℕ} (big : 2 ≤ W) (n j : ℕ) (m : ℤ) (q r : List ℤ) (h : Whole n r) (d : DivisorAt (bound W) n m q) where
+  replace-whole : Small (bound W) r → Whole n (replaceRow r j m q)
   unfolding replaceRow
   replace-whole w =
       let l = set r (j + 2) (pos 0) in
       let b = pos 0 -ℤ entry r j in
       let f = clear-line n r (j + 2) (h .line) in
-      let s = reduce-sound n top (combineRows m b l q)
+      let s = reduce-sound n (2 ^ (W - 1) - 1) (combineRows m b l q)
       (record {
         line = combine-line n m b l q f (d .line);
-        small = combine-small n m b l q f (d .line) (d .near) (within-minus (w (j + 2))) (set-small (bound 64) r (j + 2) (pos 0) (record { size = zero-le }) w) (d .small);
+        small = combine-smallAt n m b l q f (d .line) W big (d .near) (within-minus (w (j + 2))) (set-small (bound W) r (j + 2) (pos 0) (record { size = zero-le }) w) (d .small);
         den = combine-den n m b l q f (d .line) (d .over) (subst (λ z. pos 0 <ℤ z) (sym (set-den r j (pos 0))) (h .over)) (d .none);
       }) in
       record { line = s .line; over = s .den }
 
-  pub rebuild-whole : ((entry r j ≡ pos 0 → ⊥) → Small (bound 64) r) → Whole n (rebuildRow j m q r)
+  pub rebuild-wholeAt : ((entry r j ≡ pos 0 → ⊥) → Small (bound W) r) → Whole n (rebuildRow j m q r)
   unfolding rebuildRow
-  rebuild-whole w = at (isZero (entry r j)) refl
+  rebuild-wholeAt w = at (isZero (entry r j)) refl
     where
       at : (b : Bool) → isZero (entry r j) ≡ b → Whole n (cond b r (replaceRow r j m q))
       at true e = h
       at false e = replace-whole (w (λ z. subst T (sym (ap isZero z) ∙ e) tt))
 
-pub exchange-whole : (n : ℕ) (t : List (List ℤ)) (i j : ℕ) → Ready n t i j → ((k : ℕ) → k < length t → Whole n (getD t k [])) → (k : ℕ) → k < length (exchangeRows t i j) → Whole n (getD (exchangeRows t i j) k [])
+pub rebuild-whole : (n j : ℕ) (m : ℤ) (q r : List ℤ) → Whole n r → DivisorAt (bound 64) n m q → ((entry r j ≡ pos 0 → ⊥) → Small (bound 64) r) → Whole n (rebuildRow j m q r)
+rebuild-whole n j m q r h d w = rebuild-wholeAt {W = 64} (omega arith) n j m q r h d w
+
+pub exchange-whole : {W : ℕ} → 2 ≤ W → (n : ℕ) (t : List (List ℤ)) (i j : ℕ) → ReadyAt (bound W) n t i j → ((k : ℕ) → k < length t → Whole n (getD t k [])) → (k : ℕ) → k < length (exchangeRows t i j) → Whole n (getD (exchangeRows t i j) k [])
 unfolding exchangeRows
-exchange-whole n t i j r h =
+exchange-whole {W} big n t i j r h =
     let f = r .rows i (r .row) in
-    let s = solve-sound n (getD t i []) j (r .col) (f .line) (f .small (r .cross)) (r .cross) in
+    let s = solve-soundAt (bound W) n (getD t i []) j (r .col) (f .line) (f .small (r .cross)) (r .cross) in
     let p = solveRow (getD t i []) j in
     set-map-all (Whole n) (rebuildRow j (den p) (set p 0 (pos 0))) t i p (record { line = s .line; over = s .den })
-    (λ k l. rebuild-whole n j (den p) (set p 0 (pos 0)) (getD t k []) (h k l) (divisor-of n p s) (r .rows k l .small))
+    (λ k l. rebuild-wholeAt big n j (den p) (set p 0 (pos 0)) (getD t k []) (h k l) (divisor-of n p s) (r .rows k l .small))
 
 pub exchange-length : (t : List (List ℤ)) (i j : ℕ) → length (exchangeRows t i j) ≡ length t
 unfolding exchangeRows

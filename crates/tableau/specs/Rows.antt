@@ -118,19 +118,29 @@ helpsAt row place kinds v =
 unfoldable pub helping : List ℤ → List ℕ → List ℕ → ℕ
 helping row place kinds = first (helpsAt row place kinds) (length place) 0
 
--- every number within the bound
-unfoldable pub small : List ℤ → Bool
-small [] = true
-small (x ∷ xs) = cond (leb (natAbs x) (bound 64)) (small xs) false
+-- every number within ±m
+unfoldable pub smallAt : ℕ → List ℤ → Bool
+smallAt m [] = true
+smallAt m (x ∷ xs) = cond (leb (natAbs x) m) (smallAt m xs) false
 
 -- so, or no entry in column j
-abbrev pub narrowRow : ℕ → List ℤ → Bool
-narrowRow j r = cond (isZero (entry r j)) true (small r)
+abbrev pub narrowRowAt : ℕ → ℕ → List ℤ → Bool
+narrowRowAt m j r = cond (isZero (entry r j)) true (smallAt m r)
 
 -- so in each row with an entry in column j
-unfoldable pub narrowRows : ℕ → List (List ℤ) → Bool
-narrowRows j [] = true
-narrowRows j (r ∷ t) = cond (narrowRow j r) (narrowRows j t) false
+unfoldable pub narrowRowsAt : ℕ → ℕ → List (List ℤ) → Bool
+narrowRowsAt m j [] = true
+narrowRowsAt m j (r ∷ t) = cond (narrowRowAt m j r) (narrowRowsAt m j t) false
+
+-- at 64 bits
+abbrev pub small : List ℤ → Bool
+small r = smallAt (bound 64) r
+
+abbrev pub narrowRow : ℕ → List ℤ → Bool
+narrowRow j r = narrowRowAt (bound 64) j r
+
+abbrev pub narrowRows : ℕ → List (List ℤ) → Bool
+narrowRows j t = narrowRowsAt (bound 64) j t
 
 -- ---- what the functions ask
 
@@ -145,22 +155,32 @@ pub record Line (n : ℕ) (r : List ℤ) : Type 0 where
   pub blank : (k : ℕ) → n ≤ k → getD r k (pos 0) ≡ pos 0
 
 -- a row that can be rebuilt: where it has an entry in column j, it has a positive denominator and passes the number test
-pub record Fit (n : ℕ) (r : List ℤ) (j : ℕ) : Type 0 where
+pub record FitAt (m n : ℕ) (r : List ℤ) (j : ℕ) : Type 0 where
   pub line : Line n r
   pub dens : (entry r j ≡ pos 0 → ⊥) → pos 0 <ℤ den r
-  pub small : (entry r j ≡ pos 0 → ⊥) → Small (bound 64) r
+  pub small : (entry r j ≡ pos 0 → ⊥) → Small m r
 
 -- a row that is put in, as its denominator and its other numbers
-pub record Divisor (n : ℕ) (m : ℤ) (q : List ℤ) : Type 0 where
+pub record DivisorAt (b n : ℕ) (m : ℤ) (q : List ℤ) : Type 0 where
   pub line : Line n q
-  pub small : Small (bound 64) q
+  pub small : Small b q
   pub none : getD q 0 (pos 0) ≡ pos 0
-  pub near : Within (bound 64) m
+  pub near : Within b m
   pub over : pos 0 <ℤ m
 
-pub record Ready (n : ℕ) (t : List (List ℤ)) (i j : ℕ) : Type 0 where
+pub record ReadyAt (m n : ℕ) (t : List (List ℤ)) (i j : ℕ) : Type 0 where
   pub row : i < length t
   pub col : j + 2 < n
   pub count : length t ≤ 64
   pub cross : entry (getD t i []) j ≡ pos 0 → ⊥
-  pub rows : (k : ℕ) → k < length t → Fit n (getD t k []) j
+  pub rows : (k : ℕ) → k < length t → FitAt m n (getD t k []) j
+
+-- at 64 bits
+abbrev pub Fit : ℕ → List ℤ → ℕ → Type 0
+Fit n r j = FitAt (bound 64) n r j
+
+abbrev pub Divisor : ℕ → ℤ → List ℤ → Type 0
+Divisor n m q = DivisorAt (bound 64) n m q
+
+abbrev pub Ready : ℕ → List (List ℤ) → ℕ → ℕ → Type 0
+Ready n t i j = ReadyAt (bound 64) n t i j

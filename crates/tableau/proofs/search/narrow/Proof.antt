@@ -6,6 +6,7 @@ use borrow.Author.Tests.{not-true, not-false}
 use native.Mathlib.Omega.{arith}
 use lib.ListN.{length, drop}
 use Rattle.tableau.specs.Rows.{narrowRows as narrowOf}
+use Rattle.integers.specs.Size.{bound}
 use Rattle.tableau.proofs.Searches.{narrow-step, narrow-end}
 use Rattle.tableau.proofs.search.narrow.Statement.{statement}
 use Rattle.tableau.proofs.search.narrow.Tie as tie
@@ -36,7 +37,7 @@ returns c =
     let s = c .before .before .before .before .before in
     let l = c .before .before .before .before .loop in
     let h : l .k < length (s .args .t .now) = c .before .before .before .loop-test .taken in
-    sym (narrow-step (s .args .j) (s .args .t .now) (l .k) false h (sym (c .before .row-narrow .ensures) ∙ not-true _ (c .if1 .taken))) ∙ l .inv .1
+    sym (narrow-step (bound 64) (s .args .j) (s .args .t .now) (l .k) false h (sym (c .before .row-narrow .ensures) ∙ not-true _ (c .if1 .taken))) ∙ l .inv .1
 
 add-k : tie.Need-add-k Inv-loop μ-loop
 add-k c = search needs
@@ -49,13 +50,13 @@ loop-again c =
     let s = c .before .before .before .before .before in
     let l = c .before .before .before .before .loop in
     let h : l .k < length (s .args .t .now) = c .before .before .before .loop-test .taken in
-    (omega arith, sym (narrow-step (s .args .j) (s .args .t .now) (l .k) true h (sym (c .before .row-narrow .ensures) ∙ not-false _ (c .if1 .left))) ∙ l .inv .1)
+    (omega arith, sym (narrow-step (bound 64) (s .args .j) (s .args .t .now) (l .k) true h (sym (c .before .row-narrow .ensures) ∙ not-false _ (c .if1 .left))) ∙ l .inv .1)
 
 returns-2 : tie.Need-returns-2 Inv-loop μ-loop
 returns-2 c =
     let s = c .before .before in
     let l = c .before .loop in
-    narrow-end (s .args .j) (s .args .t .now) (l .k) (c .loop-test .left) ∙ l .inv .1
+    narrow-end (bound 64) (s .args .j) (s .args .t .now) (l .k) (c .loop-test .left) ∙ l .inv .1
 
 pub narrow-spec : {M : Type 1} → statement M
 narrow-spec =

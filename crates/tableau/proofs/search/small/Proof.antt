@@ -42,7 +42,7 @@ returns c =
     let l = c .before .before .before .before .loop in
     let z = getD (s .args .r .now) (l .i) (pos 0) in
     let e = c .before .is-small .ensures ∙ ap (λ x. leb (natAbs x) (bound 64)) (toZ-ofZ {w = w64} {z = z} (record { sfits = c .before .before .x .given })) in
-    sym (small-step (s .args .r .now) (l .i) false (omega (arith, s .pre .fit, s .pre .long)) (sym e ∙ not-true _ (c .if1 .taken))) ∙ l .inv .1
+    sym (small-step (bound 64) (s .args .r .now) (l .i) false (omega (arith, s .pre .fit, s .pre .long)) (sym e ∙ not-true _ (c .if1 .taken))) ∙ l .inv .1
 
 add-i : tie.Need-add-i Inv-loop μ-loop
 add-i c = search needs
@@ -56,13 +56,13 @@ loop-again c =
     let l = c .before .before .before .before .loop in
     let z = getD (s .args .r .now) (l .i) (pos 0) in
     let e = c .before .is-small .ensures ∙ ap (λ x. leb (natAbs x) (bound 64)) (toZ-ofZ {w = w64} {z = z} (record { sfits = c .before .before .x .given })) in
-    (omega arith, sym (small-step (s .args .r .now) (l .i) true (omega (arith, s .pre .fit, s .pre .long)) (sym e ∙ not-false _ (c .if1 .left))) ∙ l .inv .1)
+    (omega arith, sym (small-step (bound 64) (s .args .r .now) (l .i) true (omega (arith, s .pre .fit, s .pre .long)) (sym e ∙ not-false _ (c .if1 .left))) ∙ l .inv .1)
 
 returns-2 : tie.Need-returns-2 Inv-loop μ-loop
 returns-2 c =
     let s = c .before .before in
     let l = c .before .loop in
-    small-end (s .args .n) (l .i) (s .args .r .now) (s .pre) (omega arith) ∙ l .inv .1
+    small-end (bound 64) (s .args .n) (l .i) (s .args .r .now) (s .pre) (omega arith) ∙ l .inv .1
 
 pub small-spec : {M : Type 1} → statement M
 small-spec =
