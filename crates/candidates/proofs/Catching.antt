@@ -1,6 +1,6 @@
 -- The candidates of a cut, and the test of the working constraints as it grows. Assumes nothing.
 use mathlib.Core.Path.{_≡_, refl, sym, ap, ap₂, _∙_, subst}
-use mathlib.Core.Bool.{Bool, true, false, cond}
+use mathlib.Core.Bool.{Bool, true, false, _||_, cond}
 use mathlib.Core.List.{List, [], _∷_, _++_, map, append-assoc}
 use Prim.Native.Nat.{ℕ, _+_, _-_, _*_, _≤_, _<_}
 use native.Mathlib.Numerals.{add-one}
@@ -10,6 +10,7 @@ use lib.Dec.{T}
 use lib.IntN.{ℤ}
 use lib.ListN.{length, take, getD, set, length-map, length-append}
 use lib.Seq.{length-take-le, getD-take, getD-append-add, take-suc, take-all, take-take, take-append-seam}
+use Rattle.integers.specs.Mach.{clash}
 use Rattle.model.specs.Sets.{Kind, equality, inequality, Constraint, BasicSet, bounds, conditions}
 use Rattle.model.specs.Values.{kindIs, divisionOf, constraintOf, basicSetOf}
 use Rattle.model.specs.declared.Constraint.{Constraint as StoredConstraint}
@@ -18,17 +19,21 @@ use Rattle.model.proofs.Lists.{map-take, map-get}
 use Rattle.codec.specs.Bytes.{constantFits}
 use Rattle.codec.proofs.Valid.{ValidConstraint}
 use Rattle.simplex.specs.Table.{Valid as Counted}
-use Rattle.feasibility.specs.Tableau.{test}
+use Rattle.feasibility.specs.Tableau.{Ending, wide, testAt}
+use Rattle.feasibility.proofs.Sizes.{judgement-kept}
 use Rattle.simplex.specs.declared.Verdict.{Verdict}
+use Rattle.simplex.specs.declared.Verdict.the-variants.{Point, Dropped, Long, Wide}
 use Rattle.simplex.specs.Answers.{verdictOf}
+use Rattle.carrying.specs.Carried.{isWide}
 use Rattle.sharing.specs.declared.history.Standing.{Standing}
 use Rattle.sharing.specs.Working.{traceOf, Stands, Growing, Grown, Tried}
 use Rattle.sharing.proofs.Firsts.{first-tests}
 use Rattle.sharing.proofs.Begins.{bounds-long}
 use Rattle.algebra.specs.Tighten.{void}
+use Rattle.algebra.specs.Cut.{isKept, keeps}
 use Rattle.joining.specs.Joining.{Below, Above, Settled}
 use Rattle.joining.proofs.Placing.{noConstraint, map-pushed}
-use Rattle.candidates.specs.Candidates.{Tables, candidate, noRule, Opposed, Holds, Behind, Caught, Followed, followed}
+use Rattle.candidates.specs.Candidates.{Tables, withLast, candidate, noRule, Opposed, Holds, Behind, Caught, Followed, followed}
 
 -- ---- a constraint put behind the first ones
 
@@ -52,15 +57,41 @@ tables-kept t p q r = record { high = p ∙ t .high; long = q ∙ t .long; wide 
 candidate-conditions : (b : BasicSet) (o : Constraint) → conditions (candidate b o) ≡ conditions b ++ (o ∷ [])
 candidate-conditions b o = sym (append-assoc (bounds 0 (b .divisions)) (b .constraints) (o ∷ []))
 
-pub tried-test : (k : ℕ) (o : StoredConstraint) (h : Standing) (rows : List (List ℤ)) (place kinds : List ℕ) (past : List (List ℤ)) (columns : List ℕ) (x : Verdict) → Tried k o h rows place kinds past columns x → h .rows < 64
-    → (b : BasicSet) → Holds k b h rows place kinds past columns → verdictOf x ≡ test (candidate b (constraintOf o))
-tried-test k o h rows place kinds past columns x t less b g =
+-- the shared test of a candidate is its test at 64 bits
+tried-test : {k : ℕ} {o : StoredConstraint} {h : Standing} {rows : List (List ℤ)} {place kinds : List ℕ} {past : List (List ℤ)} {columns : List ℕ} {x : Verdict} → Tried k o h rows place kinds past columns x → h .rows < 64
+    → (b : BasicSet) → Holds k b h rows place kinds past columns → verdictOf x ≡ testAt 64 (candidate b (constraintOf o))
+tried-test {o = o} t less b g =
     let c : BasicSet = candidate b (constraintOf o) in
     let e = candidate-conditions b (constraintOf o) in
     let n : length (conditions c) ≡ length (conditions b) + 1 = ap length e ∙ length-append (conditions b) (constraintOf o ∷ []) in
     let s = g .stands .size in
     ap verdictOf (t .tried (conditions b) (g .stands) ∙ ap₂ (λ i l. traceOf i l .verdict) (sym (g .divs)) (sym e))
     ∙ first-tests c (subst (λ i. i ≤ 8) (sym (g .divs)) (g .stands .few)) (omega arith)
+
+-- what is not wide there is judged
+judged : (c : BasicSet) (x : Verdict) → verdictOf x ≡ testAt 64 c → isWide x ≡ false → isKept (verdictOf x) ≡ keeps c
+judged c x e n = ap isKept (e ∙ sym (ap (λ (y : Ending). y .verdict) (judgement-kept c (λ w. plain x n (e ∙ w)))))
+  where
+    plain : (x : Verdict) → isWide x ≡ false → verdictOf x ≡ wide → ⊥
+    plain Point n q = let z : _≡_ {A = ℕ} 0 1 = cc in omega arith
+    plain Dropped n q = let z : _≡_ {A = ℕ} 0 1 = cc in omega arith
+    plain Long n q = let z : _≡_ {A = ℕ} 0 1 = cc in omega arith
+    plain Wide n q = clash refl n
+
+-- a shared test that is not wide keeps what the test keeps
+pub shared-keeps : {k : ℕ} {o : StoredConstraint} {h : Standing} {rows : List (List ℤ)} {place kinds : List ℕ} {past : List (List ℤ)} {columns : List ℕ} {x : Verdict} → Tried k o h rows place kinds past columns x → h .rows < 64
+    → (b : BasicSet) → Holds k b h rows place kinds past columns → isWide x ≡ false → isKept (verdictOf x) ≡ keeps (candidate b (constraintOf o))
+shared-keeps {o = o} {x = x} t less b g n = judged (candidate b (constraintOf o)) x (tried-test t less b g) n
+
+pub neither : (a b : Bool) → (a || b) ≡ false → (a ≡ false) × (b ≡ false)
+neither false b e = (refl, e)
+neither true b e = clash refl e
+
+-- a constraint put behind all of a basic set's makes a candidate
+pub put-last : (w : Stored) → length (w .constraints) ≡ 48 → w .cons ≤ 48 → (o : Constraint) → withLast (basicSetOf w) (w .cons) o ≡ candidate (basicSetOf w) o
+put-last w l h o =
+    let z : length (basicSetOf w .constraints) ≡ w .cons = length-map (take (w .cons) (w .constraints)) constraintOf ∙ length-take-le (w .cons) (w .constraints) (omega arith) in
+    ap (λ (cs : List Constraint). record { divisions = basicSetOf w .divisions; constraints = cs ++ (o ∷ []) }) (take-all (w .cons) (basicSetOf w .constraints) (omega arith))
 
 -- an opposite is an inequality
 pub opposite-plain : (o : StoredConstraint) (r : Constraint) → constraintOf o ≡ r → r .kind ≡ inequality → o .equality ≡ false

@@ -2,7 +2,7 @@
 use mathlib.Core.Path.{_≡_}
 use mathlib.Core.Bool.{Bool, true, false, _&&_, cond}
 use mathlib.Core.List.{List, [], _∷_, _++_}
-use Prim.Native.Nat.{ℕ, _+_, _*_, _≤_}
+use Prim.Native.Nat.{ℕ, _+_, _*_, _≤_, _<_}
 use lib.Dec.{eqb}
 use lib.IntN.{ℤ, pos}
 use lib.ListN.{length, take}
@@ -26,6 +26,11 @@ pub record Tables (rows : List (List ℤ)) (place kinds : List ℕ) : Type 0 whe
   pub high : length rows ≡ 64
   pub long : length place ≡ 80
   pub wide : length kinds ≡ 80
+
+-- a constraint may follow
+pub record Roomy (w : Stored) : Type 0 where
+  pub divs : w .divs ≤ 8
+  pub cons : w .cons < 48
 
 -- the first constraints of b, then r
 abbrev pub withLast : BasicSet → ℕ → Constraint → BasicSet
@@ -58,11 +63,9 @@ pub record Holds (k : ℕ) (b : BasicSet) (h : Standing) (rows : List (List ℤ)
   pub divs : length (b .divisions) ≡ k
   pub stands : Stands k (conditions b) h rows place kinds past columns
 
-pub record Survives (k : ℕ) (o : StoredConstraint) (h : Standing) (rows : List (List ℤ)) (place kinds : List ℕ) (past : List (List ℤ)) (columns : List ℕ) (x : Bool) : Type 0 where
-  pub is : (b : BasicSet) → Holds k b h rows place kinds past columns → x ≡ keeps (candidate b (constraintOf o))
-
+-- the shared tests judge unless one of them is wide
 pub record KeptOf (k : ℕ) (r : StoredConstraint) (h : Standing) (rows : List (List ℤ)) (place kinds : List ℕ) (past : List (List ℤ)) (columns : List ℕ) (x : Survivors) : Type 0 where
-  pub is : (b : BasicSet) → Holds k b h rows place kinds past columns → Keeping b (constraintOf r) x
+  pub is : (b : BasicSet) → Holds k b h rows place kinds past columns → x .far ≡ false → Keeping b (constraintOf r) x
 
 -- the tables hold the test of the first constraints of w
 pub record Behind (w : Stored) (h : Standing) (rows : List (List ℤ)) (place kinds : List ℕ) (past : List (List ℤ)) (columns : List ℕ) : Type 0 where

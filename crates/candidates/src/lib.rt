@@ -7,4 +7,5 @@ pub use alone::put;
 pub use survivors::Survivors;
 pub use survivors::follow;
 pub use survivors::kept;
+pub use survivors::kept_alone;
 pub use survivors::start;

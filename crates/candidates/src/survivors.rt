@@ -1,10 +1,13 @@
 // The candidates of a cut: their tests share the pivots of the working constraints' test.
 ghost use mathlib.Core.Path.{_≡_};
-ghost use mathlib.Core.Bool.{false};
 ghost use lib.ListN.{length};
+ghost use Rattle.model.specs.Values.{constraintOf, basicSetOf};
 ghost use Rattle.simplex.specs.Table.{Valid};
 ghost use Rattle.sharing.specs.Working.{Beginning, Growing};
-ghost use Rattle.candidates.specs.Candidates.{Opposed, Survives, KeptOf, Caught, Followed};
+ghost use Rattle.candidates.specs.Candidates.{Roomy, Opposed, Keeping, KeptOf, Caught, Followed};
+use crate::alone::anew;
+use crate::alone::is_kept;
+use carrying::both::is_wide;
 use joining::opposite_above;
 use joining::opposite_below;
 use joining::void;
@@ -14,37 +17,12 @@ use sharing::Standing;
 use sharing::begin;
 use sharing::candidate;
 use sharing::grow;
-use simplex::Verdict;
 
-// Which opposites of a constraint give a kept candidate.
+// Which opposites of a constraint give a kept candidate; where `far`, a shared test was wide and they are still to be tested alone.
 pub struct Survivors {
     pub above: bool,
     pub below: bool,
-}
-
-// Whether the test keeps the candidate of an opposite.
-fn survives(
-    h: Standing,
-    o: Constraint,
-    k: usize,
-    rows: &[[i64; 18]],
-    place: &[usize],
-    kinds: &[u8],
-    past: &[[i64; 18]],
-    columns: &[usize],
-    spare: &mut [[i64; 18]],
-) -> bool
-    requires { ⌜ Growing k h (now rows) (now place) (now kinds) (now past) (now columns) ⌝ }
-    requires { ⌜ (o .equality ≡ false) × (length (now spare) ≡ 64) ⌝ }
-    ensures { λ b. ⌜ Survives k o h (now (rows .entry)) (now (place .entry)) (now (kinds .entry)) (now (past .entry)) (now (columns .entry)) b ⌝ }
-{
-    let v = candidate(h, o, k, rows, place, kinds, past, columns, spare);
-    match v {
-        Verdict::Point => true,
-        Verdict::Dropped => false,
-        Verdict::Long => true,
-        Verdict::Wide => true,
-    }
+    pub far: bool,
 }
 
 pub fn kept(
@@ -65,18 +43,47 @@ pub fn kept(
     let equality = r.equality;
     let undivided = void(r);
     let o = opposite_below(r, undivided);
-    let lower = survives(h, o, k, rows, place, kinds, past, columns, spare);
+    let v = candidate(h, o, k, rows, place, kinds, past, columns, spare);
+    let below = is_kept(v);
+    let far = is_wide(v);
     if equality {
         let p = opposite_above(r, undivided);
-        let upper = survives(h, p, k, rows, place, kinds, past, columns, spare);
+        let u = candidate(h, p, k, rows, place, kinds, past, columns, spare);
         return Survivors {
-            above: upper,
-            below: lower,
+            above: is_kept(u),
+            below,
+            far: far | is_wide(u),
         };
     }
     Survivors {
         above: false,
-        below: lower,
+        below,
+        far,
+    }
+}
+
+// The same by tests of the candidates alone.
+pub fn kept_alone(w: BasicSet, r: Constraint, spare: &mut [[i64; 18]]) -> Survivors
+    requires { ⌜ Roomy w × Opposed r × (length (now spare) ≡ 64) ⌝ }
+    ensures { λ x. ⌜ Keeping (basicSetOf w) (constraintOf r) x ⌝ }
+{
+    let equality = r.equality;
+    let undivided = void(r);
+    let o = opposite_below(r, undivided);
+    let below = anew(w, o, spare);
+    if equality {
+        let p = opposite_above(r, undivided);
+        let above = anew(w, p, spare);
+        return Survivors {
+            above,
+            below,
+            far: false,
+        };
+    }
+    Survivors {
+        above: false,
+        below,
+        far: false,
     }
 }
 

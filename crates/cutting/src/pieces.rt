@@ -10,6 +10,7 @@ ghost use Rattle.cutting.specs.Cutting.{Begun, Spares, Marked, Pair, Cut
 use candidates::Survivors;
 use candidates::follow;
 use candidates::kept;
+use candidates::kept_alone;
 use candidates::put;
 use candidates::start;
 use joining::join;
@@ -146,7 +147,11 @@ pub fn cut(
         }
         let e = c.constraints[k];
         let r = joining_rule(e, places, m);
-        let x = kept(h, w.divs, r, rows, place, kinds, past, &cols, spare);
+        let mut x = kept(h, w.divs, r, rows, place, kinds, past, &cols, spare);
+        let far = x.far;
+        if far {
+            x = kept_alone(w, r, spare);
+        }
         count = mark(&mut steps, count, at, x);
         let on = either(x);
         w.constraints[at] = r;
@@ -205,19 +210,17 @@ pub fn both(a: BasicSet, c: BasicSet) -> Pairing
         };
     }
     let places = j.places;
-    let mut constraints = a.constraints;
+    let mut set = a;
     let mut k = 0;
     while k < more {
         let e = c.constraints[k];
-        constraints[cons + k] = moved(e, places, m);
+        let r = moved(e, places, m);
+        set.constraints[cons + k] = r;
         k += 1;
     }
     let divisions = j.divisions;
-    let set = BasicSet {
-        divisions,
-        constraints,
-        divs: j.divs,
-        cons: cons + more,
-    };
+    set.divisions = divisions;
+    set.divs = j.divs;
+    set.cons = cons + more;
     Pairing { set, fits: true }
 }

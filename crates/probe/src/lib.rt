@@ -59,14 +59,14 @@ pub extern "C" fn probe_holder<'a>(
     )
 }
 
-// simplex::test: 0 point, 1 dropped, 2 long, 3 wide, 4 no such basic set, 100 and the number of a refusal.
+// carrying::test: 0 point, 1 dropped, 2 long, 3 wide, 4 no such basic set, 100 and the number of a refusal.
 #[no_mangle]
 pub extern "C" fn probe_test(n: usize, set: &[u8], k: usize) -> u64 {
-    let t = simplex::test(n, set, k);
+    let t = carrying::test(n, set, k);
     match t {
-        simplex::Tested::Refused(r) => 100 + r as u64,
-        simplex::Tested::NoSuchSet => 4,
-        simplex::Tested::Answers(e) => verdict(e),
+        carrying::Tested::Refused(r) => 100 + r as u64,
+        carrying::Tested::NoSuchSet => 4,
+        carrying::Tested::Answers(e) => verdict(e),
     }
 }
 
@@ -83,15 +83,15 @@ fn verdict(e: simplex::Ended) -> u64 {
 // The pivots that the test made.
 #[no_mangle]
 pub extern "C" fn probe_pivots(n: usize, set: &[u8], k: usize) -> usize {
-    let t = simplex::test(n, set, k);
+    let t = carrying::test(n, set, k);
     match t {
-        simplex::Tested::Refused(_) => 0,
-        simplex::Tested::NoSuchSet => 0,
-        simplex::Tested::Answers(e) => e.pivots,
+        carrying::Tested::Refused(_) => 0,
+        carrying::Tested::NoSuchSet => 0,
+        carrying::Tested::Answers(e) => e.pivots,
     }
 }
 
-// simplex::test_basic, so many times: the pivots of all.
+// carrying::test_basic, so many times: the pivots of all.
 fn tests(
     b: model::BasicSet,
     times: usize,
@@ -107,7 +107,7 @@ fn tests(
     let mut pivots: usize = 0;
     let mut i: usize = 0;
     while i < times {
-        let e = simplex::test_basic(b, rows, place, kinds);
+        let e = carrying::test_basic(b, rows, place, kinds);
         pivots = std::num::wrapping_add_usize(pivots, e.pivots);
         i += 1;
     }

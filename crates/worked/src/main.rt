@@ -76,7 +76,7 @@ fn on_floors() {
 fn apart(words: &[u8], c: i32) {
     with(words, &one(0x14, c, 1), &one(0x14, 0, -1));
     say(b"tested: ");
-    tested(simplex::test(1, &two(c, 1, 0, -1), 1));
+    tested(carrying::test(1, &two(c, 1, 0, -1), 1));
 }
 
 fn halves(half: &[u8]) {

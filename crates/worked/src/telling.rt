@@ -1,9 +1,9 @@
 // Answers, as lines of text.
+use carrying::Tested;
 use libc::STDOUT_FILENO;
 use operations::Outcome;
 use query::Membership;
 use search::FirstPoint;
-use simplex::Tested;
 use simplex::Verdict;
 
 pub fn say(words: &[u8]) {

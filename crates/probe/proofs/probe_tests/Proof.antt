@@ -1,7 +1,7 @@
 use mathlib.Core.Path.{sym, _∙_}
 use native.Mathlib.Omega.{arith}
 use borrow.Author.Needs.{needs}
-use Rattle.simplex.proofs.Asked.{accepted, asked-opened}
+use Rattle.carrying.proofs.Asked.{accepted, asked-opened}
 use Rattle.probe.proofs.probe_tests.Statement.{statement}
 use Rattle.probe.proofs.probe_tests.Tie as tie
 use Rattle.probe.proofs.probe_tests.Reads as reads

@@ -6,7 +6,7 @@ use Rattle.probe.proofs.tests.Statement.{statement}
 use Rattle.probe.proofs.tests.Tie as tie
 use Rattle.probe.proofs.tests.Reads as reads
 use Rattle.probe.proofs.tests.Lts as lts
-use Rattle.simplex.proofs.test_basic.Reads as test-basic-reads
+use Rattle.carrying.proofs.test_basic.Reads as test-basic-reads
 use Rattle.std.proofs.num.wrapping_add_usize.Reads as wrapping-add-usize-reads
 
 -- the tables keep their lengths

@@ -6,27 +6,32 @@ use Rattle.algebra.specs.Cut as C
 use Rattle.algebra.specs.Tighten as T
 use Rattle.algebra.proofs.Tightened.{tight-kind}
 use Rattle.candidates.specs.Candidates.{candidate, isEquality}
-use Rattle.candidates.proofs.Catching.{opposite-plain}
+use Rattle.candidates.proofs.Catching.{opposite-plain, shared-keeps, neither}
 use borrow.Author.Needs.{needs}
 use Rattle.candidates.proofs.survivors.kept.Statement.{statement}
 use Rattle.candidates.proofs.survivors.kept.Tie as tie
 use Rattle.candidates.proofs.survivors.kept.Reads as reads
 use Rattle.candidates.proofs.survivors.kept.Lts as lts
-use Rattle.candidates.proofs.survivors.survives.Reads as survives-reads
+use Rattle.candidates.proofs.alone.is_kept.Reads as is-kept-reads
+use Rattle.carrying.proofs.both.is_wide.Reads as is-wide-reads
+use Rattle.sharing.proofs.candidate.Reads as candidate-reads
 use Rattle.joining.proofs.opposite_above.Reads as opposite-above-reads
 use Rattle.joining.proofs.opposite_below.Reads as opposite-below-reads
 use Rattle.joining.proofs.void.Reads as void-reads
 
--- the start from where the opposite below is made, and that place from the answer of its test
+-- the start from where the opposite below is made, and that place from its test and its judgement
 abbrev start : tie.After-opposite-below → tie.Start
 start c = c .before .before .before .before .before
 
-abbrev lowered : tie.After-spare → tie.After-opposite-below
-lowered c = c .before .before .before
+abbrev lowered : tie.After-candidate → tie.After-opposite-below
+lowered c = c .before .before
+
+abbrev lower : tie.After-is-wide → tie.After-candidate
+lower c = c .before .before .before
 
 -- the constraint, from there
-abbrev given : tie.After-spare → Constraint
-given c = constraintOf (start (lowered c) .args .r)
+abbrev given : tie.After-is-wide → Constraint
+given c = constraintOf (start (lowered (lower c)) .args .r)
 
 void-requires : tie.Need-void-requires
 void-requires c κs = search needs
@@ -36,40 +41,54 @@ opposite-below-requires c κs =
     let p = c .before .before .before .before .pre .1 .0 in
     (p .below, p .settled (c .void .result) (c .void .ensures))
 
-survives-requires : tie.Need-survives-requires
-survives-requires c κs =
+candidate-requires : tie.Need-candidate-requires
+candidate-requires c κs =
     let l = c .before in
     let s = start l in
     let o = C.below (constraintOf (s .args .r)) in
     (s .pre .0, (opposite-plain (l .opposite-below .result) (T.tight o) (l .opposite-below .ensures) (tight-kind o), s .pre .1 .1))
 
+is-kept-requires : tie.Need-is-kept-requires
+is-kept-requires c κs = search needs
+
+is-wide-requires : tie.Need-is-wide-requires
+is-wide-requires c κs = search needs
+
 opposite-above-requires : tie.Need-opposite-above-requires
 opposite-above-requires c κs =
-    let l = lowered (c .before) in
+    let l = lowered (lower (c .before)) in
     let p = start l .pre .1 .0 in
     (c .if1 .taken, p .above (ap kindIs (c .if1 .taken)), p .settled (l .before .void .result) (l .before .void .ensures))
 
-survives-requires-2 : tie.Need-survives-requires-2
-survives-requires-2 c κs =
+candidate-requires-2 : tie.Need-candidate-requires-2
+candidate-requires-2 c κs =
     let u = c .before in
     let p = u .before .before in
-    let s = start (lowered p) in
+    let s = start (lowered (lower p)) in
     let o = C.above (given p) in
-    (s .pre .0, (opposite-plain (u .opposite-above .result) (T.tight o) (u .opposite-above .ensures) (tight-kind o), p .before .survives .kept .1 .1 .1 .1 .1 .1 .1 .1 .0 ∙ s .pre .1 .1))
+    (s .pre .0, (opposite-plain (u .opposite-above .result) (T.tight o) (u .opposite-above .ensures) (tight-kind o), lower p .candidate .kept .1 .1 .1 .1 .1 .1 .1 .1 .0 ∙ s .pre .1 .1))
+
+is-kept-requires-2 : tie.Need-is-kept-requires-2
+is-kept-requires-2 c κs = search needs
+
+is-wide-requires-2 : tie.Need-is-wide-requires-2
+is-wide-requires-2 c κs = search needs
 
 same-length : tie.Need-same-length
 same-length c = search needs
 
 returns : tie.Need-returns
 returns c =
-    let u = c .before .before .before in
+    let w = c .before .before .before in
+    let u = w .before .before in
     let p = u .before .before in
-    let r = given p in
-    let eq : isEquality (r .kind) ≡ true = ap (λ (b : Bool). isEquality (kindIs b)) (u .before .if1 .taken) in
+    let l = lower p in
+    let s = start (lowered l) in
+    let eq : isEquality (given p .kind) ≡ true = ap (λ (b : Bool). isEquality (kindIs b)) (u .before .if1 .taken) in
     record {
-      is = λ b g. record {
-        above = c .before .survives2 .ensures .is b g ∙ ap (λ o. C.keeps (candidate b o)) (u .opposite-above .ensures) ∙ sym (ap (λ (a : Bool). a && C.keeps (candidate b (T.tight (C.above r)))) eq);
-        below = p .before .survives .ensures .is b g ∙ ap (λ o. C.keeps (candidate b o)) (lowered p .opposite-below .ensures);
+      is = λ b g n. let z = neither (p .is-wide .result) (c .is-wide2 .result) n in record {
+        above = c .before .is-kept2 .ensures ∙ shared-keeps (w .candidate2 .ensures) (s .pre .0 .less) b g (sym (c .is-wide2 .ensures) ∙ z .1) ∙ ap (λ o. C.keeps (candidate b o)) (u .opposite-above .ensures) ∙ sym (ap (λ (a : Bool). a && C.keeps (candidate b (T.tight (C.above (given p))))) eq);
+        below = p .before .is-kept .ensures ∙ shared-keeps (l .candidate .ensures) (s .pre .0 .less) b g (sym (p .is-wide .ensures) ∙ z .0) ∙ ap (λ o. C.keeps (candidate b o)) (lowered l .opposite-below .ensures);
       };
     }
 
@@ -79,12 +98,13 @@ same-length-2 c = search needs
 returns-2 : tie.Need-returns-2
 returns-2 c =
     let p = c .before in
-    let r = given p in
-    let eq : isEquality (r .kind) ≡ false = ap (λ (b : Bool). isEquality (kindIs b)) (c .if1 .left) in
+    let l = lower p in
+    let s = start (lowered l) in
+    let eq : isEquality (given p .kind) ≡ false = ap (λ (b : Bool). isEquality (kindIs b)) (c .if1 .left) in
     record {
-      is = λ b g. record {
-        above = sym (ap (λ (a : Bool). a && C.keeps (candidate b (T.tight (C.above r)))) eq);
-        below = p .before .survives .ensures .is b g ∙ ap (λ o. C.keeps (candidate b o)) (lowered p .opposite-below .ensures);
+      is = λ b g n. record {
+        above = sym (ap (λ (a : Bool). a && C.keeps (candidate b (T.tight (C.above (given p))))) eq);
+        below = p .before .is-kept .ensures ∙ shared-keeps (l .candidate .ensures) (s .pre .0 .less) b g (sym (p .is-wide .ensures) ∙ n) ∙ ap (λ o. C.keeps (candidate b o)) (lowered l .opposite-below .ensures);
       };
     }
 
@@ -94,9 +114,13 @@ kept-spec =
     (tie.spec
     void-requires
     opposite-below-requires
-    survives-requires
+    candidate-requires
+    is-kept-requires
+    is-wide-requires
     opposite-above-requires
-    survives-requires-2
+    candidate-requires-2
+    is-kept-requires-2
+    is-wide-requires-2
     same-length
     returns
     same-length-2

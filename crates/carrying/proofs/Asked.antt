@@ -1,0 +1,56 @@
+-- The test of one basic set of a set's bytes. Assumes nothing.
+use mathlib.Core.Path.{_≡_, refl, sym, ap, ap₂, _∙_}
+use mathlib.Core.List.{List}
+use mathlib.Core.Option.{some}
+use Prim.Native.Nat.{ℕ, zero, suc, _+_, _-_, _≤_, _<_}
+use native.Mathlib.Omega.{arith}
+use lib.ListN.{length}
+use Rattle.model.specs.Sets.{Set}
+use Rattle.model.specs.Values.{basicSetOf}
+use Rattle.model.specs.declared.BasicSet.{BasicSet}
+use Rattle.codec.specs.Bytes.{Answer, refused, gives, decode, number}
+use Rattle.codec.specs.Places.{setFrom, Accepted, Opened, Decoded}
+use Rattle.codec.specs.Parts.{Started}
+use Rattle.codec.proofs.Boundaries.{decode-is, boundary-end, boundary-opened, turn}
+use Rattle.simplex.specs.declared.Ended.{Ended}
+use Rattle.carrying.specs.declared.Tested.the-variants.{Refused, NoSuchSet, Answers}
+use Rattle.carrying.specs.Answers.{Tests, foremost, numbered, tested, testIn, testBytes, testedOf}
+
+pub asked-refused : (n : ℕ) (s : List ℕ) (k r : ℕ) → r ≡ number (decode n s) → (r ≡ 0 → ⊥) → testedOf (Refused r) ≡ testBytes n s k
+unfolding testBytes
+asked-refused n s k r e z = at (decode n s) e
+  where
+    at : (a : Answer Set) → r ≡ number a → refused r ≡ testIn a k
+    at (refused m) q = ap refused q
+    at (gives a) q = absurd (z q)
+
+module _ (n : ℕ) (s : List ℕ) (z : number (decode n s) ≡ 0) where
+  pub accepted : Accepted s
+  accepted = record { n = n; accepted = z }
+
+  asked-is : (k : ℕ) → testBytes n s k ≡ gives (tested (numbered (setFrom s 0) k))
+  unfolding testBytes
+  asked-is k = ap (λ a. testIn a k) (decode-is n s z)
+
+  pub asked-zero : testedOf NoSuchSet ≡ testBytes n s 0
+  asked-zero = sym (asked-is 0)
+
+  positive : (k : ℕ) → (k ≡ 0 → ⊥) → k ≡ suc (k - 1)
+  positive zero h = absurd (h refl)
+  positive (suc k) h = omega arith
+
+  module _ (k : ℕ) (h : k ≡ 0 → ⊥) (at : ℕ) (st : Started s (k - 1) at) where
+    numbered-is : numbered (setFrom s 0) k ≡ foremost (setFrom s at)
+    numbered-is = ap (numbered (setFrom s 0)) (positive k h) ∙ ap foremost (sym (st .set))
+
+    pub asked-none : length s ≤ at → testedOf NoSuchSet ≡ testBytes n s k
+    asked-none l = sym (asked-is k ∙ ap (λ o. gives (tested o)) (numbered-is ∙ ap foremost (boundary-end s at l)))
+
+    module _ (l : at < length s) where
+      pub asked-opened : Opened s (at + 1)
+      asked-opened = boundary-opened (st .n) s at (st .there) l
+
+      pub asked-some : (b : BasicSet) → Decoded s (at + 1) b → (x : Ended) → Tests (basicSetOf b) x → testedOf (Answers x) ≡ testBytes n s k
+      asked-some b d x t =
+          ap₂ (λ v m. gives (some (v, m))) (t .verdict-is) (t .pivots-are)
+          ∙ sym (asked-is k ∙ ap (λ o. gives (tested o)) (numbered-is ∙ ap foremost (turn (st .n) s at (st .there) l b d .set)))

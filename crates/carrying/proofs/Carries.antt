@@ -1,0 +1,56 @@
+-- A row carried over, number by number. Assumes nothing.
+use mathlib.Core.Path.{_≡_, refl, sym, ap, subst}
+use mathlib.Core.List.{List, [], _∷_}
+use Prim.Native.Nat.{ℕ, zero, suc, _+_, _≤_, _<_}
+use native.Mathlib.Nat.{not-suc-le-zero, le-of-suc-le-suc}
+use native.Mathlib.Omega.{arith}
+use mathlib.Core.Bool.{Bool, true, false}
+use mathlib.Core.Logic.{⊎-elim}
+use borrow.Author.Tests.{eqb-true, eqb-false}
+use lib.Dec.{eqb}
+use lib.ListN.{length, getD, set, replicate}
+use lib.Seq.{getD-set-same, getD-set-other}
+use Rattle.wide.proofs.Digits.{lt-or-le}
+use Rattle.tableau.proofs.Lines.{upTo}
+use Rattle.wide_tableau.specs.Cells.{cells, words, Sheet}
+
+unfoldable pub fromList : {A : Type 0} → A → List A → ℕ → A → A
+fromList d s i x = getD s i d
+
+pub fromList-is : {A : Type 0} (d : A) (s : List A) (i : ℕ) (x : A) → fromList d s i x ≡ getD s i d
+unfolding fromList
+fromList-is d s i x = refl
+
+pub upTo-from : {A : Type 0} (d : A) (n : ℕ) (l s : List A) → length l ≤ n → length l ≡ length s → upTo (fromList d s) n l ≡ s
+unfolding upTo fromList
+upTo-from d zero [] [] h e = refl
+upTo-from d zero [] (y ∷ s) h e = absurd (omega arith)
+upTo-from d zero (x ∷ l) s h e = absurd (not-suc-le-zero h)
+upTo-from d (suc n) [] [] h e = refl
+upTo-from d (suc n) [] (y ∷ s) h e = absurd (omega arith)
+upTo-from d (suc n) (x ∷ l) [] h e = absurd (omega arith)
+upTo-from d (suc n) (x ∷ l) (y ∷ s) h e = ap (λ t. y ∷ t) (upTo-from d n l s (le-of-suc-le-suc h) (omega arith))
+
+-- the row of zeros
+pub blank : Sheet (replicate 36 0)
+unfolding cells words
+blank = record { long = refl; plain = refl }
+
+-- the first k rows of a table are sheets
+pub record Done (k : ℕ) (t : List (List ℕ)) : Type 0 where
+  pub at : (i : ℕ) → i < k → Sheet (getD t i [])
+
+pub done-none : (t : List (List ℕ)) → Done 0 t
+done-none t = record { at = λ i h. absurd (not-suc-le-zero h) }
+
+pub done-next : (k : ℕ) (t : List (List ℕ)) (r : List ℕ) → k < length t → Done k t → Sheet r → Done (k + 1) (set t k r)
+done-next k t r h d s = record { at = λ i l. at i l (eqb i k) refl }
+  where
+    at : (i : ℕ) → i < k + 1 → (b : Bool) → eqb i k ≡ b → Sheet (getD (set t k r) i [])
+    at i l true e = let q = eqb-true i k e in subst (λ (i : ℕ). Sheet (getD (set t k r) i [])) (sym q) (subst Sheet (sym (getD-set-same t k r [] h)) s)
+    at i l false e =
+        let q = eqb-false i k e in let w : i < k = lower i l q in
+        subst Sheet (sym (getD-set-other t k i r [] q)) (d .at i w)
+      where
+        lower : (i : ℕ) → i < k + 1 → (i ≡ k → ⊥) → i < k
+        lower i l q = ⊎-elim (λ x. x) (λ x. absurd (q (omega arith))) (lt-or-le i k)

@@ -1,0 +1,33 @@
+-- The run of the table at two word sizes.
+use mathlib.Core.Path.{_≡_}
+use mathlib.Core.List.{List}
+use Prim.Native.Nat.{ℕ, _-_}
+use lib.IntN.{ℤ}
+use Rattle.integers.specs.Size.{bound}
+use Rattle.simplex.specs.Table.{Ending, runTableAt}
+use mathlib.Core.Bool.{Bool, true, false}
+use Rattle.simplex.specs.declared.Verdict.{Verdict}
+use Rattle.simplex.specs.declared.Ended.{Ended}
+use Rattle.simplex.specs.declared.Verdict.the-variants.{Point, Dropped, Long, Wide}
+
+-- the run at 128 bits from (rows, place), with so many pivots left of the 200, ends in x
+pub record Went (rows : List (List ℤ)) (place kinds : List ℕ) (from : ℕ) (x : Ended) : Type 0 where
+  pub verdict-is : x .verdict ≡ runTableAt (bound 128) kinds from rows place .verdict
+  pub pivots-are : x .pivots ≡ 200 - runTableAt (bound 128) kinds from rows place .left
+
+abbrev pub isWide : Verdict → Bool
+isWide Point = false
+isWide Dropped = false
+isWide Long = false
+isWide Wide = true
+
+-- what is wide goes on at 128 bits, with the pivots left
+abbrev pub onward : List ℕ → Ending → Ending
+onward kinds o = elim (o .verdict) [ Point ↦ o | Dropped ↦ o | Long ↦ o | Wide ↦ runTableAt (bound 128) kinds (o .left) (o .rows) (o .place) ]
+
+unfoldable pub bothTable : List ℕ → List (List ℤ) → List ℕ → Ending
+bothTable kinds rows place = onward kinds (runTableAt (bound 64) kinds 200 rows place)
+
+pub record RanBoth (rows : List (List ℤ)) (place kinds : List ℕ) (x : Ended) : Type 0 where
+  pub verdict-is : x .verdict ≡ bothTable kinds rows place .verdict
+  pub pivots-are : x .pivots ≡ 200 - bothTable kinds rows place .left
