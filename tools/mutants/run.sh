@@ -1,6 +1,7 @@
 #!/usr/bin/env bash
-# Builds each deliberately wrong copy of `second` (one .sed file each) and runs the stored scripts on it:
-# a copy that none of them tells apart is a failure. Last line: 'N passed, M failed'.
+# Builds each deliberately wrong copy of `second` (one .sed file each) and runs the stored scripts on it, and the stored
+# calls where these have nothing against it: a copy that none of them tells apart is a failure.
+# Last line: 'N passed, M failed'.
 set -u
 here=$(cd "$(dirname "$0")" && pwd)
 tools=$(dirname "$here")
@@ -23,8 +24,14 @@ build() {
     cargo build --quiet --offline -j1 --manifest-path "$work/second/Cargo.toml" --target-dir "$work/target"
 }
 
-stored_scripts() {
-    "$hexscript" run "$work/target/debug/second" -- "$tools"/../tests/scripts/*.txt 2>&1 | tail -n 1
+# The closing line of the stored scripts or, where all of them pass, of the stored calls.
+stored_cases() {
+    local last
+    last=$("$hexscript" run "$work/target/debug/second" -- "$tools"/../tests/scripts/*.txt 2>&1 | tail -n 1)
+    if [[ $last == *" 0 failed" ]]; then
+        last=$("$hexscript" calls "$work/target/debug/second" calls -- "$tools"/../tests/calls/*.txt 2>&1 | tail -n 1)
+    fi
+    echo "$last"
 }
 
 fail() {
@@ -34,10 +41,10 @@ fail() {
 
 # The unchanged copy must pass, or being caught would mean nothing.
 copy
-if build && [[ $(stored_scripts) == *" 0 failed" ]]; then
+if build && [[ $(stored_cases) == *" 0 failed" ]]; then
     passed=$((passed + 1))
 else
-    fail "the unchanged copy does not pass the stored scripts"
+    fail "the unchanged copy does not pass the stored scripts and calls"
 fi
 
 for edit in "$here"/*.sed; do
@@ -51,12 +58,12 @@ for edit in "$here"/*.sed; do
     elif ! build; then
         fail "$name: does not build"
     else
-        result=$(stored_scripts)
+        result=$(stored_cases)
         echo "$name: $result"
         if [[ $result == *" failed" && $result != *" 0 failed" ]]; then
             passed=$((passed + 1))
         else
-            fail "$name: no stored script tells it apart"
+            fail "$name: no stored script or call tells it apart"
         fi
     fi
 done

@@ -6,6 +6,7 @@ use crate::model::{encode, Set};
 use crate::queries::{any_box, any_limit, any_point, widest_box};
 use crate::rng::Rng;
 use crate::sets::World;
+use crate::wider;
 use hexscript::tokens::hex;
 
 pub const KINDS: [&str; 10] = [
@@ -77,7 +78,7 @@ fn search(rng: &mut Rng, world: &World) -> String {
 fn test(rng: &mut Rng, world: &World) -> String {
     let (n, set): (usize, Set) = match rng.below(20) {
         0 => {
-            let (n, basic) = hard::near(rng);
+            let (n, basic) = if rng.chance(20) { wider::slow(rng) } else { hard::near(rng) };
             (n, vec![basic])
         }
         1 => (world.n, world.near_limit(rng, false)),
@@ -85,7 +86,11 @@ fn test(rng: &mut Rng, world: &World) -> String {
             let n = 2 + rng.below(5); // more axes, more pivots
             (n, vec![World::with_axes(rng, n).dense(rng)])
         }
-        7..=10 => (world.n, vec![world.wide(rng)]),
+        7 | 8 => (world.n, vec![world.wide(rng)]),
+        9 | 10 => {
+            let (n, basic) = wider::quick(rng);
+            (n, vec![basic])
+        }
         11 => (world.n, world.any(rng)),
         _ => (world.n, vec![world.small(rng), vec![world.boxed(rng)]].concat()),
     };
@@ -107,10 +112,11 @@ fn operands(rng: &mut Rng, world: &World, kind: &str) -> (usize, Set, Set) {
             (world.n, first, second)
         }
         7..=10 => (world.n, vec![world.wide(rng)], world.small(rng)),
-        11..=26 => {
+        11..=24 => {
             let (first, second) = world.half_slots(rng, kind == "difference");
             (world.n, first, second)
         }
+        25..=28 => wider::operands(rng, kind),
         _ => (world.n, world.any(rng), world.any(rng)),
     }
 }

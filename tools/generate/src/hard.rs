@@ -1,4 +1,4 @@
-//! The stored basic sets that need about 200 pivots, and changes of them.
+//! The stored basic sets that need about 200 pivots, changes of them, and the same pivots over larger numbers.
 
 use crate::model::{Basic, Division, Rule};
 use crate::rng::Rng;
@@ -64,4 +64,33 @@ pub fn near(rng: &mut Rng) -> (usize, Basic) {
         change(rng, n, &mut basic);
     }
     (n, basic)
+}
+
+/// A coefficient times a factor; nothing where it would leave its range.
+fn scaled(coefficient: i16, factor: i32) -> Option<i16> {
+    let product = i32::from(coefficient).checked_mul(factor)?;
+    i16::try_from(product).ok().filter(|&k| k != i16::MIN)
+}
+
+/// The same pivots over larger numbers: each constant times k, each divisor d put up to k(d - 1) + 1, the coefficients
+/// of its division times the quotient of the two, which is a whole number where d divides k - 1. So the constants of
+/// the tableau are k times the old ones, those of the bounds too, and its columns positive multiples: every sign stays,
+/// and with it every choice. Nothing where a number would leave its range.
+pub fn spread(basic: &Basic, k: i32) -> Option<Basic> {
+    let mut out = basic.clone();
+    let mut factors = [1; 8];
+    for (division, factor) in out.divisions.iter_mut().zip(&mut factors) {
+        let d = i32::from(division.d);
+        let larger = k.checked_mul(d - 1)?.checked_add(1)?;
+        *factor = larger / d;
+        division.d = u16::try_from(larger).ok().filter(|&d| d <= 32_767)?;
+        division.c = division.c.checked_mul(k).filter(|c| c.unsigned_abs() <= 1_000_000_000)?;
+    }
+    for rule in &mut out.rules {
+        rule.constant = rule.constant.checked_mul(k).filter(|&c| !rule.equality || c != i32::MIN)?;
+        for (coefficient, factor) in rule.divisions.iter_mut().zip(factors) {
+            *coefficient = scaled(*coefficient, factor)?;
+        }
+    }
+    Some(out)
 }

@@ -3,6 +3,7 @@
 use crate::{calls, events, scripts};
 use hexscript::tokens::unhex;
 use second::algebra::{complement, difference, intersection, union, Watch};
+use second::test::test;
 use second::{parse, BasicSet, Outcome, Set};
 use std::collections::BTreeMap;
 
@@ -13,11 +14,31 @@ pub(crate) fn bump(counts: &mut Counts, name: &str) {
     *counts.entry(name.to_string()).or_default() += 1;
 }
 
+/// The answers of a test.
+pub const ANSWERS: [&str; 4] = ["point", "dropped", "long", "wide"];
+
+/// Where a test can be carried into 128 bits: by a call of its own, and by the operations with candidates.
+const TESTING: [&str; 4] = ["test", "intersection", "difference", "complement"];
+
+/// The name of a carried test by what makes it and by its answer.
+pub fn carried(kind: &str, answer: &str) -> String {
+    format!("{kind} carried, {answer}")
+}
+
 /// Every name that has to occur.
 pub fn wanted() -> Vec<String> {
     let refusals = (1..=15).map(|k| format!("refused {k}"));
-    let others = ["test point", "test dropped", "test long", "test wide", "search at", "search none", "search spent"];
-    refusals.chain(others.into_iter().chain(events::EVENTS).map(str::to_string)).collect()
+    let tests = ANSWERS.iter().map(|answer| format!("test {answer}"));
+    let others = ["search at", "search none", "search spent"];
+    let carried = TESTING.iter().flat_map(|kind| ANSWERS.map(|answer| carried(kind, answer)));
+    refusals.chain(tests).chain(others.into_iter().chain(events::EVENTS).map(str::to_string)).chain(carried).collect()
+}
+
+/// Counts a test that was carried into 128 bits.
+fn count_carried(kind: &str, outcome: Outcome, counts: &mut Counts) {
+    if outcome.carried.is_some() {
+        bump(counts, &carried(kind, outcome.answer.word()));
+    }
 }
 
 /// Counts the refusals and search outcomes of a script's output, line by line.
@@ -52,15 +73,33 @@ fn commands(script: &[u8]) -> Vec<&[u8]> {
     out
 }
 
-/// The set that a command gives, every candidate shown to `watch`.
+/// The operation of a command, if it is one that tests candidates.
+fn kind_of(command: &[u8]) -> &'static str {
+    match command[0] {
+        0x42 => "intersection",
+        0x43 => "difference",
+        0x44 => "complement",
+        _ => "",
+    }
+}
+
+/// The result of such an operation, every candidate shown to `watch`.
+fn operate(kind: &str, a: &Set, b: &Set, watch: &mut Watch) -> Option<Set> {
+    match kind {
+        "intersection" => intersection(a, b, watch).ok(),
+        "difference" => difference(a, b, watch).ok(),
+        "complement" => complement(a, watch).ok(),
+        _ => None,
+    }
+}
+
+/// The set that a command gives.
 fn result(n: u8, command: &[u8], sets: &[Set], watch: &mut Watch) -> Option<Set> {
     let set = |i: usize| sets.get(usize::from(command[i]));
     match command[0] {
         0x40 => parse(n, &command[4..]).ok(),
         0x41 => union(set(2)?, set(3)?).ok(),
-        0x42 => intersection(set(2)?, set(3)?, watch).ok(),
-        0x43 => difference(set(2)?, set(3)?, watch).ok(),
-        0x44 => complement(set(2)?, watch).ok(),
+        0x42..=0x44 => operate(kind_of(command), set(2)?, set(command.len() - 1)?, watch),
         _ => None,
     }
 }
@@ -84,17 +123,15 @@ fn count_tests(script: &[u8], counts: &mut Counts) {
         if target > 3 {
             continue;
         }
-        let kind = match command[0] {
-            0x42 => "intersection",
-            0x43 => "difference",
-            0x44 => "complement",
-            _ => "",
-        };
+        let kind = kind_of(command);
         let set = |i: usize| command.get(i).and_then(|&number| sets.get(usize::from(number)));
         if let (Some(a), Some(b)) = (set(2), set(command.len() - 1)) {
             count_events(kind, a, b, counts);
         }
-        let mut watch = |_: &BasicSet, outcome: Outcome| bump(counts, &format!("test {}", outcome.answer.word()));
+        let mut watch = |_: &BasicSet, outcome: Outcome| {
+            bump(counts, &format!("test {}", outcome.answer.word()));
+            count_carried(kind, outcome, counts);
+        };
         if let Some(set) = result(n, command, &sets, &mut watch) {
             if second::encode(&set).len() <= 8_000 {
                 sets[target] = set;
@@ -113,21 +150,43 @@ pub fn of_scripts(count: u64, seed: u64) -> Counts {
     counts
 }
 
-/// Counts what the operation of a call tightens, where its sets are good.
-fn count_call(call: &str, counts: &mut Counts) {
+/// Counts what the operation of a call tightens and carries, where its sets are good.
+fn count_operation(call: &str, counts: &mut Counts) {
     let words: Vec<&str> = call.split(' ').collect();
     let [kind, n, _, first, ..] = words[..] else { return };
     let set = |word: &str| parse(n.parse().ok()?, &unhex(word)?).ok();
     if let (Some(a), Some(b)) = (set(first), set(words[words.len() - 1])) {
         count_events(kind, &a, &b, counts);
+        operate(kind, &a, &b, &mut |_: &BasicSet, outcome: Outcome| count_carried(kind, outcome, counts));
     }
+}
+
+/// What comes of a call of the test, where its set is good and has that basic set.
+fn tested(call: &str) -> Option<Outcome> {
+    let words: Vec<&str> = call.split(' ').collect();
+    let ["test", n, set, k] = words[..] else { return None };
+    let set = parse(n.parse().ok()?, &unhex(set)?).ok()?;
+    let basic = set.basics.get(k.parse::<usize>().ok()?.checked_sub(1)?)?;
+    Some(test(set.n, basic))
+}
+
+/// The carried ones among so many calls of the test.
+pub fn of_tests(count: u64, seed: u64) -> Counts {
+    let mut counts = Counts::new();
+    for outcome in (0..count).filter_map(|index| tested(&calls::call(seed, index, &["test"]))) {
+        count_carried("test", outcome, &mut counts);
+    }
+    counts
 }
 
 pub fn of_calls(count: u64, seed: u64) -> Counts {
     let mut counts = Counts::new();
     for index in 0..count {
         let call = calls::call(seed, index, &calls::KINDS);
-        count_call(&call, &mut counts);
+        count_operation(&call, &mut counts);
+        if let Some(outcome) = tested(&call) {
+            count_carried("test", outcome, &mut counts);
+        }
         let answer = second::run_call(&call);
         let kind = call.split(' ').next().unwrap_or("");
         let words: Vec<&str> = answer.split(' ').collect();

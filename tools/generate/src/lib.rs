@@ -1,4 +1,5 @@
-//! Seeded scripts and calls that reach every refusal, test answer and search outcome, and all that tightening does.
+//! Seeded scripts and calls that reach every refusal, test answer and search outcome, all that tightening does, and
+//! every answer of tests that are carried into 128 bits.
 
 pub mod calls;
 pub mod damage;
@@ -11,3 +12,4 @@ pub mod rng;
 pub mod scripts;
 pub mod sets;
 pub mod slots;
+pub mod wider;

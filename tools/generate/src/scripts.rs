@@ -6,6 +6,7 @@ use crate::model::{encode, Basic, Set};
 use crate::queries::{any_box, any_limit, any_point, widest_box};
 use crate::rng::Rng;
 use crate::sets::World;
+use crate::wider;
 
 /// A script under construction.
 struct Script {
@@ -141,6 +142,25 @@ fn slots(rng: &mut Rng) -> Vec<u8> {
     script.end()
 }
 
+/// Operations with candidates that are wide at 64 bits; a result is cut or met once more.
+fn wider_numbers(rng: &mut Rng) -> Vec<u8> {
+    let kind = rng.pick(&["intersection", "difference", "complement"]);
+    let (n, first, second) = wider::operands(rng, kind);
+    let mut script = Script::new(n);
+    script.load(0, &encode(&first));
+    script.load(1, &encode(&second));
+    match kind {
+        "intersection" => script.operation(0x42, 2, 0, 1),
+        "difference" => script.operation(0x43, 2, 0, 1),
+        _ => script.complement(2, 0),
+    }
+    script.list(2);
+    script.operation(rng.pick(&[0x42, 0x43]), 3, 2, rng.below(2));
+    script.list(3);
+    script.member(2, rng);
+    script.end()
+}
+
 /// Sets near 32, 8 and 48, and results near them and near 8,000 bytes.
 fn limits(rng: &mut Rng) -> Vec<u8> {
     let world = World::new(rng);
@@ -209,10 +229,11 @@ fn bad_script(rng: &mut Rng) -> Vec<u8> {
 pub fn script(seed: u64, index: u64) -> Vec<u8> {
     let rng = &mut Rng::of(seed, index);
     match rng.below(100) {
-        0..=29 => mixed(rng),
-        30..=41 => chain(rng),
-        42..=54 => slots(rng),
-        55..=59 => pivots(rng),
+        0..=27 => mixed(rng),
+        28..=37 => chain(rng),
+        38..=50 => slots(rng),
+        51..=55 => pivots(rng),
+        56..=59 => wider_numbers(rng),
         60..=69 => limits(rng),
         70..=84 => bad_sets(rng),
         _ => bad_script(rng),

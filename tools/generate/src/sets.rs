@@ -83,7 +83,7 @@ impl World {
         Basic { divisions, rules }
     }
 
-    /// Numbers near the ends of their ranges, so that the test becomes wide.
+    /// Numbers near the ends of their ranges, so that the test becomes wide at 64 bits, and at times at 128.
     pub fn wide(&self, rng: &mut Rng) -> Basic {
         let count = rng.below(3);
         let mut basic = Basic::default();

@@ -17,7 +17,7 @@ fn times(numbers: &[i16; 8], g: i16) -> Option<[i16; 8]> {
 }
 
 /// The rule with its coefficients times g, its constant too or not; nothing where a number would leave its range.
-fn multiplied(rule: &Rule, g: i16, constant_too: bool) -> Option<Rule> {
+pub(crate) fn multiplied(rule: &Rule, g: i16, constant_too: bool) -> Option<Rule> {
     let factor = if constant_too { i32::from(g) } else { 1 };
     let constant = rule.constant.checked_mul(factor).filter(|&c| !rule.equality || c != i32::MIN)?;
     Some(Rule { constant, axes: times(&rule.axes, g)?, divisions: times(&rule.divisions, g)?, ..*rule })
@@ -53,14 +53,14 @@ fn put(rng: &mut Rng, basic: &mut Basic, rule: Rule) {
 }
 
 /// One axis with the coefficient 1.
-fn unit(axis: usize) -> [i16; 8] {
+pub(crate) fn unit(axis: usize) -> [i16; 8] {
     let mut axes = [0; 8];
     axes[axis] = 1;
     axes
 }
 
 /// An inequality with these coefficients and the constant 0.
-fn rule_of(axes: [i16; 8]) -> Rule {
+pub(crate) fn rule_of(axes: [i16; 8]) -> Rule {
     Rule { equality: false, constant: 0, axes, divisions: [0; 8] }
 }
 

@@ -7,6 +7,7 @@ use crate::walk::Walk;
 use generate::model::{self, encode, Rule};
 use generate::rng::Rng;
 use generate::sets::World;
+use generate::wider;
 use hexscript::tokens::{hex, unhex};
 use std::rc::Rc;
 
@@ -284,10 +285,8 @@ fn candidate(rng: &mut Rng, first: &model::Basic, cutter: &model::Basic) -> mode
     out
 }
 
-/// The test of tightened rules against elimination. Every number of such a tableau is at most a determinant of 8 rows,
-/// each no longer than 13 (tight coefficients up to 3 and divisors up to 6, constants up to 10, or up to 12 beside one
-/// coefficient of 1), so by Hadamard's inequality at most 13^8, inside the bound: wide is wrong here.
-fn test(n: usize, basic: model::Basic) -> Check {
+/// The test of a basic set against elimination; on numbers small enough it is never wide.
+fn test(n: usize, basic: model::Basic, may_be_wide: bool) -> Check {
     let call = format!("test {n} {} 1", hex(&encode(std::slice::from_ref(&basic))));
     let judge = move |answer: &str| {
         let set = meaning(std::slice::from_ref(&basic));
@@ -295,11 +294,25 @@ fn test(n: usize, basic: model::Basic) -> Check {
             (Some("point"), Some(found)) => verdict(found, || "has no point with fractions".to_string()),
             (Some("dropped"), Some(found)) => verdict(!found, || "has a point with fractions".to_string()),
             (Some("point" | "dropped"), None) => Verdict::Untold,
+            (Some("wide"), _) if may_be_wide => Verdict::Untold,
             _ if answer == "long 200" => Verdict::Untold,
             _ => Verdict::Bad("neither point nor dropped".to_string()),
         }
     };
     Check { call, judge: Box::new(judge) }
+}
+
+/// The test of tightened rules. Every number of such a tableau is at most a determinant of 8 rows, each no longer than
+/// 13 (tight coefficients up to 3 and divisors up to 6, constants up to 10, or up to 12 beside one coefficient of 1),
+/// so by Hadamard's inequality at most 13^8, inside the bound of 64 bits: wide is wrong here.
+fn test_small(n: usize, tight: model::Basic) -> Check {
+    test(n, tight, false)
+}
+
+/// The test of larger numbers, wide at 64 bits more often than not, and at times at 128 too.
+fn test_wider(rng: &mut Rng) -> Check {
+    let (n, basic) = wider::quick(rng);
+    test(n, basic, true)
 }
 
 /// The checks of case number `index` of a seed.
@@ -314,9 +327,10 @@ pub fn checks(seed: u64, index: u64) -> Vec<Check> {
     for first in &case.a {
         let cut = case.b.iter().map(|cutter| candidate(rng, first, cutter));
         for basic in std::iter::once(first.clone()).chain(cut) {
-            out.extend(tightened(&basic).map(|tight| test(case.n, tight)));
+            out.extend(tightened(&basic).map(|tight| test_small(case.n, tight)));
             out.push(case.dropping(basic));
         }
     }
+    out.push(test_wider(rng));
     out
 }

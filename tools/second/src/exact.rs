@@ -6,9 +6,10 @@
 //!   size at any point or box of "Asking"; a division's value is no larger; a
 //!   rule is at most 2^31 + 8 · 2^15 · 2^20 + 8 · 2^15 · 2^39 < 2^58. (Even
 //!   coordinates of any 32 bits would keep a rule below 2^70.)
-//! * In the test for fractions step 4 lets only numbers of at most 2^31 − 1
-//!   into an exchange, which makes sums of two products: below 2^63. Numbers
-//!   that are larger are only looked at (sign, zero or not, beyond the bound).
+//! * In the test for fractions step 4 lets only numbers of at most 2^31 − 1,
+//!   or 2^63 − 1 after request 9's carry, into an exchange, which makes sums of
+//!   two products: below 2^63, or 2^127. Numbers that are larger are only looked
+//!   at (sign, zero or not, beyond the bound).
 
 #[inline]
 pub fn add(a: i128, b: i128) -> i128 {

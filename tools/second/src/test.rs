@@ -1,11 +1,15 @@
 //! "The test for fractions": a tableau of whole-number rows, each with its
-//! own denominator, exchanged by the numbered steps.
+//! own denominator, exchanged by the numbered steps; request 9, "Wider numbers
+//! without starting over", carries it on where step 4 would have it wide.
 
 use crate::exact::{add, gcd, mul};
 use crate::model::{BasicSet, Kind};
 
 pub const PIVOT_LIMIT: u32 = 200;
-pub const BOUND: i128 = 2_147_483_647;
+/// Document 000's bound for numbers of 64 bits, 2^31 − 1.
+pub const BOUND_64: i128 = 2_147_483_647;
+/// The same for 128 bits, 2^63 − 1.
+pub const BOUND_128: i128 = 9_223_372_036_854_775_807;
 
 #[derive(Clone, Copy, Debug, PartialEq, Eq, Hash)]
 pub enum Answer {
@@ -30,7 +34,10 @@ impl Answer {
 #[derive(Clone, Copy, Debug, PartialEq, Eq, Hash)]
 pub struct Outcome {
     pub answer: Answer,
+    /// At 64 and at 128 bits together.
     pub pivots: u32,
+    /// The pivots made before the tableau was carried, if it was.
+    pub carried: Option<u32>,
 }
 
 impl Outcome {
@@ -47,25 +54,37 @@ pub fn test(n: usize, basic: &BasicSet) -> Outcome {
 
 /// The same with another limit of pivots, or with none.
 pub fn test_limited(n: usize, basic: &BasicSet, limit: Option<u32>) -> Outcome {
+    test_bounded(n, basic, limit, [BOUND_64, BOUND_128])
+}
+
+/// The same with other bounds for step 4, before the carry and after it; with
+/// two equal ones a carry changes nothing.
+pub fn test_bounded(
+    n: usize,
+    basic: &BasicSet,
+    limit: Option<u32>,
+    [first, wider]: [i128; 2],
+) -> Outcome {
     let mut tableau = Tableau::new(n, basic);
-    let mut pivots = 0;
-    loop {
-        // Each line is one numbered step, in the document's order.
-        let Some(row) = tableau.lowest_violated_row() else {
-            return Outcome { answer: Answer::Point, pivots };
-        };
-        let Some(column) = tableau.lowest_helping_column(row) else {
-            return Outcome { answer: Answer::Dropped, pivots };
-        };
+    let (mut pivots, mut carried) = (0, None);
+    let answer = loop {
+        // The numbered steps, in the document's order.
+        let Some(row) = tableau.lowest_violated_row() else { break Answer::Point };
+        let Some(column) = tableau.lowest_helping_column(row) else { break Answer::Dropped };
         if limit == Some(pivots) {
-            return Outcome { answer: Answer::Long, pivots };
+            break Answer::Long;
         }
-        if tableau.is_wide(row, column) {
-            return Outcome { answer: Answer::Wide, pivots };
+        if carried.is_none() && tableau.is_wide(row, column, first) {
+            // "carry the tableau as it is .. and go on from that very pivot"
+            carried = Some(pivots);
+        }
+        if carried.is_some() && tableau.is_wide(row, column, wider) {
+            break Answer::Wide;
         }
         tableau.exchange(row, column);
         pivots += 1;
-    }
+    };
+    Outcome { answer, pivots, carried }
 }
 
 /// What a variable may be: anything, at least 0 (inequality or bound), 0.
@@ -100,8 +119,8 @@ impl Row {
         ends.into_iter().chain(self.entries.iter().copied())
     }
 
-    fn beyond_bound(&self) -> bool {
-        self.numbers().any(|number| !(-BOUND..=BOUND).contains(&number))
+    fn is_beyond(&self, bound: i128) -> bool {
+        self.numbers().any(|number| !(-bound..=bound).contains(&number))
     }
 
     /// "made positive, and is divided by the common divisor of all its numbers"
@@ -113,7 +132,7 @@ impl Row {
                 break;
             }
         }
-        // Numbers stay below 2^63 (see `exact`), and so does their divisor.
+        // Numbers stay below 2^127 (see `exact`), and so does their divisor.
         let divisor = divisor as i128;
         let divisor = if self.denominator < 0 { -divisor } else { divisor };
         if divisor == 1 {
@@ -198,12 +217,12 @@ impl Tableau {
     }
 
     /// Step 4; the row itself has a nonzero entry in a helping column.
-    fn is_wide(&self, row: usize, column: usize) -> bool {
-        self.rows[row].beyond_bound()
+    fn is_wide(&self, row: usize, column: usize, bound: i128) -> bool {
+        self.rows[row].is_beyond(bound)
             || self
                 .rows
                 .iter()
-                .any(|other| other.entries[column] != 0 && other.beyond_bound())
+                .any(|other| other.entries[column] != 0 && other.is_beyond(bound))
     }
 
     /// Step 5: the column's variable becomes the row's, and the other way.

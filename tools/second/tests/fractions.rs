@@ -2,9 +2,18 @@
 
 mod common;
 use common::*;
+use second::parse;
+use second::test::{test_bounded, BOUND_64, PIVOT_LIMIT};
 
 fn answer(n: usize, lines: &str) -> String {
     tested(n as u8, &set(n, lines))
+}
+
+/// The same by document 01 alone: without a carry, wide at 64 bits is the answer.
+fn answer_64(n: usize, lines: &str) -> String {
+    let set = parse(n as u8, &set(n, lines)).expect("a good set");
+    let outcome = test_bounded(n, &set.basics[0], Some(PIVOT_LIMIT), [BOUND_64; 2]);
+    format!("{} {}", outcome.answer.word(), outcome.pivots)
 }
 
 #[test]
@@ -42,8 +51,8 @@ fn bounds_of_divisions_are_rows() {
 
 #[test]
 fn the_number_test_takes_entries_constants_and_denominators() {
-    assert_eq!(answer(1, "basic; ge -2147483647 1"), "point 1");
-    assert_eq!(answer(1, "basic; ge -2147483648 1"), "wide 0");
+    assert_eq!(answer_64(1, "basic; ge -2147483647 1"), "point 1");
+    assert_eq!(answer_64(1, "basic; ge -2147483648 1"), "wide 0");
     // With D = 32,767 · 32,749 + 1 = 1,073,086,484:
     //   x1 = (1 + x2 + s1) / 32,767,
     //   x2 = (32,766 − s1 + 32,767·s2) / D,
@@ -51,8 +60,8 @@ fn the_number_test_takes_entries_constants_and_denominators() {
     let chain = |k: i32| {
         format!("basic; ge -1 32767 -1 0; ge -1 1 32749 0; ge -1 0 1 {k}")
     };
-    assert_eq!(answer(3, &chain(1)), "point 3");
-    assert_eq!(answer(3, &chain(2)), "point 3");
-    assert_eq!(answer(3, &chain(3)), "wide 2");
-    assert_eq!(answer(3, &chain(-3)), "wide 2");
+    assert_eq!(answer_64(3, &chain(1)), "point 3");
+    assert_eq!(answer_64(3, &chain(2)), "point 3");
+    assert_eq!(answer_64(3, &chain(3)), "wide 2");
+    assert_eq!(answer_64(3, &chain(-3)), "wide 2");
 }

@@ -33,10 +33,12 @@ fn read_hard(block: &str) -> Hard {
 fn without_the_limit_as_the_headings_say() {
     let sets = hard_sets();
     let counts: Vec<u32> = sets.iter().map(|hard| hard.pivots).collect();
-    assert_eq!(counts, [199, 200, 201, 243]);
+    assert_eq!(counts, [199, 200, 229, 243]);
     for hard in sets {
         let outcome = test_limited(hard.n, &hard.basic, None);
         assert_eq!((outcome.answer.word(), outcome.pivots), (&*hard.answer, hard.pivots));
+        // One of them is wide at 64 bits, behind the limit.
+        assert_eq!(outcome.carried, (hard.pivots == 229).then_some(201));
     }
 }
 

@@ -136,11 +136,13 @@ fn reading_10_pieces_between_cutters_have_no_limit() {
 
 #[test]
 fn reading_11_only_touched_rows_are_judged() {
-    // The second row is beyond the bound but not touched by the first pivot.
-    let apart = set(2, "basic; ge -1 1 0; ge -2147483648 0 1");
-    assert_eq!(tested(2, &apart), "wide 1");
-    let touched = set(2, "basic; ge -1 1 0; ge -2147483648 1 1");
-    assert_eq!(tested(2, &touched), "wide 0");
+    // x ≥ 2^31, y ≥ 2^14·x, z ≥ 2^14·y, and a last row with the constant −2^63,
+    // which the pivot of v ≥ 1 does not touch.
+    let high = "basic; ge -2147483648 1 0 0 0 0; ge 0 -16384 1 0 0 0; ge 0 0 -16384 1 0 0";
+    let apart = set(5, &format!("{high}; ge -1 0 0 0 1 0; ge 0 0 0 -16 0 1"));
+    assert_eq!(tested(5, &apart), "wide 4");
+    let touched = set(5, &format!("{high}; ge -1 0 0 0 1 0; ge 0 0 0 -16 1 1"));
+    assert_eq!(tested(5, &touched), "wide 3");
     // Nor does it matter where no pivot is needed, or none helps.
     assert_eq!(tested(1, &set(1, "basic; ge 2147483647 1")), "point 0");
     assert_eq!(tested(1, &set(1, "basic; ge -2147483648 0")), "dropped 0");
