@@ -2,7 +2,8 @@
 # The engine before and after a change, in another clone of this repository (before) and here (after): instructions,
 # time and basic sets of the results. Both are linked with the harness here and run over the same workloads, in turns.
 #
-#   bench/peers/compare.sh CLONE                         dispatch and slots: difference, complement, intersection, chain
+#   bench/peers/compare.sh CLONE                         dispatch, slots, weeks: difference, complement, intersection,
+#                                                        chain
 #   bench/peers/compare.sh CLONE big:difference,chain    FAMILY:OPERATION,.. instead, any number of them
 #   CASES=24 ROUNDS=21 SEED=7 ..                         cases (default 100), rounds of time (9), other workloads (1)
 #   STAGES="time table" ..                               some of: build make time count table
@@ -21,7 +22,7 @@ out=target/bench/compare
 . bench/peers/steps.sh
 cutting=difference,complement,intersection,chain
 works=("$@")
-[ $# -ge 1 ] || works=("dispatch:$cutting" "slots:$cutting")
+[ $# -ge 1 ] || works=("dispatch:$cutting" "slots:$cutting" "weeks:$cutting")
 mkdir -p $out
 
 build() {

@@ -6,6 +6,7 @@
 #   bench/peers/run.sh          everything
 #   bench/peers/run.sh quick    fewer cases; within 5 minutes where the crates are proved already
 #   SEED=7 ..                   other workloads (default 1)
+#   FAMILIES="weeks big" ..     some of: tiny dispatch slots weeks limit big
 #   STAGES="time table" ..      some of: install build make check time count table
 #
 # It needs rt on the PATH. What it builds and writes is under target/bench/peers; the tables are in its table.md. Exit status 1: the engine was wrong.
@@ -13,21 +14,23 @@ set -eu -o pipefail
 cd "$(dirname "$0")/../.."
 mode=${1:-full}
 stages=${STAGES:-install build make check time count table}
+families=${FAMILIES:-tiny dispatch slots weeks limit big}
 out=target/bench/peers
 . bench/peers/steps.sh
 operations="union intersection difference complement chain empty subset first member prepared"
 checked="union intersection difference complement chain empty subset first"
 mkdir -p $out
 case $mode in
-  full) timed="dispatch dispatch dispatch slots limit big" readings=5 seconds=20 counted=12
-    declare -A cases=([dispatch]=100 [slots]=100 [limit]=24 [big]=24)
-    declare -A judged=([tiny]=600 [dispatch]=60 [slots]=60 [limit]=12 [big]=24);;
-  quick) timed="dispatch slots limit big" readings=3 seconds=3 counted=3
-    declare -A cases=([dispatch]=24 [slots]=24 [limit]=6 [big]=4)
-    declare -A judged=([tiny]=80 [dispatch]=8 [slots]=8 [limit]=3 [big]=3);;
+  full) timed="dispatch dispatch dispatch slots weeks limit big" readings=5 seconds=20 counted=12
+    declare -A cases=([dispatch]=100 [slots]=100 [weeks]=100 [limit]=24 [big]=24)
+    declare -A judged=([tiny]=600 [dispatch]=60 [slots]=60 [weeks]=60 [limit]=12 [big]=24);;
+  quick) timed="dispatch slots weeks limit big" readings=3 seconds=3 counted=3
+    declare -A cases=([dispatch]=24 [slots]=24 [weeks]=16 [limit]=6 [big]=4)
+    declare -A judged=([tiny]=80 [dispatch]=8 [slots]=8 [weeks]=8 [limit]=3 [big]=3);;
   *) sed -n '2,/^set/s/^# \{0,1\}//p' "$0"; exit 2;;
 esac
 
+among() { [[ " $families " == *" $1 "* ]]; }
 columns() { for c in isl isl32 mlir19 pitsets; do [ -x $out/$c ] && echo $c; done; }
 
 install_packages() {
@@ -70,16 +73,17 @@ build() {
   for c in $(columns); do $out/$c version | grep .; done >$out/versions.txt
 }
 
-# asked FAMILY OPERATION..: the operations, without the first point where the box is too large for every column (big) or for a quick run (limit)
+# asked FAMILY OPERATION..: the operations, without the first point where the box is too large for every column (big),
+# for a walk over its seconds (weeks) or for a quick run (limit)
 asked() {
   local family=$1
   shift
-  case $family-$mode in big-*|limit-quick) echo "${@/first/}";; *) echo "$@";; esac
+  case $family-$mode in big-*|weeks-*|limit-quick) echo "${@/first/}";; *) echo "$@";; esac
 }
 
 check() {
   : >$out/check.csv
-  for f in tiny dispatch slots limit big; do
+  for f in $families; do
     for c in $(columns); do
       say "check $f: ${judged[$f]} cases, $c"
       $out/$c check $out/$f.work ${judged[$f]} $seconds $(asked $f $checked) >>$out/check.csv
@@ -93,6 +97,7 @@ time_columns() {
   : >$out/time.csv
   machine >$out/machine.txt
   for f in $timed; do
+    among $f || continue
     for o in $(asked $f $operations); do
       say "time $f: ${cases[$f]} cases, $o"
       for c in $(columns); do $out/$c time $out/$f.work $o ${cases[$f]} $readings $seconds >>$out/time.csv; done
@@ -118,7 +123,7 @@ if has build; then build; fi
 if has make; then make_workloads; fi
 if has check; then check; fi
 if has time; then time_columns; fi
-if has count; then count; fi
+if has count && among dispatch; then count; fi
 if has table; then
   say "done"
   python3 $here/table.py table $out $mode $seed | tee $out/table.md

@@ -44,6 +44,7 @@ make_workloads() {
   $out/workload limit $((seed + 2)) 24 $out/limit.work
   $out/workload big $((seed + 3)) 24 $out/big.work
   $out/workload slots $((seed + 4)) 100 $out/slots.work
+  $out/workload weeks $((seed + 5)) 100 $out/weeks.work
 }
 
 machine() {

@@ -11,7 +11,7 @@ import sys
 OURS = "pitsets"
 PEERS = ["isl", "isl32", "mlir19"]
 BUILDS = ["before", "after"]  # of compare.sh
-FAMILIES = ["dispatch", "slots", "limit", "big"]
+FAMILIES = ["dispatch", "slots", "weeks", "limit", "big"]
 OPERATIONS = {
     "difference": "difference A \\ C", "complement": "complement of C", "intersection": "intersection A ∩ B", "chain": "chain (A ∩ B) \\ C \\ D",
     "empty": "is E \\ A empty: difference, then emptiness", "subset": "the same, by the peer's own call for E ⊆ A", "union": "union A ∪ C",
@@ -234,7 +234,7 @@ def table(folder, mode, seed):
         time_table(run, family)
     count_table(folder)
     refusals(run)
-    for family in ("dispatch", "slots"):
+    for family in FAMILIES:
         sizes(run, family)
     check_table(folder)
 

@@ -6,6 +6,9 @@
  *   slots     3 axes: half-hour slot of the day, truck, load in 10 t. Alternating slots and trucks: equalities modulo 2
  *             and 3 over divisions, many times 2, 3 or 6, a few at a half slot, which no whole number meets; windows
  *             that end at half slots. A of 1 to 5 permits, B of 1 to 3, closures C of 1 to 3, D of 1 to 2, E as above
+ *   weeks     5 axes: second of the plan, truck, load in 100 kg, week, turn of a belt's counter. Windows repeat in
+ *             hours of a week of 604,800 s and in blocks of a counter that begins anew at 10^9. A of 1 to 5 permits,
+ *             B of 1 to 3, closures C of 1 to 2, D of 1, E as above. More than half of the candidates are wide at 64
  *   limit     8 axes, 8 divisions, up to 32 constraints a basic set: near document 01's limits
  *   big       4 axes, coefficients to 32,767, constants to 1,000,000,000; closures without bounds of their own
  *   tiny      1 to 3 axes and small numbers in a box of 15 values an axis, of which every point is checked
@@ -14,6 +17,8 @@
 #include <stdio.h>
 #include <stdlib.h>
 #include <string.h>
+
+enum { FARTHEST = 1048576 }; /* the largest coordinate */
 
 /* splitmix64 */
 static uint64_t state;
@@ -289,6 +294,121 @@ static void slots(set *s)
     slots_inside(&s[A], &s[E]);
 }
 
+enum { SECOND, WEEK = LOAD + 1, TURN };
+/* A divisor has 16 bits, so a period takes two steps: 3,600 · 168 = 604,800 seconds, 32,000 · 31,250 = 10^9 units. */
+enum { HOUR = 3600, HOURS = 168, BLOCK = 32000, BLOCKS = 31250 };
+/* of a case: pits, whose weeks begin at a second of their own; belts, whose counters run with the time and the loads */
+enum { PITS = 2, BELTS = 2 };
+static division hour_of[PITS], block_of[BELTS];
+
+static void pits_and_belts(void)
+{
+    memset(hour_of, 0, sizeof hour_of);
+    memset(block_of, 0, sizeof block_of);
+    for (int i = 0; i < PITS; i++) {
+        hour_of[i].divisor = HOUR;
+        hour_of[i].constant = from(0, HOUR * HOURS - 1);
+        hour_of[i].axis[SECOND] = 1;
+    }
+    for (int i = 0; i < BELTS; i++) {
+        block_of[i].divisor = BLOCK;
+        block_of[i].constant = from(-1000000000, 1000000000);
+        block_of[i].axis[SECOND] = (int16_t)from(900, 9000);
+        block_of[i].axis[LOAD] = (int16_t)from(0, 400);
+    }
+}
+
+/* from step `start` to step `end` of every period: start ≤ q − period·turn ≤ end */
+static void recurring(basic_set *b, int q, int turn, int period, int start, int end)
+{
+    pair(b, 0, -start, q, 1, turn, -period);
+    pair(b, 0, end, q, -1, turn, period);
+}
+
+/* some hours of every week of a pit; the place of the hour */
+static int weekly(basic_set *b, int shortest, int longest)
+{
+    int hour = placed(b, &hour_of[from(0, PITS - 1)]), hours = from(shortest, longest);
+    int start = from(0, HOURS - hours);
+    recurring(b, hour, WEEK, HOURS, start, start + hours - 1);
+    return hour;
+}
+
+/* some blocks of every turn of a belt's counter */
+static void by_counter(basic_set *b, int shortest, int longest)
+{
+    int block = placed(b, &block_of[from(0, BELTS - 1)]), blocks = from(shortest, longest);
+    int start = from(0, BLOCKS - blocks);
+    recurring(b, block, TURN, BLOCKS, start, start + blocks - 1);
+}
+
+static void weeks_permit(basic_set *b, int first_truck, int last_truck)
+{
+    lower(b, TRUCK, first_truck);
+    upper(b, TRUCK, last_truck);
+    lower(b, LOAD, 0);
+    upper(b, LOAD, chance(50) ? 2186 : from(900, 2186));
+    if (chance(80)) {
+        int hour = weekly(b, 40, 140);
+        if (chance(40)) { /* in every hour a truck comes so many seconds after the one before it */
+            constraint *c = add(b, 0, b->div[hour - AXES].constant);
+            c->coefficient[SECOND] = 1;
+            c->coefficient[hour] = -HOUR;
+            c->coefficient[TRUCK] = (int16_t)-from(7, 60);
+        }
+        if (chance(30)) { /* lighter towards the end of the week */
+            constraint *c = add(b, 0, from(1500, 2400));
+            c->coefficient[LOAD] = -1;
+            c->coefficient[hour] = (int16_t)-from(3, 9);
+            c->coefficient[WEEK] = (int16_t)(-HOURS * c->coefficient[hour]);
+        }
+    }
+    if (b->cons == 4 || chance(40)) by_counter(b, 9000, 28000);
+}
+
+/* maintenance: some hours of the week or blocks of a counter, of some trucks or all, heavy loads, a single week */
+static void weeks_closure(basic_set *b)
+{
+    int first = from(0, 56), last = first + from(0, 12), least = from(400, 1800);
+    if (chance(60)) {
+        lower(b, TRUCK, first);
+        upper(b, TRUCK, last);
+    }
+    if (chance(65)) weekly(b, 2, 30);
+    else by_counter(b, 500, 8000);
+    if (chance(20)) equal(b, WEEK, from(-1, 1));
+    if (chance(30)) lower(b, LOAD, least);
+}
+
+/* basic sets of a with further rules; in half of the cases a bound of one of them moves out by 1 */
+static void weeks_inside(const set *a, set *e)
+{
+    e->count = a->count < 2 ? 1 : from(1, 2);
+    for (int i = 0; i < e->count; i++) {
+        e->basic[i] = a->basic[i];
+        upper(&e->basic[i], LOAD, from(300, 1800));
+        if (chance(40)) by_counter(&e->basic[i], 4000, 20000);
+    }
+    basic_set *b = &e->basic[from(0, e->count - 1)];
+    if (chance(50)) b->con[chance(50) ? 1 : 5].constant += 1; /* the last truck, or the end of the first window */
+}
+
+static void weeks(set *s)
+{
+    static const int MOST[] = {[A] = 5, [B] = 3, [C] = 2, [D] = 1};
+    pits_and_belts();
+    for (int k = A; k <= D; k++) {
+        s[k].count = from(1, MOST[k]);
+        int trucks = 64 / s[k].count;
+        for (int i = 0; i < s[k].count; i++) {
+            int last = (i + 1) * trucks - 1 + from(0, 6);
+            if (k <= B) weeks_permit(&s[k].basic[i], i * trucks, last > 63 ? 63 : last);
+            else weeks_closure(&s[k].basic[i]);
+        }
+    }
+    weeks_inside(&s[A], &s[E]);
+}
+
 static const int PERIOD[DIVISIONS] = {10, 30, 60, 7, 12, 24, 5, 9};
 
 /* constraints around a centre, so that sets meet */
@@ -342,8 +462,8 @@ static void large(basic_set *b, int boxed)
     centre[4] = (int32_t)floor_division(centre[0] + 12345, 32749);
     centre[5] = (int32_t)floor_division(centre[1] - 678, 997);
     for (int j = 0; j < 4 && boxed; j++) {
-        lower(b, j, -1048576);
-        upper(b, j, 1048576);
+        lower(b, j, -FARTHEST);
+        upper(b, j, FARTHEST);
     }
     int target = b->cons + (boxed ? from(2, 5) : from(1, 2));
     while (b->cons < target) {
@@ -432,25 +552,73 @@ static void to_edge(const basic_set *b, const constraint *c, int n, const int32_
     if (x[axis] > high[axis]) x[axis] = high[axis];
 }
 
-/* a third of the points uniform, the others moved into a basic set of A or C or just over its edges */
-static void point(const set *s, int n, uint32_t number, const int32_t *low, const int32_t *high, int32_t *x)
+/* the week and the turn that x is in, by b's divisions */
+static void in_turn(const basic_set *b, int32_t *x)
 {
-    const set *t = &s[number % 3 == 1 ? A : C];
-    for (int j = 0; j < n; j++) x[j] = from(low[j], high[j]);
-    if (number % 3 == 0 || !t->count) return;
-    const basic_set *b = &t->basic[from(0, t->count - 1)];
-    for (const constraint *c = b->con; c < b->con + b->cons; c++) to_edge(b, c, n, low, high, x);
+    for (const division *d = b->div; d < b->div + b->divs; d++) {
+        int64_t sum = d->constant + (int64_t)d->axis[SECOND] * x[SECOND] + (int64_t)d->axis[LOAD] * x[LOAD];
+        int64_t steps = floor_division(sum, d->divisor);
+        if (d->divisor == HOUR) x[WEEK] = (int32_t)floor_division(steps, HOURS);
+        else x[TURN] = (int32_t)floor_division(steps, BLOCKS);
+    }
+}
+
+/* to the second of the same week at which b's window of hours opens or has shut, or one beside it */
+static void to_window(const basic_set *b, int32_t *x)
+{
+    for (const constraint *c = b->con; c < b->con + b->cons; c++)
+        for (int i = 0; i < b->divs; i++) {
+            int64_t sign = c->coefficient[AXES + i];
+            int window = b->div[i].divisor == HOUR && sign * sign == 1 && c->coefficient[WEEK] == -HOURS * sign;
+            if (!window) continue;
+            int64_t hour = -sign * c->constant + (sign < 0) + HOURS * (int64_t)x[WEEK];
+            int64_t second = hour * HOUR - b->div[i].constant + from(-1, 1);
+            if (second < -FARTHEST || second > FARTHEST) continue;
+            x[SECOND] = (int32_t)second;
+            if (chance(50)) return;
+        }
+}
+
+/* another second, until b holds x; a third of the points then go to an edge of its window */
+static void weeks_place(const basic_set *b, int32_t *x)
+{
+    enum { TRIES = 200 };
+    in_turn(b, x);
+    for (int tries = 0; tries < TRIES && !basic_member(TURN + 1, b, x); tries++) {
+        x[SECOND] = from(-FARTHEST, FARTHEST);
+        in_turn(b, x);
+    }
+    if (chance(33)) to_window(b, x);
 }
 
 #define EACH(x) {x, x, x, x, x, x, x, x}
-typedef struct { const char *name; int n; void (*fill)(set *); int32_t low[AXES], high[AXES]; } family;
+typedef struct {
+    const char *name;
+    int n;
+    void (*fill)(set *);
+    int32_t low[AXES], high[AXES];
+    void (*place)(const basic_set *, int32_t *); /* NULL, or moves a point to where the basic set can hold it */
+} family;
 static const family FAMILIES[] = {
-    {"dispatch", 5, dispatch, {0, 0, -120, 0, 0}, {2186, 63, 120, 7, 719}},
-    {"slots", 3, slots, {0}, {47, 23, 22}},
-    {"limit", 8, limit, {0}, EACH(1000)},
-    {"big", 4, big, EACH(-1048576), EACH(1048576)},
-    {"tiny", 0, tiny, EACH(-7), EACH(7)}, /* 1 to 3 axes */
+    {"dispatch", 5, dispatch, {0, 0, -120, 0, 0}, {2186, 63, 120, 7, 719}, NULL},
+    {"slots", 3, slots, {0}, {47, 23, 22}, NULL},
+    {"weeks", 5, weeks, {-FARTHEST, 0, 0, -2, -12}, {FARTHEST, 63, 2186, 2, 12}, weeks_place},
+    {"limit", 8, limit, {0}, EACH(1000), NULL},
+    {"big", 4, big, EACH(-FARTHEST), EACH(FARTHEST), NULL},
+    {"tiny", 0, tiny, EACH(-7), EACH(7), NULL}, /* 1 to 3 axes */
 };
+
+/* a third of the points uniform, the others moved into a basic set of A or C, with `place` of E too, or just over its
+ * edges */
+static void point(const set *s, int n, uint32_t number, const family *of, int32_t *x)
+{
+    const set *t = &s[number % 3 == 1 ? A : of->place && number % 2 ? E : C];
+    for (int j = 0; j < n; j++) x[j] = from(of->low[j], of->high[j]);
+    if (number % 3 == 0 || !t->count) return;
+    const basic_set *b = &t->basic[from(0, t->count - 1)];
+    for (const constraint *c = b->con; c < b->con + b->cons; c++) to_edge(b, c, n, of->low, of->high, x);
+    if (of->place) of->place(b, x);
+}
 
 static const family *family_of(const char *name)
 {
@@ -483,7 +651,7 @@ static void write_case(const family *of, FILE *f)
     fwrite(&points, 4, 1, f);
     for (uint32_t i = 0; i < points; i++) {
         int32_t x[AXES] = {0};
-        point(s, n, i, low, high, x);
+        point(s, n, i, of, x);
         fwrite(x, sizeof x, 1, f);
     }
 }
@@ -492,7 +660,7 @@ int main(int argc, char **argv)
 {
     const family *of = argc == 5 ? family_of(argv[1]) : NULL;
     if (!of) {
-        fputs("workload dispatch|slots|limit|big|tiny SEED CASES FILE\n", stderr);
+        fputs("workload dispatch|slots|weeks|limit|big|tiny SEED CASES FILE\n", stderr);
         return 2;
     }
     char name[16] = {0};

@@ -1,7 +1,10 @@
 #include "plain.h"
 #include <string.h>
 
-enum { BOUND = 2147483647, PIVOTS = 200 };
+enum { PIVOTS = 200 };
+
+typedef __int128 wide;
+typedef unsigned __int128 wide_natural;
 
 /* ---- the first table */
 
@@ -10,7 +13,7 @@ static void first_row(int64_t *r, size_t k, int64_t constant, int64_t sign, cons
     memset(r, 0, sizeof(row));
     r[0] = 1;
     r[1] = constant;
-    for (size_t i = 0; i < 8; i++) r[k + 2 + i] = sign * axes[i];
+    for (size_t i = 0; i < AXES; i++) r[k + 2 + i] = sign * axes[i];
 }
 
 static void fill(const basic_set *b, row *rows, size_t *place, uint8_t *kinds)
@@ -36,45 +39,9 @@ static void fill(const basic_set *b, row *rows, size_t *place, uint8_t *kinds)
     }
 }
 
-/* ---- steps 1 to 4; w is the number of numbers of a row that can be other than 0 */
+/* ---- the steps at both sizes */
 
-static int is_violated(uint8_t kind, int64_t x) { return kind == 1 ? x < 0 : kind == 2 ? x != 0 : 0; }
-
-static size_t violated(row *t, const size_t *place, const uint8_t *kinds, size_t count)
-{
-    for (size_t v = 0; v < count; v++)
-        if (place[v] < 64 && is_violated(kinds[v], t[place[v]][1])) return v;
-    return count;
-}
-
-static int is_helping(uint8_t kind, int64_t c, int64_t e) { return kind == 0 ? e != 0 : kind == 1 ? (c < 0 ? e > 0 : e < 0) : 0; }
-
-static size_t helping(const int64_t *r, const size_t *place, const uint8_t *kinds, size_t count)
-{
-    for (size_t v = 0; v < count; v++)
-        if (place[v] >= 64 && is_helping(kinds[v], r[1], r[place[v] - 64 + 2])) return v;
-    return count;
-}
-
-static int small(const int64_t *r, size_t w)
-{
-    for (size_t i = 0; i < w; i++)
-        if (r[i] < -BOUND || r[i] > BOUND) return 0;
-    return 1;
-}
-
-static int narrow(row *t, size_t m, size_t w, size_t j)
-{
-    for (size_t k = 0; k < m; k++)
-        if (t[k][j + 2] != 0 && !small(t[k], w)) return 0;
-    return 1;
-}
-
-/* ---- step 5 */
-
-static uint64_t magnitude(int64_t x) { return x < 0 ? 0 - (uint64_t)x : (uint64_t)x; }
-
-static uint64_t gcd(uint64_t a, uint64_t b)
+static uint64_t gcd_64(uint64_t a, uint64_t b)
 {
     while (b != 0) {
         uint64_t r = a % b;
@@ -84,59 +51,49 @@ static uint64_t gcd(uint64_t a, uint64_t b)
     return a;
 }
 
-static void reduce(int64_t *r, size_t w)
+static wide_natural gcd_128(wide_natural a, wide_natural b)
 {
-    uint64_t g = 0;
-    for (size_t i = 0; i < w && g != 1; i++) g = gcd(magnitude(r[i]), g);
-    if (g > 1)
-        for (size_t i = 0; i < w; i++) r[i] /= (int64_t)g;
-}
-
-static void solve(int64_t *r, size_t w, size_t j)
-{
-    int64_t a = r[j + 2], d = r[0];
-    if (a < 0) {
-        r[0] = -a;
-        r[j + 2] = -d;
-    } else {
-        for (size_t i = 0; i < w; i++) r[i] = -r[i];
-        r[0] = a;
-        r[j + 2] = d;
+    while (b >> 64 != 0) {
+        wide_natural r = a % b;
+        a = b;
+        b = r;
     }
-    reduce(r, w);
+    return b == 0 ? a : gcd_64((uint64_t)b, (uint64_t)(a % b));
 }
 
-static void replace(int64_t *r, size_t w, size_t j, const int64_t *p)
-{
-    int64_t b = r[j + 2], m = p[0];
-    r[j + 2] = 0;
-    r[0] *= m;
-    for (size_t i = 1; i < w; i++) r[i] = r[i] * m + b * p[i];
-    reduce(r, w);
-}
+#define AT(name) name##_64
+#define NUMBER int64_t
+#define NATURAL uint64_t
+#define PRODUCT(a, b) ((a) * (b))
+#define BOUND INT32_MAX
+#include "steps.h"
 
-static void exchange(row *t, size_t m, size_t w, size_t i, size_t j)
+/* what step 4 has let pass has 64 bits, so a product is that of two words */
+#define AT(name) name##_128
+#define NUMBER wide
+#define NATURAL wide_natural
+#define PRODUCT(a, b) ((wide)(int64_t)(a) * (int64_t)(b))
+#define BOUND INT64_MAX
+#include "steps.h"
+
+/* a function of its own, so that a test without wide has no such table */
+__attribute__((noinline))
+static answer carry(const basic_set *b, row *rows, size_t *place, const uint8_t *kinds, size_t *pivots)
 {
-    solve(t[i], w, j);
+    wide carried[ROWS][NUMBERS];
+    size_t m = 2 * b->divs + b->cons, w = b->divs + AXES + 2;
     for (size_t k = 0; k < m; k++)
-        if (k != i && t[k][j + 2] != 0) replace(t[k], w, j, t[i]);
+        for (size_t i = 0; i < w; i++) carried[k][i] = rows[k][i];
+    return run_128(b, carried, place, kinds, pivots);
 }
 
-size_t plain_test(const basic_set *b, row *rows, size_t *place, uint8_t *kinds)
+ended plain_test(const basic_set *b, row *rows, size_t *place, uint8_t *kinds)
 {
-    size_t m = 2 * b->divs + b->cons, count = 8 + b->divs + m, w = b->divs + 10, pivots = 0;
+    ended e = {POINT, 0, 0, 0};
     fill(b, rows, place, kinds);
-    for (;;) {
-        size_t v = violated(rows, place, kinds, count), u;
-        if (v == count) return pivots; /* point */
-        u = helping(rows[place[v]], place, kinds, count);
-        if (u == count) return pivots; /* dropped */
-        if (pivots == PIVOTS) return pivots; /* long */
-        size_t i = place[v], c = place[u];
-        if (!narrow(rows, m, w, c - 64)) return pivots; /* wide */
-        exchange(rows, m, w, i, c - 64);
-        place[v] = c;
-        place[u] = i;
-        pivots++;
-    }
+    e.answer = run_64(b, rows, place, kinds, &e.pivots);
+    e.narrow = e.pivots;
+    e.carried = e.answer == WIDE;
+    if (e.carried) e.answer = carry(b, rows, place, kinds, &e.pivots);
+    return e;
 }

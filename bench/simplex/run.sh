@@ -1,5 +1,6 @@
 #!/usr/bin/env bash
-# The test for fractions against plain C of the same steps, as the table of docs/BENCHMARKS.md. CORE is the processor that it runs on (default 1).
+# The test for fractions, at 64 bits and carried to 128, against plain C of the same steps, as the tables of
+# docs/BENCHMARKS.md. CORE is the processor that it runs on (default 1).
 cd "$(dirname "$0")/../.." || exit 2
 rt staticlib probe >/dev/null || exit 1
 mkdir -p target/bench

@@ -18,7 +18,7 @@ static int chance(int percent) { return from_to(0, 99) < percent; }
 
 /* ---- dispatch */
 
-enum { PAYLOAD, ROAD, GRADE, CLASS, MINUTE, AXES }; /* 100 kg, number, 0.1 %, number, of the shift */
+enum { PAYLOAD, ROAD, GRADE, CLASS, MINUTE, BOARD }; /* 100 kg, number, 0.1 %, number, of the shift; how many */
 
 static constraint *add(basic_set *b, int equality, int constant)
 {
@@ -114,13 +114,75 @@ static void oppose(basic_set *b)
 void dispatch(workload *w, uint64_t seed)
 {
     state = seed;
-    w->axes = AXES;
+    w->axes = BOARD;
     for (w->count = 0; w->count < SETS; w->count++) {
         basic_set *b = &w->set[w->count];
         memset(b, 0, sizeof *b);
         permit(b, (size_t)from_to(5, 15));
         size_t before = b->cons;
         for (int closures = from_to(1, 2); closures > 0; closures--) closure(b);
+        b->cons = (size_t)from_to((int)before + 1, (int)b->cons);
+        oppose(b);
+    }
+}
+
+/* ---- weeks: hours of a week of 604,800 s, blocks of a belt's counter that begins anew at 10^9 */
+
+enum { LOAD, TRUCK, SECOND, WEEK, TURN, CALENDAR }; /* 100 kg, number, of the plan, number, of the counter; how many */
+/* a divisor has 16 bits, so a period takes two steps: 3,600 · 168 = 604,800, 32,000 · 31,250 = 10^9 */
+enum { HOUR = 3600, HOURS = 168, BLOCK = 32000, BLOCKS = 31250 };
+
+/* `steps` of the period from `start` on; the step is a division of the second, the period's number an axis */
+static void recurring(basic_set *b, division q, int turn, int period, int start, int steps)
+{
+    size_t place = 0;
+    while (place < b->divs && memcmp(&b->divisions[place], &q, sizeof q)) place++;
+    if (place == b->divs) b->divisions[b->divs++] = q;
+    for (int sign = 1; sign >= -1; sign -= 2) {
+        constraint *r = add(b, 0, sign > 0 ? -start : start + steps - 1);
+        r->divisions[place] = (int16_t)sign;
+        r->axes[turn] = (int16_t)(-sign * period);
+    }
+}
+
+/* a window of so many of 100 parts of a pit's week or of a belt's counter; there are two of each */
+static void maintenance(basic_set *b, int percent)
+{
+    static const int32_t BEGINS[] = {61234, 414000}, STARTS[] = {-123456789, 876543210};
+    static const int16_t RATE[] = {5987, 2311};
+    int which = from_to(0, 1), hours = HOURS * percent / 100, blocks = BLOCKS * percent / 100;
+    division q = {HOUR, BEGINS[which], {0}};
+    q.axes[SECOND] = 1;
+    if (chance(60)) {
+        recurring(b, q, WEEK, HOURS, from_to(0, HOURS - hours), hours);
+        return;
+    }
+    q.divisor = BLOCK;
+    q.constant = STARTS[which];
+    q.axes[SECOND] = RATE[which];
+    q.axes[LOAD] = 250;
+    recurring(b, q, TURN, BLOCKS, from_to(0, BLOCKS - blocks), blocks);
+}
+
+/* the candidates of a cut as above */
+void weeks(workload *w, uint64_t seed)
+{
+    state = seed;
+    w->axes = CALENDAR;
+    for (w->count = 0; w->count < SETS; w->count++) {
+        basic_set *b = &w->set[w->count];
+        memset(b, 0, sizeof *b);
+        int truck = from_to(0, 50);
+        least(b, LOAD, 0);
+        most(b, LOAD, from_to(900, 2186));
+        least(b, TRUCK, truck);
+        most(b, TRUCK, truck + from_to(3, 13));
+        for (int windows = from_to(1, 2); windows > 0; windows--) maintenance(b, from_to(25, 85));
+        size_t before = b->cons;
+        for (int closures = from_to(1, 2); closures > 0; closures--) {
+            if (chance(50)) least(b, TRUCK, from_to(0, 60));
+            maintenance(b, from_to(2, 20));
+        }
         b->cons = (size_t)from_to((int)before + 1, (int)b->cons);
         oppose(b);
     }
@@ -156,6 +218,82 @@ static void random_sets(workload *w, uint64_t seed, size_t axes, size_t divs, si
 
 void full(workload *w, uint64_t seed, int most, int percent) { random_sets(w, seed, 8, 8, 48, most, percent); }
 void small(workload *w, uint64_t seed, int rows, int columns, int most, int percent) { random_sets(w, seed, (size_t)columns - 2, 2, (size_t)rows - 4, most, percent); }
+
+/* ---- the same pivots at 64 bits and at 128 */
+
+static ended tested(const basic_set *b)
+{
+    static row rows[ROWS];
+    static size_t place[VARIABLES];
+    static uint8_t kinds[VARIABLES];
+    return plain_test(b, rows, place, kinds);
+}
+
+/* A further rule, the last, of the column of the first pivot. Its constant is the only one that is beyond ±(2^31 − 1),
+ * so that the test is carried before the first pivot. 0: no column does. */
+static int put_far(basic_set *b, size_t axes)
+{
+    if (b->cons == CONSTRAINTS) b->cons--;
+    constraint *c = add(b, 0, INT32_MIN);
+    for (size_t j = 0; j < axes + b->divs; j++) {
+        int16_t *entry = j < axes ? &c->axes[j] : &c->divisions[j - axes];
+        *entry = 1;
+        ended e = tested(b);
+        if (e.carried && e.narrow == 0) return 1;
+        *entry = 0;
+    }
+    return 0;
+}
+
+void large(workload *w, uint64_t seed, size_t rows, size_t columns, int most)
+{
+    size_t divs = columns > AXES ? columns - AXES : 2, kept = 0;
+    random_sets(w, seed, columns - divs, divs, rows - 2 * divs, most, 100);
+    for (size_t i = 0; i < w->count; i++) {
+        basic_set *b = &w->set[kept];
+        *b = w->set[i];
+        for (size_t k = 0; k < b->cons; k++) b->constraints[k].constant = from_to(-1000000000, 1000000000);
+        kept += (size_t)put_far(b, w->axes);
+    }
+    w->count = kept;
+}
+
+/* each rule times its own factor: signs and pivots stay, numbers grow by up to the square of the factors' product */
+static void scale(basic_set *b)
+{
+    static const int FACTORS[] = {2, 3, 5, 7, 11};
+    for (size_t i = 0; i < b->cons; i++) {
+        constraint *c = &b->constraints[i];
+        int f = 1;
+        for (int k = 0; k < 5; k++) f *= i >> k & 1 ? FACTORS[k] : 1;
+        c->constant *= f;
+        for (int j = 0; j < 8; j++) {
+            c->axes[j] = (int16_t)(f * c->axes[j]);
+            c->divisions[j] = (int16_t)(f * c->divisions[j]);
+        }
+    }
+}
+
+void twins(const workload *w, int scaled, workload *near, workload *far)
+{
+    near->axes = far->axes = w->axes;
+    near->count = 0;
+    for (size_t i = 0; i < w->count; i++) {
+        basic_set *n = &near->set[near->count], *f = &far->set[near->count];
+        *f = w->set[i];
+        if (!put_far(f, w->axes)) continue;
+        *n = *f;
+        n->constraints[n->cons - 1].constant = -1;
+        if (scaled) {
+            f->cons--;
+            scale(f);
+            f->cons++;
+        }
+        ended a = tested(n), b = tested(f);
+        near->count += !a.carried && b.carried && b.narrow == 0 && a.pivots == b.pivots;
+    }
+    far->count = near->count;
+}
 
 /* ---- the hard sets: a heading '# axes N ..', then lines `div` d c axes, `ge` or `eq` c axes divisions */
 
