@@ -169,7 +169,7 @@ module _ (x q : List ℤ) where
 
 -- ---- basic sets
 
-any-false : (a b : Bool) → (a || b) ≡ false → (a ≡ false) × (b ≡ false)
+pub any-false : (a b : Bool) → (a || b) ≡ false → (a ≡ false) × (b ≡ false)
 any-false true b e = let y : _≡_ {A = ℕ} 0 1 = cc in absurd (omega arith)
 any-false false b e = (refl, e)
 

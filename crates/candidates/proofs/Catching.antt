@@ -1,6 +1,6 @@
 -- The candidates of a cut, and the test of the working constraints as it grows. Assumes nothing.
 use mathlib.Core.Path.{_≡_, refl, sym, ap, ap₂, _∙_, subst}
-use mathlib.Core.Bool.{Bool, true, false, _||_, cond}
+use mathlib.Core.Bool.{Bool, true, false, cond}
 use mathlib.Core.List.{List, [], _∷_, _++_, map, append-assoc}
 use Prim.Native.Nat.{ℕ, _+_, _-_, _*_, _≤_, _<_}
 use native.Mathlib.Numerals.{add-one}
@@ -82,10 +82,6 @@ judged c x e n = ap isKept (e ∙ sym (ap (λ (y : Ending). y .verdict) (judgeme
 pub shared-keeps : {k : ℕ} {o : StoredConstraint} {h : Standing} {rows : List (List ℤ)} {place kinds : List ℕ} {past : List (List ℤ)} {columns : List ℕ} {x : Verdict} → Tried k o h rows place kinds past columns x → h .rows < 64
     → (b : BasicSet) → Holds k b h rows place kinds past columns → isWide x ≡ false → isKept (verdictOf x) ≡ keeps (candidate b (constraintOf o))
 shared-keeps {o = o} {x = x} t less b g n = judged (candidate b (constraintOf o)) x (tried-test t less b g) n
-
-pub neither : (a b : Bool) → (a || b) ≡ false → (a ≡ false) × (b ≡ false)
-neither false b e = (refl, e)
-neither true b e = clash refl e
 
 -- a constraint put behind all of a basic set's makes a candidate
 pub put-last : (w : Stored) → length (w .constraints) ≡ 48 → w .cons ≤ 48 → (o : Constraint) → withLast (basicSetOf w) (w .cons) o ≡ candidate (basicSetOf w) o

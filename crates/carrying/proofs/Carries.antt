@@ -10,7 +10,7 @@ use borrow.Author.Tests.{eqb-true, eqb-false}
 use lib.Dec.{eqb}
 use lib.ListN.{length, getD, set, replicate}
 use lib.Seq.{getD-set-same, getD-set-other}
-use Rattle.wide.proofs.Digits.{lt-or-le}
+use Rattle.integers.specs.Part.{lt-or-le}
 use Rattle.tableau.proofs.Lines.{upTo}
 use Rattle.wide_tableau.specs.Cells.{cells, words, Sheet}
 

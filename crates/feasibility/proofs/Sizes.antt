@@ -106,25 +106,25 @@ or-more : (c a b : Bool) → (T a → T b) → T (c || a) → T (c || b)
 or-more true a b f t = tt
 or-more false a b f t = f t
 
-abbrev upTo : ℕ → List ℤ → Bool
-upTo m zs = all (λ (z : ℤ). leb (natAbs z) m) zs
+abbrev bounded : ℕ → List ℤ → Bool
+bounded m zs = all (λ (z : ℤ). leb (natAbs z) m) zs
 
-numbers-more : (m n : ℕ) → m ≤ n → (zs : List ℤ) → T (upTo m zs) → T (upTo n zs)
+numbers-more : (m n : ℕ) → m ≤ n → (zs : List ℤ) → T (bounded m zs) → T (bounded n zs)
 numbers-more m n h [] t = tt
 numbers-more m n h (z ∷ zs) t =
-    and-more (leb (natAbs z) m) (upTo m zs) (leb (natAbs z) n) (upTo n zs) (λ x. le→leb (natAbs z) n (le-trans (leb→le (natAbs z) m x) h)) (numbers-more m n h zs) t
+    and-more (leb (natAbs z) m) (bounded m zs) (leb (natAbs z) n) (bounded n zs) (λ x. le→leb (natAbs z) n (le-trans (leb→le (natAbs z) m x) h)) (numbers-more m n h zs) t
 
 pub narrow-more : (m n : ℕ) → m ≤ n → Implies (narrow m) (narrow n)
 narrow-more m n h j t = rows (t .rows)
   where
     Fine : ℕ → Row → Bool
-    Fine m r = isZero (entry r j) || upTo m (r .den ∷ r .nums)
+    Fine m r = isZero (entry r j) || bounded m (r .den ∷ r .nums)
 
     rows : (rs : List Row) → T (all (Fine m) rs) → T (all (Fine n) rs)
     rows [] t = tt
     rows (r ∷ rs) t =
         and-more (Fine m r) (all (Fine m) rs) (Fine n r) (all (Fine n) rs)
-        (or-more (isZero (entry r j)) (upTo m (r .den ∷ r .nums)) (upTo n (r .den ∷ r .nums)) (numbers-more m n h (r .den ∷ r .nums))) (rows rs) t
+        (or-more (isZero (entry r j)) (bounded m (r .den ∷ r .nums)) (bounded n (r .den ∷ r .nums)) (numbers-more m n h (r .den ∷ r .nums))) (rows rs) t
 
 -- ---- the test
 

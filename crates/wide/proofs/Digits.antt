@@ -3,18 +3,11 @@ use mathlib.Core.Path.{_≡_, refl, sym, ap, ap₂, _∙_}
 use Prim.Native.Nat.{ℕ, _+_, _-_, _*_, _/_, _%_, _≤_, _<_}
 use native.Mathlib.Omega.{arith}
 use mathlib.Core.Logic.{_⊎_, inl, inr, ⊎-elim}
-use mathlib.Core.Bool.{Bool, true, false}
-use borrow.Author.Tests.{lt-ltb, le-ltb, ltb-true, ltb-false}
+use borrow.Author.Tests.{lt-ltb, le-ltb}
 use lib.Dec.{ltb}
 use lib.Arith.{digits-div, digits-mod}
 use native.Mathlib.Nat.{eq-zero-or-pos, pos-of-ne-zero, mul-le-mul-left, div-add-mod', mod-lt, mul-le-mul, mul-le-mul-right, lt-of-mul-lt-mul-right, div-lt-iff-lt-mul}
-
-pub lt-or-le : (a b : ℕ) → (a < b) ⊎ (b ≤ a)
-lt-or-le a b = go (ltb a b) refl
-  where
-    go : (t : Bool) → ltb a b ≡ t → (a < b) ⊎ (b ≤ a)
-    go true e = inl (ltb-true a b e)
-    go false e = inr (ltb-false a b e)
+use Rattle.integers.specs.Part.{lt-or-le}
 
 -- ---- the product of two numbers of two digits, by its four partial products
 pub poly : (B a1 a0 b1 b0 q0 r0 q1 r1 q2 r2 : ℕ) → q0 * B + r0 ≡ a0 * b0 → q1 * B + r1 ≡ a1 * b0 + q0 → q2 * B + r2 ≡ a0 * b1 + r1 → (a1 * b1 + q1 + q2) * (B * B) + (r2 * B + r0) ≡ (a1 * B + a0) * (b1 * B + b0)

@@ -4,9 +4,9 @@ use Rattle.model.specs.Sets.{Constraint}
 use Rattle.model.specs.Values.{kindIs, constraintOf}
 use Rattle.algebra.specs.Cut as C
 use Rattle.algebra.specs.Tighten as T
-use Rattle.algebra.proofs.Tightened.{tight-kind}
+use Rattle.algebra.proofs.Tightened.{tight-kind, any-false}
 use Rattle.candidates.specs.Candidates.{candidate, isEquality}
-use Rattle.candidates.proofs.Catching.{opposite-plain, shared-keeps, neither}
+use Rattle.candidates.proofs.Catching.{opposite-plain, shared-keeps}
 use borrow.Author.Needs.{needs}
 use Rattle.candidates.proofs.survivors.kept.Statement.{statement}
 use Rattle.candidates.proofs.survivors.kept.Tie as tie
@@ -86,7 +86,7 @@ returns c =
     let s = start (lowered l) in
     let eq : isEquality (given p .kind) ≡ true = ap (λ (b : Bool). isEquality (kindIs b)) (u .before .if1 .taken) in
     record {
-      is = λ b g n. let z = neither (p .is-wide .result) (c .is-wide2 .result) n in record {
+      is = λ b g n. let z = any-false (p .is-wide .result) (c .is-wide2 .result) n in record {
         above = c .before .is-kept2 .ensures ∙ shared-keeps (w .candidate2 .ensures) (s .pre .0 .less) b g (sym (c .is-wide2 .ensures) ∙ z .1) ∙ ap (λ o. C.keeps (candidate b o)) (u .opposite-above .ensures) ∙ sym (ap (λ (a : Bool). a && C.keeps (candidate b (T.tight (C.above (given p))))) eq);
         below = p .before .is-kept .ensures ∙ shared-keeps (l .candidate .ensures) (s .pre .0 .less) b g (sym (p .is-wide .ensures) ∙ z .0) ∙ ap (λ o. C.keeps (candidate b o)) (lowered l .opposite-below .ensures);
       };
