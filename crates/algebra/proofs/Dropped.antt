@@ -4,9 +4,9 @@
 use mathlib.Core.Path.{_≡_, refl, sym, ap, ap₂, _∙_}
 use mathlib.Core.Bool.{Bool, true, false, _&&_, _||_}
 use mathlib.Core.List.{List, [], _∷_, _++_}
-use Prim.Native.Nat.{ℕ, _≤_, _<_}
+use Prim.Native.Nat.{ℕ, _≤_}
 use native.Mathlib.Omega.{arith}
-use lib.Dec.{T}
+use lib.Dec.{T, lit<}
 use lib.IntN.{ℤ, pos, negsuc}
 use lib.ListN.{length, replicate}
 use Rattle.model.specs.Lists.{all, any}
@@ -30,7 +30,8 @@ dropped-of b e = at (test b) refl e
     at wide p q = let z : _≡_ {A = ℕ} 0 1 = cc in absurd (omega arith)
 
 -- demand 3's sentence: no point with fractions meets the tightened rules of a candidate that the test drops, and its divisions' bounds
-pub candidate-dropped : (b : BasicSet) → keeps b ≡ false → (p : RationalPoint) → 0 < p .denominator → length (p .x) ≤ 8 → length (p .q) ≤ length (b .divisions) → T (meetsBasic p b) → ⊥
+pub candidate-dropped : (b : BasicSet) → keeps b ≡ false
+    → (p : RationalPoint) → length (p .x) ≤ 8 → length (p .q) ≤ length (b .divisions) → ¬ T (meetsBasic p b)
 candidate-dropped b e = dropped-sound b (dropped-of b e)
 
 module _ (x : List ℤ) where
@@ -76,7 +77,7 @@ module _ (x : List ℤ) where
 pub half : BasicSet
 half = record { divisions = []; constraints = record { kind = equality; constant = negsuc 0; axes = pos 2 ∷ replicate 7 (pos 0); divisions = replicate 8 (pos 0) } ∷ [] }
 
-pub half-point : T (meetsBasic (record { denominator = 2; x = pos 1 ∷ []; q = [] }) half)
+pub half-point : T (meetsBasic (record { denominator = 2; positive = lit< tt; x = pos 1 ∷ []; q = [] }) half)
 unfolding half
 half-point = tt
 

@@ -2,16 +2,17 @@
 use mathlib.Core.Path.{_≡_, refl, sym, subst}
 use mathlib.Core.Bool.{Bool, true, false, not, _&&_}
 use mathlib.Core.List.{List}
-use Prim.Native.Nat.{ℕ, _≤_, _<_, zero-le}
-use native.Mathlib.Nat.{zero-lt-suc, le-refl, le-of-eq}
+use Prim.Native.Nat.{ℕ, _≤_, zero-le}
+use native.Mathlib.Nat.{le-refl, le-of-eq}
 use lib.Dec.{T}
 use lib.IntN.{ℤ}
-use lib.ListN.{length, getD}
+use lib.ListN.{length}
 use Rattle.model.specs.Lists.{all}
-use Rattle.model.specs.Sets.{BasicSet, Set, inBasic, inSet, wellFormed}
+use Rattle.model.specs.Sets.{BasicSet, Set, inBasic, inSet, wellFormed, whole}
 use Rattle.model.specs.Existential.{Exists}
 use Rattle.feasibility.specs.Tableau.{Verdict, point, dropped, long, wide, test}
 use Rattle.algebra.specs.Cut.{isKept, keeps, cutAll, difference, intersection, complement}
+use Rattle.algebra.specs.Levels.{Disjoint}
 use Rattle.model.proofs.Count.{ind, count, and-left, alone}
 use Rattle.model.proofs.Values.{divides, fits}
 use Rattle.model.proofs.Existential.{member-exists, remainders-length, whole-meets}
@@ -28,7 +29,7 @@ keeps-sound x h b ok t = at (test b) refl
     at : (v : Verdict) → test b ≡ v → T (isKept v)
     at point e = tt
     at dropped e =
-        dropped-sound b e (record { denominator = 1; x = x; q = w .q }) (zero-lt-suc 0) h (le-of-eq (remainders-length x (b .divisions) (w .q) (w .remainders)))
+        dropped-sound b e (whole x (w .q)) h (le-of-eq (remainders-length x (b .divisions) (w .q) (w .remainders)))
         (whole-meets b x w)
     at long e = tt
     at wide e = tt
@@ -46,14 +47,13 @@ module _ (x : List ℤ) (h : length x ≤ 8) where
   complement-points = complement-in keeps x (keeps-sound x h)
 
   -- the pieces cut from one basic set, after any number of cutters: a point is in one of them at most
-  pub pieces-apart : (cs : List BasicSet) → T (all wellFormed cs) → (a : BasicSet) → T (wellFormed a) → count (inBasic x) (cutAll keeps cs a) ≤ 1
+  pieces-apart : (cs : List BasicSet) → T (all wellFormed cs) → (a : BasicSet) → T (wellFormed a) → count (inBasic x) (cutAll keeps cs a) ≤ 1
   pieces-apart cs t a ok = subst (λ (n : ℕ). n ≤ 1) (sym (cutAll-count keeps x (keeps-sound x h) cs t a ok)) (at-most (inBasic x a && not (inSet x cs)))
     where
       at-most : (b : Bool) → ind b ≤ 1
       at-most true = le-refl 1
       at-most false = zero-le
 
-  -- two pieces at different places share no point
-  pub pieces-disjoint : (cs : List BasicSet) → T (all wellFormed cs) → (a : BasicSet) → T (wellFormed a) → (d : BasicSet) (i j : ℕ) → i < length (cutAll keeps cs a) → j < length (cutAll keeps cs a)
-      → T (inBasic x (getD (cutAll keeps cs a) i d)) → T (inBasic x (getD (cutAll keeps cs a) j d)) → i ≡ j
-  pieces-disjoint cs t a ok d = alone (inBasic x) d (cutAll keeps cs a) (pieces-apart cs t a ok)
+pub pieces-disjoint : (cs : List BasicSet) → T (all wellFormed cs) → (a : BasicSet) → T (wellFormed a)
+    → Disjoint (cutAll keeps cs a)
+pieces-disjoint cs t a ok x h d = alone (inBasic x) d (cutAll keeps cs a) (pieces-apart x h cs t a ok)

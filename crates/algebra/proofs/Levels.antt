@@ -1,19 +1,22 @@
 -- Depth first and level by level give the same difference and the same refusal; and the pieces of one basic set after the same cutter,
--- the first or a later one, share no point.
+-- the first or a later one, share no point; and so from bytes.
 use mathlib.Core.Path.{_≡_, refl, sym, ap, ap₂, _∙_, subst}
 use mathlib.Core.Bool.{Bool, true, false, _&&_}
 use mathlib.Core.List.{List, [], _∷_, _++_, append-assoc}
-use Prim.Native.Nat.{ℕ, zero, suc, _≤_, _<_}
+use Prim.Native.Nat.{ℕ, zero, suc, _<_}
 use lib.Dec.{T}
-use lib.IntN.{ℤ}
 use lib.ListN.{length, getD, take}
 use Rattle.model.specs.Lists.{all, concatMap}
-use Rattle.model.specs.Sets.{BasicSet, Set, inBasic, wellFormed}
+use Rattle.model.specs.Sets.{BasicSet, Set, wellFormed}
 use Rattle.algebra.specs.Tighten.{solvable}
-use Rattle.algebra.specs.Cut.{keeps, cutTight, cut, cutAll, cutTightFits, cutFits, cutAllFits, sizeFits, difference, differenceFits}
-use Rattle.algebra.specs.Levels.{cutEach, cutLevels, cutLevelsFit, differenceByLevels, differenceByLevelsFits}
-use Rattle.model.proofs.Count.{and-left, and-right, and-make, all-append}
+use Rattle.codec.specs.Bytes.{gives, decode}
+use Rattle.codec.proofs.Decoded.{Bytes, decode-formed}
+use Rattle.algebra.specs.Cut.{keeps, cutTight, cut, cutAll, cutTightFits, cutFits, cutAllFits, sizeFits, difference, differenceFits, complement}
+use Rattle.algebra.specs.Levels.{Disjoint, cutEach, cutLevels, cutLevelsFit, piecesAfter, differenceByLevels, differenceByLevelsFits}
+use Rattle.algebra.specs.Operations.{differenceBytes, complementBytes}
+use Rattle.model.proofs.Count.{and-left, and-right, and-make, all-append, all-at}
 use Rattle.algebra.proofs.Kept.{pieces-disjoint}
+use Rattle.algebra.proofs.Contracts.{difference-bytes, complement-bytes}
 
 module _ {A B : Type 0} where
   concat-append : (f : A → List B) (l m : List A) → concatMap f (l ++ m) ≡ concatMap f l ++ concatMap f m
@@ -98,12 +101,49 @@ all-take f (suc k) (a ∷ l) t = and-make (f a) (all f (take k l)) (and-left (f 
 concat-one : (f : BasicSet → List BasicSet) (a : BasicSet) → concatMap f (a ∷ []) ≡ f a
 concat-one f a = mathlib.Core.List.append-nil (f a)
 
--- "Pieces cut from one basic set are those left of it after the same cutter, the first or a later one": the k-th cutter of t. No point,
--- however large, is in two of them
-pub pieces-after : (x : List ℤ) → length x ≤ 8 → (k : ℕ) (t : Set) → T (all wellFormed t) → (a : BasicSet) → T (wellFormed a) → (d : BasicSet) (i j : ℕ)
-    → i < length (cutLevels keeps (take k t) (a ∷ [])) → j < length (cutLevels keeps (take k t) (a ∷ []))
-    → T (inBasic x (getD (cutLevels keeps (take k t) (a ∷ [])) i d)) → T (inBasic x (getD (cutLevels keeps (take k t) (a ∷ [])) j d)) → i ≡ j
-pieces-after x h k t formed a ok d i j =
-    subst (λ (ps : List BasicSet). i < length ps → j < length ps → T (inBasic x (getD ps i d)) → T (inBasic x (getD ps j d)) → i ≡ j)
-    (sym (levels-pieces keeps (take k t) (a ∷ []) ∙ concat-one (cutAll keeps (take k t)) a))
-    (pieces-disjoint x h (take k t) (all-take wellFormed k t formed) a ok d i j)
+-- the pieces of one basic set after the same cutter, the first or a later one, share no point
+pub pieces-after : (k : ℕ) (t : Set) → T (all wellFormed t) → (a : BasicSet) → T (wellFormed a)
+    → Disjoint (piecesAfter keeps k t a)
+pieces-after k t formed a ok =
+    subst Disjoint (sym (levels-pieces keeps (take k t) (a ∷ []) ∙ concat-one (cutAll keeps (take k t)) a)) (pieces-disjoint (take k t) (all-take wellFormed k t formed) a ok)
+
+-- ---- from bytes
+
+module _ (n : ℕ) (a b : List ℕ) (s t : Set) (first : decode n a ≡ gives s) (second : decode n b ≡ gives t)
+    (i : ℕ) (d : BasicSet) (h : i < length s) where
+  -- of basic set i of the first set, after any number of cutters of the second
+  pub decoded-pieces : (k : ℕ) → Disjoint (piecesAfter keeps k t (getD s i d))
+  decoded-pieces k = pieces-after k t (decode-formed n b t second) (getD s i d) (all-at wellFormed s i d h (decode-formed n a s first))
+
+  -- and after all of them
+  all-pieces : Disjoint (cutAll keeps t (getD s i d))
+  all-pieces = pieces-disjoint t (decode-formed n b t second) (getD s i d) (all-at wellFormed s i d h (decode-formed n a s first))
+
+-- of a result: it is, basic set by basic set of the first set, what the second's cutters leave of it, and no point is in
+-- two pieces of one
+pub record Pieces (n : ℕ) (a b bs : List ℕ) : Type 0 where
+  pub s : Set
+  pub t : Set
+  pub first : decode n a ≡ gives s
+  pub second : decode n b ≡ gives t
+  pub result : decode n bs ≡ gives (concatMap (cutAll keeps t) s)
+  pub disjoint : (i : ℕ) (d : BasicSet) → i < length s → Disjoint (cutAll keeps t (getD s i d))
+
+pub difference-pieces : (n room : ℕ) (a b bs : List ℕ) → Bytes a → Bytes b → differenceBytes n room a b ≡ gives bs
+    → Pieces n a b bs
+unfolding difference
+difference-pieces n room a b bs pa pb e =
+    let o = difference-bytes n room a b bs pa pb e in
+    record { s = o .s; t = o .t; first = o .first; second = o .second; result = o .result; disjoint = all-pieces n a b (o .s) (o .t) (o .first) (o .second) }
+
+-- of a complement, which is cut from one basic set: no point is in two basic sets of the result
+pub complement-pieces : (n room : ℕ) (a bs : List ℕ) → Bytes a → complementBytes n room a ≡ gives bs
+    → (s : Set) × (decode n bs ≡ gives s) × Disjoint s
+unfolding difference complement
+complement-pieces n room a bs pa e =
+    let o = complement-bytes n room a bs pa e in
+    let everything : BasicSet = record { divisions = []; constraints = [] } in (
+      complement keeps (o .s),
+      o .result,
+      subst Disjoint (sym (concat-one (cutAll keeps (o .s)) everything)) (pieces-disjoint (o .s) (decode-formed n a (o .s) (o .first)) everything tt),
+    )

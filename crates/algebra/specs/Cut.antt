@@ -124,7 +124,7 @@ module _ (keep : BasicSet → Bool) where
   unfoldable pub cutTight : BasicSet → BasicSet → List BasicSet
   cutTight a c = cutBy (joinedDivisions a c) (a .constraints) (movedConstraints a c)
 
-  -- "First sets are tightened before joining"; a piece of an earlier cutter is tight already (proofs/Tightened `tight-tight`)
+  -- "First sets are tightened before joining"; a piece of an earlier cutter is tight already (proofs/Closed `pieces-tight`)
   unfoldable pub cut : BasicSet → BasicSet → List BasicSet
   cut a c = concatMap (λ (p : BasicSet). cutTight p c) (solvable a)
 

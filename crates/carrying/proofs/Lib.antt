@@ -1,3 +1,4 @@
 pub mod Carries
 pub mod Runs
 pub mod Asked
+pub mod Meanings

@@ -8,11 +8,13 @@ use lib.Dec.{T}
 use lib.IntN.{ℤ}
 use lib.ListN.{length, take, length-take}
 use Rattle.model.specs.Sets.{Set, inSet}
+use Rattle.model.specs.Existential.{ExistsIn}
 use Rattle.codec.specs.Bytes.{Answer, gives, decode}
 use Rattle.codec.proofs.Decoded.{Bytes}
 use Rattle.algebra.specs.Cut.{keeps, difference}
 use Rattle.algebra.specs.Operations.{differenceBytes}
 use Rattle.algebra.proofs.Contracts.{Operation, difference-bytes}
+use Rattle.query.proofs.Means.{decoded-means}
 use Rattle.search.specs.Search.{Interval, nothing, spent, Tallied, firstPoint, boxOf, searchBytes}
 use Rattle.search.proofs.Walks.{In}
 use Rattle.search.proofs.Searched.{Searched, searched, sides, few-axes, none-covered, covered-none}
@@ -25,9 +27,9 @@ module _ (n room : ℕ) (a b c : List ℕ) (pa : Bytes a) (pb : Bytes b) (cut : 
   r : Searched n c ls hs limit t
   r = searched n c ls hs limit t asked
 
-  -- the points of the two sets, the first and the second
+  -- every point of the first set in the box is, with FPL's meaning, in the second
   abbrev pub Covers : Set → Set → Type 0
-  Covers s u = (zs : List ℤ) → In zs (take n (boxOf ls hs)) → T (inSet zs s) → T (inSet zs u)
+  Covers s u = (x : List ℤ) → In x (take n (boxOf ls hs)) → ExistsIn x s → ExistsIn x u
 
   some-low : 0 < length ls
   some-low = omega arith
@@ -61,15 +63,16 @@ module _ (n room : ℕ) (a b c : List ℕ) (pa : Bytes a) (pb : Bytes b) (cut : 
   answer-is = ap (λ (bs : List Interval). firstPoint (r .s) bs limit) (sym box-is) ∙ r .answer
 
   pub none-then-covered : t .found ≡ nothing → (s u : Set) → decode n a ≡ gives s → decode n b ≡ gives u → Covers s u
-  none-then-covered e s u p q zs hz ps =
-      subst (λ (v : Set). T (inSet zs v)) (given (sym (op .second) ∙ q))
-      (none-covered (r .s) (op .s) (op .t) (r .formed) points side others few limit (ap (λ (v : Tallied). v .found) answer-is ∙ e) zs (subst (In zs) box-is hz)
-      (subst (λ (v : Set). T (inSet zs v)) (given (sym p ∙ op .first)) ps))
+  none-then-covered e s u p q x i w =
+      decoded-means n b u q x .0
+      (subst (λ (v : Set). T (inSet x v)) (given (sym (op .second) ∙ q))
+      (none-covered (r .s) (op .s) (op .t) (r .formed) points side others few limit (ap (λ (v : Tallied). v .found) answer-is ∙ e) x (subst (In x) box-is i)
+      (subst (λ (v : Set). T (inSet x v)) (given (sym p ∙ op .first)) (decoded-means n a s p x .1 w))))
 
   pub covered-then-none : ¬ (t .found ≡ spent) → (s u : Set) → decode n a ≡ gives s → decode n b ≡ gives u → Covers s u → t .found ≡ nothing
   covered-then-none unspent s u p q f =
       ap (λ (v : Tallied). v .found) (sym answer-is)
       ∙ covered-none (r .s) (op .s) (op .t) (r .formed) points side others few limit (λ e. unspent (ap (λ (v : Tallied). v .found) (sym answer-is) ∙ e))
-      (λ zs hz ps.
-      subst (λ (v : Set). T (inSet zs v)) (given (sym q ∙ op .second))
-      (f zs (subst (In zs) (sym box-is) hz) (subst (λ (v : Set). T (inSet zs v)) (given (sym (op .first) ∙ p)) ps)))
+      (λ x i w.
+      subst (λ (v : Set). T (inSet x v)) (given (sym q ∙ op .second))
+      (decoded-means n b u q x .1 (f x (subst (In x) (sym box-is) i) (decoded-means n a s p x .0 (subst (λ (v : Set). T (inSet x v)) (given (sym (op .first) ∙ p)) w)))))

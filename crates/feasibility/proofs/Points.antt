@@ -1,13 +1,13 @@
 -- The answer `point`: a point with fractions that meets the basic set.
 use mathlib.Core.Path.{_≡_, refl, sym, ap, ap₂, _∙_, subst}
-use mathlib.Core.Bool.{Bool, true, false, not, cond}
+use mathlib.Core.Bool.{Bool, true, false, not, _&&_, cond}
 use mathlib.Core.List.{List, [], _∷_, _++_, map}
 use mathlib.Core.Option.{Option, none, some}
 use Prim.Native.Nat.{ℕ, zero, suc, _+_, _*_, _-_, _≤_, _<_, suc-le-suc}
 use native.Mathlib.Nat.{le-of-eq, le-of-suc-le-suc, not-suc-le-zero, zero-lt-suc, add-zero, zero-add, add-suc, suc-add}
 use native.Mathlib.Omega.{arith}
 use lib.Dec.{T, lt→ltb, ltb, ltb→lt, eqb, eqb→eq, eqb-refl}
-use lib.IntN.{ℤ, pos, negsuc, natAbs, _+ℤ_, _-ℤ_, _*ℤ_}
+use lib.IntN.{ℤ, pos, negsuc, negℤ, natAbs, _+ℤ_, _-ℤ_, _*ℤ_}
 use lib.Signed.{nonNeg, _≤ℤ_, _<ℤ_, yes-nonNeg}
 use lib.ListN.{length, getD, set, replicate, length-set, length-map}
 use lib.Seq.{getD-set-same, getD-set-other}
@@ -16,10 +16,10 @@ use Rattle.integers.specs.Lin.{lt, eq, lin, lia-eq}
 use Rattle.integers.specs.Order.{mul-nonneg, mul-pos-pos, <ℤ-≤ℤ}
 use Rattle.integers.specs.Size.{natAbs-nonneg}
 use Rattle.model.specs.Lists.{all}
-use Rattle.model.specs.Sets.{dot, Kind, equality, inequality, Constraint, BasicSet, isZero, meets, value, holds, conditions, RationalPoint, meetsBasic}
+use Rattle.model.specs.Sets.{dot, Division, Kind, equality, inequality, Constraint, BasicSet, isZero, meets, value, holds, absent, overAxes, lower, upper, bounds, conditions, RationalPoint, meetsBasic}
 use Rattle.feasibility.specs.Tableau.{point, dropped, long, wide, Row, Tableau, entry, constantOf, sortOf, violates, lowest, violatedRows, solved, replaced, reduced, exchange, narrow, noRow, Look, noneViolated, noneHelps, pivot, look, Ending, ended, reach, run, endsAt, pad, from, firstRows, start, test, bound, sorts, begin}
-use Rattle.model.proofs.Count.{and-make, from-T, no-suc, suc-inj}
-use Rattle.model.proofs.Values.{isZero→, nn}
+use Rattle.model.proofs.Count.{and-left, and-right, and-make, from-T, all-append, no-suc, suc-inj}
+use Rattle.model.proofs.Values.{dot-neg, isZero→, nn}
 use Rattle.feasibility.proofs.Sizes.{test-128}
 use Rattle.feasibility.proofs.Exchange.{Holds, Solves, Shaped, shape-at, Pivot, exchange-shaped, exchange-back}
 use Rattle.feasibility.proofs.Verdicts.{Meets, Found, calm, turns, looked, when-none, to-not}
@@ -341,12 +341,76 @@ start-placed k rs =
     minus : (i : ℕ) → 8 + k + i - (8 + k) ≡ i
     minus i = omega arith
 
-pub record Witness (b : BasicSet) : Type 0 where
+-- a point with fractions of n axes that meets the basic set: "one whole numerator for each axis and division", 0 for an
+-- absent axis
+pub record Witness (n : ℕ) (b : BasicSet) : Type 0 where
   pub p : RationalPoint
-  pub positive : 0 < p .denominator
   pub x-long : length (p .x) ≡ 8
+  pub absents : T (absent n (p .x))
   pub q-long : length (p .q) ≡ length (b .divisions)
   pub meets : T (meetsBasic p b)
+
+-- ---- the numerators of absent axes, whose coefficients are 0, count nothing
+
+-- 0 past the first n
+abbrev cleared : ℕ → List ℤ → List ℤ
+cleared zero [] = []
+cleared zero (x ∷ xs) = pos 0 ∷ cleared zero xs
+cleared (suc n) [] = []
+cleared (suc n) (x ∷ xs) = x ∷ cleared n xs
+
+length-cleared : (n : ℕ) (xs : List ℤ) → length (cleared n xs) ≡ length xs
+length-cleared zero [] = refl
+length-cleared zero (x ∷ xs) = ap suc (length-cleared zero xs)
+length-cleared (suc n) [] = refl
+length-cleared (suc n) (x ∷ xs) = ap suc (length-cleared n xs)
+
+cleared-absent : (n : ℕ) (xs : List ℤ) → T (absent n (cleared n xs))
+cleared-absent zero [] = tt
+cleared-absent zero (x ∷ xs) = cleared-absent zero xs
+cleared-absent (suc n) [] = tt
+cleared-absent (suc n) (x ∷ xs) = cleared-absent n xs
+
+dot-cleared : (n : ℕ) (cs xs : List ℤ) → T (absent n cs) → dot cs (cleared n xs) ≡ dot cs xs
+dot-cleared n [] xs t = refl
+dot-cleared zero (c ∷ cs) [] t = refl
+dot-cleared zero (c ∷ cs) (x ∷ xs) t =
+    ap₂ (λ (a z : ℤ). a *ℤ pos 0 +ℤ z) (isZero→ c (and-left (isZero c) (all isZero cs) t)) (dot-cleared zero cs xs (and-right (isZero c) (all isZero cs) t))
+    ∙ ring (x ∷ dot cs xs ∷ []) {b = pos 0 *ℤ x +ℤ dot cs xs} (search quote depth 30) tt
+    ∙ ap (λ (a : ℤ). a *ℤ x +ℤ dot cs xs) (sym (isZero→ c (and-left (isZero c) (all isZero cs) t)))
+dot-cleared (suc n) (c ∷ cs) [] t = refl
+dot-cleared (suc n) (c ∷ cs) (x ∷ xs) t = ap (λ (z : ℤ). c *ℤ x +ℤ z) (dot-cleared n cs xs t)
+
+module _ (n : ℕ) (D : ℤ) (x q : List ℤ) where
+  abbrev Same : Constraint → Type 0
+  Same r = holds D (cleared n x) q r ≡ holds D x q r
+
+  holds-cleared : (r : Constraint) → dot (r .axes) (cleared n x) ≡ dot (r .axes) x → Same r
+  holds-cleared r e = ap (λ (z : ℤ). meets (r .kind) (r .constant *ℤ D +ℤ (z +ℤ dot (r .divisions) q))) e
+
+  rules-cleared : (rs : List Constraint) → T (all (λ (r : Constraint). absent n (r .axes)) rs) → all (holds D (cleared n x) q) rs ≡ all (holds D x q) rs
+  rules-cleared [] t = refl
+  rules-cleared (r ∷ rs) t =
+      ap₂ _&&_ (holds-cleared r (dot-cleared n (r .axes) x (and-left (absent n (r .axes)) (all (λ (r : Constraint). absent n (r .axes)) rs) t)))
+      (rules-cleared rs (and-right (absent n (r .axes)) (all (λ (r : Constraint). absent n (r .axes)) rs) t))
+
+  bounds-cleared : (i : ℕ) (es : List Division) → T (all (λ (e : Division). absent n (e .axes)) es) → all (holds D (cleared n x) q) (bounds i es) ≡ all (holds D x q) (bounds i es)
+  bounds-cleared i [] t = refl
+  bounds-cleared i (e ∷ es) t =
+      let d : dot (e .axes) (cleared n x) ≡ dot (e .axes) x = dot-cleared n (e .axes) x (and-left (absent n (e .axes)) (all (λ (e : Division). absent n (e .axes)) es) t) in
+      ap₂ _&&_ (holds-cleared (lower i e) d)
+      (ap₂ _&&_ (holds-cleared (upper i e) (dot-neg (e .axes) (cleared n x) ∙ ap negℤ d ∙ sym (dot-neg (e .axes) x)))
+      (bounds-cleared (suc i) es (and-right (absent n (e .axes)) (all (λ (e : Division). absent n (e .axes)) es) t)))
+
+conditions-cleared : (n : ℕ) (b : BasicSet) (D : ℤ) (x q : List ℤ) → T (overAxes n b) → all (holds D (cleared n x) q) (conditions b) ≡ all (holds D x q) (conditions b)
+conditions-cleared n b D x q t =
+    let ds = all (λ (e : Division). absent n (e .axes)) (b .divisions) in
+    let rs = all (λ (r : Constraint). absent n (r .axes)) (b .constraints) in
+    all-append (holds D (cleared n x) q) (bounds 0 (b .divisions)) (b .constraints)
+    ∙ ap₂ _&&_ (bounds-cleared n D x q 0 (b .divisions) (and-left ds rs t)) (rules-cleared n D x q (b .constraints) (and-right ds rs t))
+    ∙ sym (all-append (holds D x q) (bounds 0 (b .divisions)) (b .constraints))
+
+-- ---- from a solution of the first tableau
 
 from-split : (w : ℕ → ℤ) (v m n : ℕ) → map w (from v (m + n)) ≡ map w (from v m) ++ map w (from (v + m) n)
 from-split w v zero n = ap₂ (λ (a b : ℕ). map w (from a b)) (sym (add-zero v)) (zero-add n)
@@ -401,28 +465,31 @@ module _ (b : BasicSet) (s : Solution (sortOf (8 + length (b .divisions)) (condi
   denominator-is : pos (natAbs (s .D)) ≡ s .D
   denominator-is = natAbs-nonneg (<ℤ-≤ℤ (s .positive))
 
-  witness : Witness b
-  witness =
+  witness : (n : ℕ) → T (overAxes n b) → Witness n b
+  witness n over =
       record {
-        p = record { denominator = natAbs (s .D); x = x; q = q };
-        positive = above (s .D) (s .positive);
-        x-long = x-len;
+        p = record { denominator = natAbs (s .D); positive = above (s .D) (s .positive); x = cleared n x; q = q };
+        x-long = length-cleared n x ∙ x-len;
+        absents = cleared-absent n x;
         q-long = q-len;
         meets =
-            subst (λ (D : ℤ). T (all (holds D x q) (conditions b))) (sym denominator-is)
+            subst T (sym (conditions-cleared n b (pos (natAbs (s .D))) x q over))
+            (subst (λ (D : ℤ). T (all (holds D x q) (conditions b))) (sym denominator-is)
             (values (8 + k) (conditions b) (s .solves)
-            (λ i. subst (λ (o : Option Kind). T (not (violates o (s .w (8 + k + i))))) (kind-at (8 + k) (conditions b) (record { kind = equality; constant = pos 0; axes = []; divisions = [] }) i) (s .meets (8 + k + i))));
+            (λ i. subst (λ (o : Option Kind). T (not (violates o (s .w (8 + k + i))))) (kind-at (8 + k) (conditions b) (record { kind = equality; constant = pos 0; axes = []; divisions = [] }) i) (s .meets (8 + k + i)))));
       }
     where
       above : (z : ℤ) → pos 0 <ℤ z → 0 < natAbs z
       above (pos n) h = ltb→lt 0 n (h .lt)
       above (negsuc n) h = zero-lt-suc n
 
--- point: some point with fractions meets the basic set
-pub run-witness : (fits : ℕ → Tableau → Bool) (n : ℕ) (b : BasicSet) → run fits (sorts b) n (begin b) ≡ point → Witness b
-run-witness fits n b e =
-    witness b (run-point fits (sorts b) n (begin b) (start-shaped (length (b .divisions)) (8 + length (b .divisions)) (conditions b)) (start-placed (length (b .divisions)) (conditions b)) e)
+-- point: some point with fractions meets the basic set, of n axes, whatever the bound and the number of pivots
+pub run-witness : (fits : ℕ → Tableau → Bool) (pivots n : ℕ) (b : BasicSet) → T (overAxes n b)
+    → run fits (sorts b) pivots (begin b) ≡ point → Witness n b
+run-witness fits pivots n b over e =
+    witness b (run-point fits (sorts b) pivots (begin b) (start-shaped (length (b .divisions)) (8 + length (b .divisions)) (conditions b)) (start-placed (length (b .divisions)) (conditions b)) e)
+    n over
 
-pub point-sound : (b : BasicSet) → test b ≡ point → Witness b
+pub point-sound : (n : ℕ) (b : BasicSet) → T (overAxes n b) → test b ≡ point → Witness n b
 unfolding endsAt
-point-sound b e = run-witness (narrow (bound 128)) 200 b (sym (test-128 b) ∙ e)
+point-sound n b over e = run-witness (narrow (bound 128)) 200 n b over (sym (test-128 b) ∙ e)

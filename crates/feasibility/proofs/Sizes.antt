@@ -106,7 +106,7 @@ or-more : (c a b : Bool) → (T a → T b) → T (c || a) → T (c || b)
 or-more true a b f t = tt
 or-more false a b f t = f t
 
-abbrev bounded : ℕ → List ℤ → Bool
+abbrev pub bounded : ℕ → List ℤ → Bool
 bounded m zs = all (λ (z : ℤ). leb (natAbs z) m) zs
 
 numbers-more : (m n : ℕ) → m ≤ n → (zs : List ℤ) → T (bounded m zs) → T (bounded n zs)

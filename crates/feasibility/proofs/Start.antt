@@ -124,10 +124,12 @@ module _ (D : ℤ) (x q : List ℤ) (k : ℕ) (xlen : length x ≤ 8) (qlen : le
       e
 
 -- dropped: no point with fractions meets the basic set
-pub run-empty : (fits : ℕ → Tableau → Bool) (n : ℕ) (b : BasicSet) → run fits (sorts b) n (begin b) ≡ dropped → (p : RationalPoint) → 0 < p .denominator → length (p .x) ≤ 8 → length (p .q) ≤ length (b .divisions) → ¬ T (meetsBasic p b)
-run-empty fits n b e p h xlen qlen t =
-    start-dropped (pos (p .denominator)) (p .x) (p .q) (length (b .divisions)) xlen qlen fits (conditions b) n (record { lt = lt→ltb 0 (p .denominator) h }) t e
+pub run-empty : (fits : ℕ → Tableau → Bool) (n : ℕ) (b : BasicSet) → run fits (sorts b) n (begin b) ≡ dropped
+    → (p : RationalPoint) → length (p .x) ≤ 8 → length (p .q) ≤ length (b .divisions) → ¬ T (meetsBasic p b)
+run-empty fits n b e p xlen qlen t =
+    start-dropped (pos (p .denominator)) (p .x) (p .q) (length (b .divisions)) xlen qlen fits (conditions b) n (record { lt = lt→ltb 0 (p .denominator) (p .positive) }) t e
 
-pub dropped-sound : (b : BasicSet) → test b ≡ dropped → (p : RationalPoint) → 0 < p .denominator → length (p .x) ≤ 8 → length (p .q) ≤ length (b .divisions) → ¬ T (meetsBasic p b)
+pub dropped-sound : (b : BasicSet) → test b ≡ dropped
+    → (p : RationalPoint) → length (p .x) ≤ 8 → length (p .q) ≤ length (b .divisions) → ¬ T (meetsBasic p b)
 unfolding endsAt
 dropped-sound b e = run-empty (narrow (bound 128)) 200 b (sym (test-128 b) ∙ e)

@@ -17,7 +17,7 @@ use mir.Val.{SFits}
 use Rattle.integers.specs.Ring.{ring, quote}
 use Rattle.integers.specs.Lin.{fits, le, lin, lia-fits}
 use lib.Signed.{_≤ℤ_, leZ-yes}
-use Rattle.model.specs.Lists.{all, any}
+use Rattle.model.specs.Lists.{any}
 use Rattle.model.specs.Sets.{Division, equality, isZero}
 use Rattle.model.specs.declared.Division.{Division as Stored}
 use Rattle.model.specs.declared.Constraint.{Constraint as StoredConstraint}
@@ -26,7 +26,7 @@ use Rattle.codec.proofs.Valid.{All}
 use Rattle.algebra.specs.Cut.{sameℤ, sameList, sameDivision, seek, Joined, placed, joinFrom, join, addAt, move}
 use Rattle.joining.specs.Joining.{placeOf, Placed}
 use Rattle.model.proofs.Lists.{map-append}
-use Rattle.model.proofs.Count.{and-left, and-right}
+use Rattle.model.proofs.Count.{and-left}
 use Rattle.algebra.proofs.Joined.{same→, joined}
 use Rattle.algebra.proofs.Closed.{Apart, spread, getD-move, all-below}
 
@@ -40,11 +40,6 @@ noConstraint = record { equality = false; constant = pos 0; axes = []; divisions
 -- ---- every element
 
 module _ {A : Type 0} where
-  pub all-at : (f : A → Bool) (l : List A) (i : ℕ) (d : A) → i < length l → T (all f l) → T (f (getD l i d))
-  all-at f [] i d h t = absurd (not-suc-le-zero h)
-  all-at f (a ∷ l) zero d h t = and-left (f a) (all f l) t
-  all-at f (a ∷ l) (suc i) d h t = all-at f l i d (le-of-suc-le-suc h) (and-right (f a) (all f l) t)
-
   pub All-at : (P : A → Type 0) (l : List A) (i : ℕ) (d : A) → i < length l → All P l → P (getD l i d)
   All-at P [] i d h t = absurd (not-suc-le-zero h)
   All-at P (a ∷ l) zero d h t = t .0

@@ -49,6 +49,11 @@ module _ {A : Type 0} where
   all-append f [] m = refl
   all-append f (a ∷ l) m = ap (λ (b : Bool). f a && b) (all-append f l m) ∙ sym (and-assoc (f a) (all f l) (all f m))
 
+  pub all-at : (f : A → Bool) (l : List A) (i : ℕ) (d : A) → i < length l → T (all f l) → T (f (getD l i d))
+  all-at f [] i d h t = absurd (not-suc-le-zero h)
+  all-at f (a ∷ l) zero d h t = and-left (f a) (all f l) t
+  all-at f (a ∷ l) (suc i) d h t = all-at f l i d (le-of-suc-le-suc h) (and-right (f a) (all f l) t)
+
   pub count-append : (f : A → Bool) (l m : List A) → count f (l ++ m) ≡ count f l + count f m
   count-append f [] m = sym (zero-add (count f m))
   count-append f (a ∷ l) m = ap (λ (k : ℕ). ind (f a) + k) (count-append f l m) ∙ sym (add-assoc (ind (f a)) (count f l) (count f m))

@@ -12,7 +12,7 @@ use Rattle.integers.specs.Ring.{ring, quote}
 use Rattle.integers.specs.Lin.{le, lt, lin, lia-le, lia-lt}
 use Rattle.integers.specs.Div.{floorZ-is, floor-unique}
 use Rattle.model.specs.Lists.{all}
-use Rattle.model.specs.Sets.{dot, Division, Constraint, BasicSet, Set, holds, value, quotient, quotients, inBasic, inSet, unit, lower, upper, bounds, conditions, meetsBasic}
+use Rattle.model.specs.Sets.{dot, Division, Constraint, BasicSet, Set, holds, value, quotient, quotients, inBasic, inSet, unit, lower, upper, bounds, conditions, whole, meetsBasic}
 use Rattle.model.specs.Existential.{numerator, Remainder, Remainders, Exists, ExistsIn, here, there}
 use Rattle.model.proofs.Count.{and-left, and-right, and-make, from-T, to-T, all-append, no-suc, suc-inj}
 use Rattle.model.proofs.Values.{dot-neg, divides, nn}
@@ -145,7 +145,7 @@ module _ (x q : List ℤ) where
       (and-make (holds (pos 1) x q (upper i f)) more (upper-holds x q i f here) (remainders-bounds (suc i) es qs (d .1) (r .1)))
 
 -- a rational point over 1 meets the basic set exactly when its q are such whole numbers
-pub whole-meets : (b : BasicSet) (x : List ℤ) (w : Exists x b) → T (meetsBasic (record { denominator = 1; x = x; q = w .q }) b)
+pub whole-meets : (b : BasicSet) (x : List ℤ) (w : Exists x b) → T (meetsBasic (whole x (w .q)) b)
 whole-meets b x w =
     let h : Constraint → Bool = holds (pos 1) x (w .q) in
     to-T (all h (conditions b))
@@ -153,7 +153,7 @@ whole-meets b x w =
     ∙ from-T (all h (bounds 0 (b .divisions)) && all h (b .constraints))
     (and-make (all h (bounds 0 (b .divisions))) (all h (b .constraints)) (remainders-bounds x (w .q) 0 (b .divisions) (w .q) refl (w .remainders)) (w .constraints)))
 
-pub meets-whole : (b : BasicSet) (x q : List ℤ) → length q ≡ length (b .divisions) → T (meetsBasic (record { denominator = 1; x = x; q = q }) b) → Exists x b
+pub meets-whole : (b : BasicSet) (x q : List ℤ) → length q ≡ length (b .divisions) → T (meetsBasic (whole x q) b) → Exists x b
 meets-whole b x q l t =
     let h : Constraint → Bool = holds (pos 1) x q in
     let u : T (all h (bounds 0 (b .divisions)) && all h (b .constraints)) = to-T (all h (bounds 0 (b .divisions)) && all h (b .constraints)) (sym (all-append h (bounds 0 (b .divisions)) (b .constraints)) ∙ from-T (all h (conditions b)) t) in

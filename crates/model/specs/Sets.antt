@@ -2,10 +2,10 @@
 -- Coefficients have 8 places, a point has as many coordinates as there are axes; what a list lacks counts as 0.
 use mathlib.Core.Bool.{Bool, false, _&&_}
 use mathlib.Core.List.{List, [], _∷_, _++_, map}
-use Prim.Native.Nat.{ℕ, zero, suc, _/_}
+use Prim.Native.Nat.{ℕ, zero, suc, _/_, _<_}
 use lib.IntN.{ℤ, pos, negsuc, negℤ, _+ℤ_, _-ℤ_, _*ℤ_}
 use lib.Signed.{nonNeg}
-use lib.Dec.{eqb, ltb}
+use lib.Dec.{eqb, ltb, lit<}
 use lib.ListN.{length, drop}
 use Rattle.model.specs.Lists.{all, any}
 
@@ -88,6 +88,10 @@ abbrev pub wellFormed : BasicSet → Bool
 wellFormed b =
     all (λ (e : Division). ltb 0 (e .divisor)) (b .divisions) && all (λ (r : Constraint). absent (length (b .divisions)) (r .divisions)) (b .constraints)
 
+-- and, of n axes, no coefficient for an axis past the n-th
+abbrev pub overAxes : ℕ → BasicSet → Bool
+overAxes n b = all (λ (e : Division). absent n (e .axes)) (b .divisions) && all (λ (r : Constraint). absent n (r .axes)) (b .constraints)
+
 -- ---- rational points ("points with fractions")
 
 -- z at place i
@@ -113,8 +117,13 @@ conditions b = bounds 0 (b .divisions) ++ b .constraints
 -- "one whole numerator for each axis and division over one positive denominator": x for the axes, q for the divisions
 pub record RationalPoint : Type 0 where
   pub denominator : ℕ
+  pub positive : 0 < denominator
   pub x : List ℤ
   pub q : List ℤ
+
+-- whole numbers x and q are the numerators over 1
+abbrev pub whole : List ℤ → List ℤ → RationalPoint
+whole x q = record { denominator = 1; positive = lit< tt; x = x; q = q }
 
 -- "its rules hold and each division lies between its two bounds"
 abbrev pub meetsBasic : RationalPoint → BasicSet → Bool

@@ -18,5 +18,6 @@ seen r = (r .ptr, r .now)
 abbrev pub seat : ℕ → RefT (List ℕ) → ℕ → (ℕ × ℕ) × List ℕ
 seat n t k = ((t .ptr .0, t .ptr .1 + partOf n (t .now) k .place), held (partOf n (t .now) k) (t .now))
 
+-- "handed back as a part of the table it came from"
 abbrev pub handed : ℕ → RefT (List ℕ) → RefT (List ℕ) → Holder → (ℕ × ℕ) × List ℕ
 handed n a b h = elim (h .table) [ first ↦ seat n a (h .number) | second ↦ seat n b (h .number) ]

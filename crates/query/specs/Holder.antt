@@ -6,7 +6,6 @@ use lib.IntN.{ℤ}
 use lib.ListN.{take}
 use Rattle.model.specs.Sets.{Set, inBasic}
 use Rattle.codec.specs.Bytes.{Answer, refused, gives, decode}
-use Rattle.codec.specs.Parts.{Part, partOf}
 use Rattle.query.specs.Member.{pointFits}
 
 -- the number, counted from k, of the first basic set that holds x; 0: none does
@@ -45,11 +44,3 @@ onBoth f (gives s) (gives t) = f s t
 
 unfoldable pub holderBytes : ℕ → List ℕ → List ℕ → List ℤ → Holder
 holderBytes n a b x = onBoth (holderOf n x) (decode n a) (decode n b)
-
--- "handed back as a part of the table it came from": the place and the size of that basic set there (number 0: the empty part)
-abbrev pub bytesOfTable : Table → List ℕ → List ℕ → List ℕ
-bytesOfTable first a b = a
-bytesOfTable second a b = b
-
-unfoldable pub holderPart : ℕ → List ℕ → List ℕ → List ℤ → Part
-holderPart n a b x = partOf n (bytesOfTable (holderBytes n a b x .table) a b) (holderBytes n a b x .number)

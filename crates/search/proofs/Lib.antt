@@ -1,5 +1,6 @@
 pub mod Walks
 pub mod Searched
+pub mod Means
 pub mod Tallied
 pub mod Parts
 pub mod Lives

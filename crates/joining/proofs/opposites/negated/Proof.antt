@@ -9,7 +9,8 @@ use lib.ListN.{length, getD}
 use mir.Syntax.{w16}
 use Rattle.integers.specs.Mach.{result-is}
 use Rattle.codec.specs.Bytes.{coefficient}
-use Rattle.joining.proofs.Placing.{all-at, gets-map}
+use Rattle.model.proofs.Count.{all-at}
+use Rattle.joining.proofs.Placing.{gets-map}
 use Rattle.joining.proofs.opposites.negated.Statement.{statement}
 use Rattle.joining.proofs.opposites.negated.Tie as tie
 
