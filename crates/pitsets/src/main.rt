@@ -1,39 +1,47 @@
 // The script program: reads a script from standard input in parts and writes what it prints to standard output.
 // What a script means is decided in `script::step`; this program moves bytes.
 ghost use mathlib.Core.Path.{_≡_};
-ghost use mathlib.Core.Bool.{true};
-ghost use Prim.Native.Nat.{ℕ, _+_, _-_, _≤_, _<_};
-ghost use lib.ListN.{length, getD};
-ghost use Rattle.session.specs.declared.Next.the-variants.{Reads};
+ghost use mathlib.Core.Bool.{true, false};
+ghost use Prim.Native.Nat.{_-_, _≤_, _<_};
+ghost use lib.ListN.{length, take};
+ghost use Rattle.session.specs.Turns.{memory};
+ghost use Rattle.session.specs.Session.{Left};
+ghost use Rattle.session.specs.declared.Next.the-variants.{Reads, Ends};
+ghost use Rattle.pitsets.specs.Moving.{unused, Lent, Refilled};
 use libc::STDIN_FILENO;
 use libc::STDOUT_FILENO;
 use session::Listing;
 use session::Next;
 use session::State;
 
-// The longest command, `40` with 65,535 bytes, has 65,539: it fits with room for a read behind it.
 fn input() -> [u8; 69632]
     ensures { λ r. ⌜ 69632 ≡ length r ⌝ }
 {
     [0; 69632]
 }
 
-fn tables() -> [u8; 32000] {
+fn tables() -> [u8; 32000]
+    ensures { λ r. ⌜ 32000 ≡ length r ⌝ }
+{
     [0; 32000]
 }
 
-fn result() -> [u8; 8000] {
+fn result() -> [u8; 8000]
+    ensures { λ r. ⌜ 8000 ≡ length r ⌝ }
+{
     [0; 8000]
 }
 
-fn line() -> [u8; 512] {
+fn line() -> [u8; 512]
+    ensures { λ r. ⌜ 512 ≡ length r ⌝ }
+{
     [0; 512]
 }
 
 // What is read and not used, from..have, moved to the front.
 fn forward(read: &mut [u8], from: usize, have: usize) -> usize
     requires { ⌜ (from ≤ have) × (have ≤ length (now read)) ⌝ }
-    ensures { λ r. ⌜ (r ≡ have - from) × ((j : ℕ) → j < r → getD (now (read .exit)) j 0 ≡ getD (now (read .entry)) (from + j) 0) ⌝ }
+    ensures { λ r. ⌜ (r ≡ have - from) × (take r (now (read .exit)) ≡ unused (now (read .entry)) from have) ⌝ }
 {
     let n = have - from;
     if from == 0 {
@@ -51,6 +59,7 @@ fn forward(read: &mut [u8], from: usize, have: usize) -> usize
 // tell an end that is none.
 fn more(read: &mut [u8], have: usize) -> isize
     requires { ⌜ have < length (now read) ⌝ }
+    ensures { λ r. ⌜ take have (now (read .exit)) ≡ take have (now (read .entry)) ⌝ }
 {
     libc::read(STDIN_FILENO, &mut read[have..])
 }
@@ -64,7 +73,7 @@ struct Filled {
 
 fn refill(read: &mut [u8], from: usize, have: usize, turns: u64) -> Filled
     requires { ⌜ (from ≤ have) × (have ≤ length (now read)) × (have - from < length (now read)) ⌝ }
-    ensures { λ r. ⌜ (r .have ≤ length (now (read .entry))) × (r .turns ≤ turns) ⌝ }
+    ensures { λ r. ⌜ Refilled (now (read .entry)) (now (read .exit)) from have turns r ⌝ }
 {
     let kept = forward(read, from, have);
     let got = more(read, kept);
@@ -85,7 +94,7 @@ fn refill(read: &mut [u8], from: usize, have: usize, turns: u64) -> Filled
 }
 
 fn asks(next: Next) -> bool
-    ensures { λ r. ⌜ (r ≡ true → next ≡ Reads) ⌝ }
+    ensures { λ r. ⌜ (r ≡ true → next ≡ Reads) × (r ≡ false → ¬ (next ≡ Reads)) ⌝ }
 {
     match next {
         Next::Goes => false,
@@ -95,7 +104,9 @@ fn asks(next: Next) -> bool
     }
 }
 
-fn ends(next: Next) -> bool {
+fn ends(next: Next) -> bool
+    ensures { λ r. ⌜ (r ≡ false → ¬ (next ≡ Ends)) ⌝ }
+{
     match next {
         Next::Goes => false,
         Next::Reads => false,
@@ -107,7 +118,7 @@ fn ends(next: Next) -> bool {
 // Writes the n bytes of a turn; the turns that are left behind it: none after the last one or an error.
 fn show(text: &[u8], n: usize, next: Next, turns: u64) -> u64
     requires { ⌜ (n ≤ length (now text)) × (0 < turns) ⌝ }
-    ensures { λ r. ⌜ r < turns ⌝ }
+    ensures { λ r. ⌜ (r < turns) × (0 < r → ¬ (next ≡ Ends)) ⌝ }
 {
     if !io::write_all(STDOUT_FILENO, &text[..n]) {
         os::fail(b"write");
@@ -122,7 +133,8 @@ fn show(text: &[u8], n: usize, next: Next, turns: u64) -> u64
 // Turn after turn, from four empty sets; read[from..have] is read and not used. The bound on the turns lets it come to an end
 // where the input does not; no run reaches it.
 fn run(read: &mut [u8], sets: &mut [u8], lengths: &mut [usize], answer: &mut [u8], text: &mut [u8])
-    requires { ⌜ length (now read) ≡ 69632 ⌝ }
+    requires { ⌜ Lent (now read) (now sets) (now lengths) (now answer) (now text) ⌝ }
+    ensures { λ _. ⌜ Left (length (now (text .entry))) (memory (now (sets .exit)) (now (lengths .exit)) (now (answer .exit))) ⌝ }
 {
     let mut state = State {
         axes: 0,

@@ -19,7 +19,7 @@ use Rattle.listing.proofs.Writing.{wrote-length}
 use Rattle.session.specs.Script as S
 use Rattle.session.specs.Script.{room, setNumbers, commandWidth, ending, Done, execute, script}
 use Rattle.session.specs.Turns.{Memory, stateOf, tableAt, keeps, Effect, none, listed, isAssignment, answerOf, effectOf, performs, listingOf, memoryOf, Turned, quiet, stateAt, lineTurn, commandTurn, frontTurn, frontOf, turnOf, cursorFits, usable, Fitted}
-use Rattle.session.specs.Session.{Session, goes, reads, closes, ends}
+use Rattle.session.specs.Session.{Session, goes, reads, closes, ends, Fresh}
 use Rattle.session.specs.declared.Front.the-variants.{Whole, More, Stop}
 use Rattle.session.specs.declared.Cursor.{Cursor}
 use Rattle.session.specs.declared.Listing.{Listing}
@@ -36,16 +36,16 @@ use Rattle.session.proofs.Sessions.{Fine, turned, joined, never, sessio
 
 -- ---- what turns leave
 
-abbrev Named : Listing → Type 0
+abbrev pub Named : Listing → Type 0
 Named Nothing = Unit {0}
 Named (From c) = c .set ≤ 3
 
 -- the memory, n and the listing, but for where its cursor stands
-record Kept (n : ℕ) (y : Memory) (l : Listing) : Type 0 where
-  fitted : Fitted (y .tables) (y .lengths)
-  result-long : length (y .result) ≡ room
-  axes : n ≤ 8
-  named : Named l
+pub record Kept (n : ℕ) (y : Memory) (l : Listing) : Type 0 where
+  pub fitted : Fitted (y .tables) (y .lengths)
+  pub result-long : length (y .result) ≡ room
+  pub axes : n ≤ 8
+  pub named : Named l
 
 all-fits : (l : List ℕ) → ((m : ℕ) → getD l m 0 ≤ room) → all (λ (x : ℕ). leb x room) l ≡ true
 all-fits [] h = refl
@@ -59,7 +59,7 @@ cursor-fits n y (From c) m f =
     (ap₂ _&&_ (le-leb (c .place) (getD (y .lengths) (c .set) 0) (omega (arith, length-take (getD (y .lengths) (c .set) 0) (drop (room * c .set) (y .tables)))))
     (ap₂ _&&_ (le-leb (c .basics) room (omega arith)) (le-leb (c .divisions) 8 (omega arith))))
 
-usable-kept : (w : ℕ) (st : State) (y : Memory) → 512 ≤ w → Kept (st .axes) y (st .listing) → Fine (st .axes) y (st .listing) → usable st y w ≡ true
+pub usable-kept : (w : ℕ) (st : State) (y : Memory) → 512 ≤ w → Kept (st .axes) y (st .listing) → Fine (st .axes) y (st .listing) → usable st y w ≡ true
 unfolding usable
 usable-kept w st y h k f =
     ap₂ _&&_ (eq-eqb (length (y .tables)) 32000 (k .fitted .tables-long))
@@ -152,8 +152,8 @@ left-most y (From c) f = let b = f .fit (c .set) in omega (arith, length-take (g
 abbrev size : Memory → Listing → List ℕ → ℕ
 size y l s = length s * 8002 + left y l
 
-record Onward (st : State) (y : Memory) (s : List ℕ) (t : Turned) : Type 0 where
-  kept : t .next ≡ Goes → Kept (t .state .axes) (t .memory) (t .state .listing)
+pub record Onward (st : State) (y : Memory) (s : List ℕ) (t : Turned) : Type 0 where
+  pub kept : t .next ≡ Goes → Kept (t .state .axes) (t .memory) (t .state .listing)
   less : t .next ≡ Goes → size (t .memory) (t .state .listing) (drop (t .used) s) < size y (st .listing) s
 
 onward-same : {st : State} {y : Memory} {s : List ℕ} {t t′ : Turned} → t ≡ t′ → Onward st y s t → Onward st y s t′
@@ -212,7 +212,7 @@ front-onward st y e s q k = by (ending (st .axes) s) refl
     by zero h = command-onward st y s q k h
     by (suc m) h = stops (eqb (suc m) 3 && not e) (suc m)
 
-onward : (w : ℕ) (st : State) (y : Memory) (e : Bool) (s : List ℕ) → usable st y w ≡ true → Kept (st .axes) y (st .listing) → Fine (st .axes) y (st .listing) → Onward st y s (turnOf st y w e s)
+pub onward : (w : ℕ) (st : State) (y : Memory) (e : Bool) (s : List ℕ) → usable st y w ≡ true → Kept (st .axes) y (st .listing) → Fine (st .axes) y (st .listing) → Onward st y s (turnOf st y w e s)
 onward w st y e s u k f = at (st .listing) refl k f
   where
     at : (l : Listing) → st .listing ≡ l → Kept (st .axes) y l → Fine (st .axes) y l → Onward st y s (turnOf st y w e s)
@@ -267,17 +267,24 @@ session-ends : (f w : ℕ) → 512 ≤ w → (st : State) (y : Memory) (e : Bool
 session-ends zero w h st y e s ps z k i g = one-turn w h st y e s ps k i g (λ st′ y′ e′ s′ ps′ l. absurd (omega arith))
 session-ends (suc f) w h st y e s ps z k i g = one-turn w h st y e s ps k i g (λ st′ y′ e′ s′ ps′ l. session-ends f w h st′ y′ e′ s′ ps′ (omega arith))
 
--- From four empty sets, with memory of its sizes: however the input is split into reads there is a session, and it prints the script.
-pub session-total : (w : ℕ) (y : Memory) (ps : List (List ℕ)) → 512 ≤ w → length (y .tables) ≡ 32000 → y .lengths ≡ 0 ∷ 0 ∷ 0 ∷ 0 ∷ [] → length (y .result) ≡ room → Session w (stateAt 0 Nothing) y false [] ps (script (joined ps))
-session-total w y ps h a b c =
-    let k : Kept 0 y Nothing =
-    record { fitted = record { tables-long = a; lengths-long = ap length b; fit = λ m. subst (λ (l : List ℕ). getD l m 0 ≤ room) (sym b) (empty m) }; result-long = c; axes = omega arith; named = tt } in
-    let r = session-ends (wholeSize (stateAt 0 Nothing) y false [] ps) w h (stateAt 0 Nothing) y false [] ps (omega arith) k tt (λ z. no z) in
-    subst (λ (l : List ℕ). Session w (stateAt 0 Nothing) y false [] ps l) (session-script w y ps (r .0) b (r .1)) (r .1)
-  where
-    empty : (m : ℕ) → getD (0 ∷ 0 ∷ 0 ∷ 0 ∷ []) m 0 ≤ room
-    empty zero = omega arith
-    empty (suc zero) = omega arith
-    empty (suc (suc zero)) = omega arith
-    empty (suc (suc (suc zero))) = omega arith
-    empty (suc (suc (suc (suc m)))) = omega arith
+empty-fit : (m : ℕ) → getD (0 ∷ 0 ∷ 0 ∷ 0 ∷ []) m 0 ≤ room
+empty-fit zero = omega arith
+empty-fit (suc zero) = omega arith
+empty-fit (suc (suc zero)) = omega arith
+empty-fit (suc (suc (suc zero))) = omega arith
+empty-fit (suc (suc (suc (suc m)))) = omega arith
+
+pub fresh-kept : (y : Memory) → Fresh y → Kept 0 y Nothing
+fresh-kept y f =
+    record {
+      fitted = record { tables-long = f .tables; lengths-long = ap length (f .empty); fit = λ m. subst (λ (l : List ℕ). getD l m 0 ≤ room) (sym (f .empty)) (empty-fit m) };
+      result-long = f .result;
+      axes = omega arith;
+      named = tt;
+    }
+
+-- From fresh memory: however the input is split into reads there is a session, and it prints the script.
+pub session-total : (w : ℕ) (y : Memory) (ps : List (List ℕ)) → 512 ≤ w → Fresh y → Session w (stateAt 0 Nothing) y false [] ps (script (joined ps))
+session-total w y ps h f =
+    let r = session-ends (wholeSize (stateAt 0 Nothing) y false [] ps) w h (stateAt 0 Nothing) y false [] ps (omega arith) (fresh-kept y f) tt (λ z. no z) in
+    subst (λ (l : List ℕ). Session w (stateAt 0 Nothing) y false [] ps l) (session-script w y ps (r .0) (f .empty) (r .1)) (r .1)

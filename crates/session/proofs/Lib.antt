@@ -6,3 +6,4 @@ pub mod Listings
 pub mod Assigned
 pub mod Sessions
 pub mod Ending
+pub mod Running

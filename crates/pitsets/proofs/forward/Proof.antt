@@ -1,4 +1,4 @@
-use mathlib.Core.Path.{_≡_, refl, ap, sym, _∙_}
+use mathlib.Core.Path.{_≡_, refl, ap, sym, subst, _∙_}
 use mathlib.Core.Bool.{Bool, true, false}
 use mathlib.Core.List.{List}
 use Prim.Native.Nat.{ℕ, _+_, _-_, _≤_, _<_}
@@ -6,8 +6,9 @@ use native.Mathlib.Omega.{arith}
 use borrow.Author.Needs.{needs}
 use borrow.Author.Tests.{ltb-true, ltb-false}
 use lib.Dec.{ltb}
-use lib.ListN.{length, getD, set, length-set}
-use lib.Seq.{getD-set-same, getD-set-other}
+use lib.ListN.{length, getD, set, take, drop, length-set, length-drop}
+use lib.Seq.{getD-set-same, getD-set-other, length-take-le, getD-take, getD-drop, ext-getD}
+use Rattle.pitsets.specs.Moving.{unused}
 use Rattle.pitsets.proofs.forward.Statement.{statement}
 use Rattle.pitsets.proofs.forward.Tie as tie
 
@@ -34,6 +35,13 @@ moved-more i from v l₀ l h e m =
         let a = ltb-false j i q in let z : j ≡ i = omega arith in
         ap (λ (k : ℕ). getD (set l i v) k 0) z ∙ getD-set-same l i v 0 h ∙ e ∙ m .left (from + i) (omega arith) ∙ ap (λ (k : ℕ). getD l₀ (from + k) 0) (sym z)
 
+moved-all : (from have : ℕ) (l₀ l : List ℕ) → from ≤ have → have ≤ length l₀ → Moved (have - from) from l₀ l → take (have - from) l ≡ unused l₀ from have
+moved-all from have l₀ l h k m =
+    let n = m .long in let a = length-take-le (have - from) l (omega arith) in let b = length-take-le (have - from) (drop from l₀) (omega (arith, length-drop from l₀)) in
+    ext-getD 0 (take (have - from) l) (unused l₀ from have) (a ∙ sym b) (
+    λ j q. let q′ : j < have - from = omega arith in getD-take (have - from) l j 0 q′ ∙ m .moved j q′ ∙ sym (getD-take (have - from) (drop from l₀) j 0 q′ ∙ getD-drop from l₀ j 0)
+    )
+
 abbrev Inv-loop : tie.InvT-loop
 Inv-loop read₀ from have n i₀ read i = (i ≤ n) × Moved i from read₀ read
 
@@ -45,8 +53,8 @@ sub-n c = search needs
 
 returns : tie.Need-returns Inv-loop μ-loop
 returns c =
-    let z = c .if1 .taken in
-    (refl, λ j h. let e : j ≡ c .before .args .from + j = omega arith in ap (λ (k : ℕ). getD (c .before .args .read .now) k 0) e)
+    let z = c .if1 .taken in let a = c .before .args in let l : List ℕ = a .read .now in
+    (refl, ap (λ (k : ℕ). take (a .have - a .from) (drop k l)) (sym z))
 
 loop-holds : tie.Need-loop-holds Inv-loop μ-loop
 loop-holds c = (omega arith, moved-none (c .before .args .from) (c .before .args .read .now))
@@ -78,8 +86,8 @@ same-length c = c .before .loop .inv .1 .long
 
 returns-2 : tie.Need-returns-2 Inv-loop μ-loop
 returns-2 c =
-    let l = c .before .loop in
-    (refl, λ j h. l .inv .1 .moved j (let k = l .inv .0 in omega arith))
+    let l = c .before .loop in let st = c .before .before .before in let n = l .inv .0 in let i : l .i ≡ st .args .have - st .args .from = omega arith in
+    (refl, moved-all (st .args .from) (st .args .have) (st .args .read .now) (l .read) (st .pre .0) (st .pre .1) (subst (λ (k : ℕ). Moved k (st .args .from) (st .args .read .now) (l .read)) i (l .inv .1)))
 
 pub forward-spec : {M : Type 1} → statement M
 forward-spec =

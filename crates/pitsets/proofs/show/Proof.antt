@@ -29,7 +29,7 @@ sub-result : tie.Need-sub-result
 sub-result c = search needs
 
 returns-3 : tie.Need-returns-3
-returns-3 c = search needs
+returns-3 c = (search needs, λ p. c .before .ends .ensures (c .if2 .left))
 
 pub show-spec : {M : Type 1} → statement M
 show-spec = tie.close (tie.spec slice-aggregate-write-all write-all-requires slice-aggregate-fail fail-requires returns ends-requires returns-2 sub-result returns-3)
