@@ -5,9 +5,9 @@
 --   a cast                                                toZ-nat from unsigned, cast-nat to unsigned, rw (toZ-ofZ f) (record { sfits = omega arith }) between signed types
 --   a divisor, a call's result                            divisor-pos, result-is
 -- `search mach` is `search lin` that quotes also `toZ w (ofZ w z)` where z fits, `toZ w n` of a small unsigned n, and a local with a `Bits` fact. Assumes nothing.
-use mathlib.Core.Path.{_≡_, sym, ap, ap₂, _∙_, subst, subst₂}
+use mathlib.Core.Path.{_≡_, refl, sym, ap, ap₂, _∙_, subst, subst₂}
 use mathlib.Core.Bool.{Bool, true, false, not}
-use mathlib.Core.List.{List}
+use mathlib.Core.List.{List, _∷_}
 use Prim.Native.Nat.{ℕ, _^_, _≤_, _<_}
 use native.Mathlib.Nat.{lt-of-lt-of-le}
 use lib.Dec.{T, leb, leb→le, ltb→lt}
@@ -127,3 +127,10 @@ pub ruleset mach = (lin, q-back, q-cast, q-bits)
 -- two numbers with the same bits, as `x == y` tells
 pub ofZ-same : {w : Width} {a b : ℤ} → SFits w a → SFits w b → ofZ w a ≡ ofZ w b → a ≡ b
 ofZ-same {w} h k e = sym (toZ-ofZ h) ∙ ap (toZ w) e ∙ toZ-ofZ k
+
+-- numbers passed on in a list: each is written and read again
+pub passed : {w : Width} {z : ℤ} {l m : List ℤ} → SFits w z → l ≡ m → (toZ w (ofZ w z) ∷ l) ≡ (z ∷ m)
+passed f e = ap₂ _∷_ (toZ-ofZ f) e
+
+-- `search coordinates` finds it for a list of numbers whose ranges are in reach
+pub ruleset coordinates = (refl, passed)

@@ -1,9 +1,8 @@
-use mathlib.Core.Path.{refl, ap, _∙_}
-use mathlib.Core.List.{List}
+use mathlib.Core.Path.{_≡_, ap, _∙_}
+use mathlib.Core.List.{List, [], _∷_}
 use lib.IntN.{ℤ}
 use mir.Syntax.{w64}
-use Rattle.host.proofs.Laws.{back}
-use Rattle.integers.specs.Mach.{result-is}
+use Rattle.integers.specs.Mach.{result-is, coordinates}
 use Rattle.query.specs.Member.{memberBytes}
 use Rattle.host.specs.Numbers.{memberNumber}
 use borrow.Author.Needs.{needs}
@@ -24,9 +23,10 @@ member-number-requires c κs = search needs
 returns : tie.Need-returns
 returns c =
     let m = c .before in let p = m .before in let st = p .before .before in let f = st .fits in
-    result-is w64 _ (c .«member-number» .ok) ∙ c .«member-number» .ensures ∙ ap memberNumber (m .member .ensures)
-    ∙ ap (λ (l : List ℤ). memberNumber (memberBytes (st .args .n) (st .args .set .now) l))
-    (p .point .ensures ∙ back (f .x1) (back (f .x2) (back (f .x3) (back (f .x4) (back (f .x5) (back (f .x6) (back (f .x7) (back (f .x8) refl))))))))
+    let a = st .args in let x : List ℤ = a .x1 ∷ a .x2 ∷ a .x3 ∷ a .x4 ∷ a .x5 ∷ a .x6 ∷ a .x7 ∷ a .x8 ∷ [] in
+    let e : p .point .result ≡ x = p .point .ensures ∙ search coordinates depth 12 in
+    result-is w64 _ (c .«member-number» .ok) ∙ c .«member-number» .ensures
+    ∙ ap memberNumber (m .member .ensures ∙ ap (memberBytes (a .n) (a .set .now)) e)
 
 pub pitsets-member-spec : {M : Type 1} → statement M
 pitsets-member-spec =

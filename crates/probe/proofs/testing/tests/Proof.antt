@@ -1,23 +1,25 @@
-use mathlib.Core.Path.{_≡_, refl, _∙_}
-use Prim.Native.Nat.{_-_}
+use mathlib.Core.Path.{_≡_, refl, ap₂, _∙_}
+use Prim.Native.Nat.{_+_, _*_, _%_, _^_, _-_, _≤_}
+use native.Mathlib.Omega.{arith}
+use Rattle.model.specs.Values.{basicSetOf}
+use Rattle.feasibility.specs.Tableau.{pivotsMade}
+use Rattle.probe.proofs.Laws.{once-more}
 use borrow.Author.Needs.{needs}
 use lib.ListN.{length}
-use Rattle.probe.proofs.tests.Statement.{statement}
-use Rattle.probe.proofs.tests.Tie as tie
-use Rattle.probe.proofs.tests.Reads as reads
-use Rattle.probe.proofs.tests.Lts as lts
-use Rattle.carrying.proofs.test_basic.Reads as test-basic-reads
-use Rattle.std.proofs.num.wrapping_add_usize.Reads as wrapping-add-usize-reads
+use Rattle.probe.proofs.testing.tests.Statement.{statement}
+use Rattle.probe.proofs.testing.tests.Tie as tie
 
--- the tables keep their lengths
+-- the pivots of i tests; the tables keep their lengths
 abbrev Inv-loop : tie.InvT-loop
-Inv-loop b times rows₀ place₀ kinds₀ pivots₀ i₀ rows place kinds pivots i = (length rows ≡ length rows₀) × (length place ≡ length place₀) × (length kinds ≡ length kinds₀)
+Inv-loop b times rows₀ place₀ kinds₀ pivots₀ i₀ rows place kinds pivots i =
+    (i ≤ times) × (pivots ≡ (i * pivotsMade (basicSetOf b)) % 2 ^ 64)
+    × (length rows ≡ length rows₀) × (length place ≡ length place₀) × (length kinds ≡ length kinds₀)
 
 abbrev μ-loop : tie.MeasureT-loop
 μ-loop b times rows₀ place₀ kinds₀ pivots₀ i₀ rows place kinds pivots i = times - i
 
 loop-holds : tie.Need-loop-holds Inv-loop μ-loop
-loop-holds c = (refl, refl, refl)
+loop-holds c = (omega arith, omega arith, refl, refl, refl)
 
 test-basic-requires : tie.Need-test-basic-requires Inv-loop μ-loop
 test-basic-requires c κs = search needs
@@ -34,8 +36,14 @@ loop-less c = search needs
 loop-again : tie.Need-loop-again Inv-loop μ-loop
 loop-again c =
     let l = c .before .before .before .before .before .before .before .before .before .before .before .loop in
-    let t = c .before .before .before .before .before .before .test-basic in
-    (t .kept .1 .0 ∙ l .inv .0, t .kept .1 .1 .0 ∙ l .inv .1, t .kept .1 .1 .1 .0 ∙ l .inv .2)
+    let t = c .before .before .before .before .before .before .test-basic in (
+      omega arith,
+      c .wrapping-add-usize .ensures
+          ∙ ap₂ (λ x y. (x + y) % 2 ^ 64) (l .inv .1) (t .ensures .pivots-are) ∙ once-more (2 ^ 64) _ (l .i),
+      t .kept .1 .0 ∙ l .inv .2,
+      t .kept .1 .1 .0 ∙ l .inv .3,
+      t .kept .1 .1 .1 .0 ∙ l .inv .4,
+    )
 
 same-length : tie.Need-same-length Inv-loop μ-loop
 same-length c = search needs
@@ -47,7 +55,9 @@ same-length-3 : tie.Need-same-length-3 Inv-loop μ-loop
 same-length-3 c = search needs
 
 returns : tie.Need-returns Inv-loop μ-loop
-returns c = search needs
+returns c =
+    let h : c .before .loop .i ≡ c .before .before .before .before .args .times = omega arith in
+    rw h at (c .before .loop .inv .1)
 
 pub tests-spec : {M : Type 1} → statement M
 tests-spec =
