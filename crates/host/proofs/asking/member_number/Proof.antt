@@ -1,10 +1,15 @@
 use mathlib.Core.Path.{ap, sym, _∙_}
+use mathlib.Core.List.{[], _∷_}
+use lib.IntN.{pos}
 use Prim.Native.Nat.{_<_, _^_}
 use native.Mathlib.Omega.{arith}
 use Rattle.query.specs.declared.membership.Membership.{Membership}
 use Rattle.query.specs.Holding.{memberIs}
 use Rattle.host.specs.Numbers.{memberNumber}
-use Rattle.host.proofs.Laws.{minus-fits, minus-is}
+use mir.Syntax.{w64}
+use mir.ValLaws.{toZ-pos}
+use Rattle.integers.specs.Lin.{lin, lia-fits}
+use Rattle.host.proofs.Laws.{minus-is}
 use borrow.Author.Needs.{needs}
 use Rattle.host.proofs.asking.member_number.Statement.{statement}
 use Rattle.host.proofs.asking.member_number.Tie as tie
@@ -25,7 +30,7 @@ cast-result : tie.Need-cast-result
 cast-result c = search needs
 
 sub-result : tie.Need-sub-result
-sub-result c = minus-fits _ (small c)
+sub-result c = let h = small c in rw (toZ-pos w64 _ h) (lia-fits (pos (c .before .m .given .0 .0) ∷ []) [] (search lin depth 30) (omega arith))
 
 returns : tie.Need-returns
 returns c = sym (ap (λ (m : Membership). memberNumber (memberIs m)) (c .«enum-told» .given .1))

@@ -1,4 +1,6 @@
 use mathlib.Core.Path.{ap, sym, _∙_, subst}
+use mathlib.Core.List.{[], _∷_}
+use lib.IntN.{pos}
 use Prim.Native.Nat.{_<_, _≤_, _^_}
 use native.Mathlib.Omega.{arith}
 use mir.Syntax.{w64}
@@ -6,7 +8,8 @@ use mir.ValLaws.{toZ-pos}
 use Rattle.results.specs.declared.results.Outcome.{Outcome}
 use Rattle.results.specs.Outcome.{outcomeIs}
 use Rattle.host.specs.Numbers.{Short, lengthNumber}
-use Rattle.host.proofs.Laws.{pos-fits, minus-fits, minus-is}
+use Rattle.integers.specs.Lin.{lin, lia-fits}
+use Rattle.host.proofs.Laws.{pos-fits, minus-is}
 use borrow.Author.Needs.{needs}
 use Rattle.host.proofs.operating.number.Statement.{statement}
 use Rattle.host.proofs.operating.number.Tie as tie
@@ -31,7 +34,7 @@ cast-result-2 : tie.Need-cast-result-2
 cast-result-2 c = search needs
 
 sub-result : tie.Need-sub-result
-sub-result c = minus-fits _ (small c)
+sub-result c = let h = small c in rw (toZ-pos w64 _ h) (lia-fits (pos (c .before .m2 .given .0 .0) ∷ []) [] (search lin depth 30) (omega arith))
 
 returns : tie.Need-returns
 returns c = toZ-pos w64 _ (short c) ∙ sym (ap (λ (m : Outcome). lengthNumber (outcomeIs m)) (c .before .m .given .1))

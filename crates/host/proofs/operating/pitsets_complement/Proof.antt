@@ -16,8 +16,7 @@ complement-requires c κs = search needs
 number-requires : tie.Need-number-requires
 number-requires c κs =
     let u = c .before .before .complement in let g = c .before .before .before in let s = g .before .before .before .args in
-    short-of (complementBytes (s .n) (length (s .out .now)) (s .a .now)) (u .result) (u .ensures) (s .n)
-    (λ l. complement-within (s .n) (length (s .out .now)) (s .a .now) l (bytes-of (s .a .now) (λ i. g .before .before .shared-slice-known .given i .fits)))
+    short-of _ (u .result) (u .ensures) _ (λ l. complement-within _ _ _ l (bytes-of (s .a .now) (λ i. g .before .before .shared-slice-known .given i .fits)))
 
 same-length : tie.Need-same-length
 same-length c = search needs

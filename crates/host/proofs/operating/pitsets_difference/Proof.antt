@@ -16,8 +16,8 @@ difference-requires c κs = search needs
 number-requires : tie.Need-number-requires
 number-requires c κs =
     let u = c .before .before .difference in let g = c .before .before .before in let s = g .before .before .before .before .args in
-    short-of (differenceBytes (s .n) (length (s .out .now)) (s .a .now) (s .b .now)) (u .result) (u .ensures) (s .n)
-    (λ l. difference-within (s .n) (length (s .out .now)) (s .a .now) (s .b .now) l (bytes-of (s .a .now) (λ i. g .before .before .before .shared-slice-known .given i .fits)) (bytes-of (s .b .now) (λ i. g .before .before .shared-slice-known2 .given i .fits)))
+    let first = bytes-of (s .a .now) (λ i. g .before .before .before .shared-slice-known .given i .fits) in let second = bytes-of (s .b .now) (λ i. g .before .before .shared-slice-known2 .given i .fits) in
+    short-of _ (u .result) (u .ensures) _ (λ l. difference-within _ _ _ _ l (search) (search))
 
 same-length : tie.Need-same-length
 same-length c = search needs

@@ -41,7 +41,10 @@ slice-aggregate-subtract c = search needs
 
 -- src/calls.rt:95:9
 subtract-requires : tie.Need-subtract-requires
-subtract-requires c κs = let a = c .before .before .before .before .before .before .args in whole-sets (a .n) (a .a .now) (sym (c .before .before .before .check .ensures) ∙ c .before .before .if1 .left)
+subtract-requires c κs =
+    let a = c .before .before .before .before .before .before .args in
+    let h = whole-sets (a .n) (a .a .now) (sym (c .before .before .before .check .ensures) ∙ c .before .before .if1 .left) in
+    record { n = h .n; first = search; second = search }
 
 -- src/calls.rt:96:5
 finish-requires : tie.Need-finish-requires

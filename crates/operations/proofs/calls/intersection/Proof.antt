@@ -36,7 +36,10 @@ returns c =
 
 -- src/calls.rt:71:9
 intersect-requires : tie.Need-intersect-requires
-intersect-requires c κs = let a = c .before .before .before .before .before .before .args in sets-of (a .n) (a .a .now) (a .b .now) (c .before .before .check-two .result) (c .before .before .check-two .ensures) (c .before .if1 .left)
+intersect-requires c κs =
+    let a = c .before .before .before .before .before .before .args in
+    let h = sets-of (a .n) (a .a .now) (a .b .now) (c .before .before .check-two .result) (c .before .before .check-two .ensures) (c .before .if1 .left) in
+    record { n = h .n; first = search; second = search }
 
 -- src/calls.rt:72:5
 finish-requires : tie.Need-finish-requires

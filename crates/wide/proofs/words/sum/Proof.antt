@@ -1,5 +1,6 @@
 -- `wide::words::sum` meets its contract. Assumes nothing.
 use borrow.Author.Needs.{needs}
+use native.Mathlib.Omega.{arith}
 use native.Mathlib.Nat.{le-add-right, lt-of-le-of-lt}
 use Rattle.wide.proofs.Digits.{sum-high, sum-carry, sum-carried}
 use Rattle.wide.proofs.words.sum.Statement.{statement}
@@ -15,7 +16,7 @@ add-t11 : tie.Need-add-t11
 add-t11 c = search needs
 
 add-t13 : tie.Need-add-t13
-add-t13 c = let a = c .before .args .a in let b = c .before .args .b in record { fits = sum-carry 18446744073709551615 (a .lo) (b .lo) (a .hi) (b .hi) (c .before .pre) (c .if1 .left) }
+add-t13 c = let a = c .before .args .a in let b = c .before .args .b in let h = sum-carry 18446744073709551615 (a .lo) (b .lo) (a .hi) (b .hi) (c .before .pre) (c .if1 .left) in record { fits = omega arith }
 
 add-t12 : tie.Need-add-t12
 add-t12 c = record { fits = lt-of-le-of-lt (le-add-right _ _) (add-t13 c .fits) }
