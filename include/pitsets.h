@@ -7,7 +7,7 @@
  *   - reads the given sets and never changes them;
  *   - keeps no state and allocates nothing: it may be called from any number of threads at once, as long as no thread
  *     writes to a table that another call uses at the same time;
- *   - needs less than PITSETS_STACK bytes of stack.
+ *   - needs less than PITSETS_STACK bytes of stack (measured on the deepest calls known, not proved).
  * A table is a pointer and a length in bytes. No pointer may be NULL, also where the length is 0; no alignment is asked.
  * A result table may not overlap a given set.
  */
@@ -24,7 +24,7 @@ extern "C" {
 /* Stack that a call may need, in bytes. */
 #define PITSETS_STACK (1024 * 1024)
 
-/* The numbers of document 01, "Refused". These functions give 1 to 12; 13 to 15 are the script program's. */
+/* The numbers of document 01, "Refused". These functions give 1 to 12; 13 is the search's, 14 and 15 are the script program's. */
 enum pitsets_refusal {
     PITSETS_AXES = 1,          /* n is not 1 to 8 */
     PITSETS_COMMAND = 2,       /* unknown command byte in a set */
@@ -67,9 +67,10 @@ int64_t pitsets_member(size_t n, const uint8_t *set, size_t set_length, int32_t 
 
 /* The operations write the result to `result` and return its length. Past the result the table is filled with 0; after a refusal it is
  * all 0. Refusals: 1, the first set's 2 to 9, the second set's 2 to 9, 10, 11.
- * Intersection, difference and complement divide each rule by the common divisor of its coefficients, an inequality's constant
- * rounded down; an equality whose constant that does not divide (2x - 1 = 0) holds no integer point and leaves no basic set. Union, and
- * a basic set of the first set that nothing is taken from, keep their rules as given. */
+ * Intersection, difference and complement write each rule divided by the common divisor of its coefficients where that is over 1, an
+ * inequality's constant rounded down. A basic set with an equality whose constant that does not divide (2x - 1 = 0) holds no integer point: it
+ * gives nothing in an intersection, and as a basic set of the first set nothing in a difference. Union, and a difference whose second set
+ * has no basic sets, keep their rules as given. */
 int64_t pitsets_union(size_t n, const uint8_t *first, size_t first_length, const uint8_t *second, size_t second_length,
                       uint8_t *result, size_t result_length);
 int64_t pitsets_intersection(size_t n, const uint8_t *first, size_t first_length, const uint8_t *second, size_t second_length,

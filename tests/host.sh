@@ -1,7 +1,8 @@
 #!/usr/bin/env bash
 # The C host's tests; the last line is 'N passed, M failed'.
-cd "$(dirname "$0")/../host" || exit 2
+cd "$(dirname "$0")/.." || exit 2
+. tools/need.sh
 for p in valgrind pkg-config make g++; do
-  command -v $p >/dev/null 2>&1 || { apt-get update -q >/dev/null; apt-get install -y -q valgrind pkg-config make g++ >/dev/null; break; }
+  need $p $p || { echo "0 passed, 1 failed"; exit 1; }
 done
-make -s all calls calls-asan threads && sh ./test.sh
+cd host && make -s all calls calls-asan threads && sh ./test.sh
