@@ -1,14 +1,11 @@
 use mathlib.Core.Path.{_≡_, sym}
-use mathlib.Core.Bool.{true, false}
 use Prim.Native.Nat.{ℕ}
 use native.Mathlib.Omega.{arith}
 use borrow.Author.Needs.{needs}
+use Rattle.session.proofs.Commands.{no}
 use Rattle.session.specs.declared.Next.the-variants.{Goes, Ends, Misused}
 use Rattle.pitsets.proofs.asks.Statement.{statement}
 use Rattle.pitsets.proofs.asks.Tie as tie
-
-no : {X : Type 0} → false ≡ true → X
-no e = let z : _≡_ {A = ℕ} 0 1 = cc in absurd (omega arith)
 
 enum-told : tie.Need-enum-told
 enum-told c = search needs

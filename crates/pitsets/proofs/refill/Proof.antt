@@ -3,8 +3,9 @@ use mathlib.Core.List.{List}
 use Prim.Native.Nat.{ℕ, _-_, _≤_}
 use native.Mathlib.Omega.{arith}
 use borrow.Author.Needs.{needs}
-use borrow.Author.Tests.{eqb-true}
+use borrow.Author.Tests.{eqb-true, eqb-false}
 use lib.ListN.{length, take, drop, length-take, length-drop}
+use Rattle.session.proofs.Commands.{no}
 use Rattle.pitsets.specs.Moving.{unused}
 use Rattle.pitsets.proofs.refill.Statement.{statement}
 use Rattle.pitsets.proofs.refill.Tie as tie
@@ -41,7 +42,7 @@ same-length c = search needs
 returns : tie.Need-returns
 returns c =
     let m = read (c .before .before .before) in let p = start (move m) .pre in let e = move m .forward .ensures .0 in
-    record { kept = stays m; more = omega arith; within = omega arith; end = λ q. e; turns-left = omega arith }
+    record { kept = stays m; more = omega arith; within = omega arith; end = λ q. e; goes-on = λ q. no (sym q); turns-left = omega arith }
 
 sub-count : tie.Need-sub-count
 sub-count c = search needs
@@ -67,7 +68,7 @@ returns-2 c =
     let x : List ℕ = m .more .last .0 in let n : ℕ = move m .forward .result in
     let k : c .count .result ≤ length (take (length x - n) (drop n x)) = c .count .ensures .0 .0 in
     let a : length x ≡ length (start (move m) .args .read .now) = m .more .kept .0 ∙ move m .forward .kept .0 in
-    record { kept = stays m; more = omega arith; within = omega (arith, length-take (length x - n) (drop n x), length-drop n x); end = λ q. let z = eqb-true (c .count .result) 0 q in omega arith; turns-left = omega arith }
+    record { kept = stays m; more = omega arith; within = omega (arith, length-take (length x - n) (drop n x), length-drop n x); end = λ q. let z = eqb-true (c .count .result) 0 q in omega arith; goes-on = λ q. let z = eqb-false (c .count .result) 0 q in omega arith; turns-left = omega arith }
 
 pub refill-spec : {M : Type 1} → statement M
 refill-spec =
