@@ -88,6 +88,33 @@ upTo-each g zero (x ∷ l) h = absurd (not-suc-le-zero h)
 upTo-each g (suc n) [] h = refl
 upTo-each g (suc n) (x ∷ l) h = ap (λ t. g x ∷ t) (upTo-each g n l (le-of-suc-le-suc h))
 
+-- the same function at each place but one
+unfoldable pub but : {A : Type 0} → ℕ → (A → A) → ℕ → A → A
+but zero f zero x = x
+but zero f (suc k) x = f x
+but (suc i) f zero x = f x
+but (suc i) f (suc k) x = but i f k x
+
+pub but-own : {A : Type 0} (i : ℕ) (f : A → A) (x : A) → x ≡ but i f i x
+unfolding but
+but-own zero f x = refl
+but-own (suc i) f x = but-own i f x
+
+pub but-other : {A : Type 0} (i k : ℕ) (f : A → A) (x : A) → (k ≡ i → ⊥) → f x ≡ but i f k x
+unfolding but
+but-other zero zero f x n = absurd (n refl)
+but-other zero (suc k) f x n = refl
+but-other (suc i) zero f x n = refl
+but-other (suc i) (suc k) f x n = but-other i k f x (λ e. n (ap suc e))
+
+pub upTo-but : {A : Type 0} (d : A) (i : ℕ) (g : A → A) (n : ℕ) (l : List A) → length l ≤ n → upTo (but i g) n l ≡ set (map g l) i (getD l i d)
+unfolding upTo but each
+upTo-but d i g zero [] h = refl
+upTo-but d i g zero (x ∷ l) h = absurd (not-suc-le-zero h)
+upTo-but d i g (suc n) [] h = refl
+upTo-but d zero g (suc n) (x ∷ l) h = ap (λ t. x ∷ t) (upTo-each g n l (le-of-suc-le-suc h))
+upTo-but d (suc i) g (suc n) (x ∷ l) h = ap (λ t. g x ∷ t) (upTo-but d i g n l (le-of-suc-le-suc h))
+
 pub upTo-take : {A : Type 0} (g : A → A) (n : ℕ) (l : List A) → take n (upTo (each g) n l) ≡ map g (take n l)
 unfolding upTo each
 upTo-take g zero l = refl

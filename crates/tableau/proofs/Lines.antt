@@ -1,13 +1,13 @@
 -- Rows as lists of 18 numbers: loops over them, the common divisor, what a combination and a solved row keep. Assumes nothing.
 use mathlib.Core.Path.{_≡_, refl, sym, ap, ap₂, _∙_, subst}
 use mathlib.Core.List.{List, [], _∷_, map}
-use mathlib.Core.Bool.{Bool, true, false, cond}
-use Prim.Native.Nat.{ℕ, zero, suc, _+_, _-_, _*_, _/_, _^_, _≤_, _<_, zero-le, suc-le-suc}
+use mathlib.Core.Bool.{Bool, true, false, not, cond}
+use Prim.Native.Nat.{ℕ, zero, suc, _+_, _-_, _*_, _/_, _^_, _≤_, _<_, zero-le}
 use native.Mathlib.Nat.{le-of-suc-le-suc, le-refl, le-trans, not-suc-le-zero, mod-one, div-le-self, le-div-iff-mul-le, le-of-dvd, pos-of-dvd-of-pos}
 use native.Mathlib.Omega.{arith}
 use native.Mathlib.Numerals.{add-one}
 use lib.Dec.{T, ltb, ltb→lt, lt→ltb, eqb·suc-zero}
-use lib.ListN.{length, getD, set, drop, replicate, length-set, length-map, drop-of-length-le}
+use lib.ListN.{length, getD, set, drop, replicate, length-set, length-map, drop-of-length-le, List·getD-map}
 use lib.Seq.{drop-cons, getD-drop, getD-set-other, getD-set-same}
 use lib.IntN.{ℤ, pos, negsuc, negℤ, natAbs, _+ℤ_, _-ℤ_, _*ℤ_, +ℤ-idl, +ℤ-idr, *ℤ-zero}
 use lib.Signed.{mag, quotZ, ltZ, _<ℤ_}
@@ -19,10 +19,11 @@ use Rattle.integers.specs.Gcd.{gcd, gcd-is, gcd-zero, gcd-step, gcd-comm}
 use Rattle.integers.specs.Order.{mul-pos-pos}
 use Rattle.integers.specs.Size.{within-neg, within-mono, within-fits, products}
 use Rattle.model.specs.Sets.{isZero}
-unfoldable pub use Rattle.model.proofs.Lists.{upTo, each}
-pub use Rattle.model.proofs.Lists.{upTo-none, upTo-length, upTo-next, upTo-more, upTo-rest, each-at, upTo-each}
+use Rattle.model.specs.Lists.{filter, consIf}
+unfoldable pub use Rattle.model.proofs.Lists.{upTo, each, but}
+pub use Rattle.model.proofs.Lists.{upTo-none, upTo-length, upTo-next, upTo-more, upTo-rest, each-at, upTo-each, but-own, but-other, upTo-but}
 use Rattle.integers.specs.Size.{bound}
-use Rattle.tableau.specs.Rows.{divisorFrom, divideRow, reduceRow, turnRow, turnBy, solveRow, combineRows, minusRow, FitAt, DivisorAt, rebuilt, touched, entry, Small, Line}
+use Rattle.tableau.specs.Rows.{divisorFrom, divideRow, reduceRow, turnRow, turnBy, solveRow, combineRows, minusRow, replaceRow, rebuildRow, exchangeRows, exchangeBy, DivisorAt, rebuilt, touched, den, entry, Small, Line}
 
 -- ---- numbers of 64 bits
 abbrev pub top : ℕ
@@ -365,14 +366,44 @@ pub touched-end : (j k : ℕ) (t : List (List ℤ)) → length t ≤ k → touch
 unfolding touched
 touched-end j k t h = ap (touched j) (drop-of-length-le t {i = k} h)
 
--- the count with row i put to one without an entry
-pub touched-set : (j i : ℕ) (t : List (List ℤ)) (z : List ℤ) → i < length t → isZero (entry (getD t i []) j) ≡ false → isZero (entry z j) ≡ true → touched j (set t i z) + 1 ≡ touched j t
+-- row i with an entry: one, with those of the other rows
+pub touched-others : (j i : ℕ) (t : List (List ℤ)) → i < length t → (entry (getD t i []) j ≡ pos 0 → ⊥) → touched j (set t i []) + 1 ≡ touched j t
 unfolding touched
-touched-set j i [] z h e f = absurd (not-suc-le-zero h)
-touched-set j zero (r ∷ t) z h e f = rw (e, f) (omega arith)
-touched-set j (suc i) (r ∷ t) z h e f = let k = touched-set j i t z (le-of-suc-le-suc h) e f in omega arith
+touched-others j i [] h f = absurd (not-suc-le-zero h)
+touched-others j zero (r ∷ t) h f = rw (isZero-no (entry r j) f) (omega arith)
+touched-others j (suc i) (r ∷ t) h f = let k = touched-others j i t (le-of-suc-le-suc h) f in omega arith
 
--- ---- the exchange: row i is without an entry while the others are rebuilt
+-- the number of those rows
+pub touched-count : (j : ℕ) (t : List (List ℤ)) → touched j t ≡ length (filter (λ (r : List ℤ). not (isZero (entry r j))) t)
+unfolding touched
+touched-count j [] = refl
+touched-count j (r ∷ t) = one (isZero (entry r j)) (filter (λ (r : List ℤ). not (isZero (entry r j))) t) (touched-count j t)
+  where
+    one : {n : ℕ} (b : Bool) (l : List (List ℤ)) → n ≡ length l → cond {A = ℕ} b 0 1 + n ≡ length (consIf (not b) r l)
+    one true l h = omega arith
+    one false l h = omega arith
+
+-- a row that is not row i and has no entry in column j is as it was
+pub untouched : (t : List (List ℤ)) (i j k : ℕ) → (k ≡ i → ⊥) → entry (getD t k []) j ≡ pos 0 → getD (exchangeRows t i j) k [] ≡ getD t k []
+unfolding exchangeRows rebuildRow
+untouched t i j k f e =
+    let p = solveRow (getD t i []) j in
+    let q = set p 0 (pos 0) in
+    getD-set-other (map (rebuildRow j (den p) q) t) i k p [] f
+    ∙ List·getD-map (rebuildRow j (den p) q) t k []
+    ∙ ap (λ z. cond (isZero z) (getD t k []) (replaceRow (getD t k []) j (den p) q)) e
+
+-- row i solved, and the others rebuilt
+pub exchanged-others : (t : List (List ℤ)) (i j : ℕ) (m : ℤ) (p q : List ℤ) → p ≡ solveRow (getD t i []) j → m ≡ den p → q ≡ set p 0 (pos 0) → set (map (rebuildRow j m q) (set t i p)) i p ≡ exchangeRows t i j
+unfolding exchangeRows
+exchanged-others t i j m p q ep em eq = others t i ∙ ap₂ (λ m q. set (map (rebuildRow j m q) t) i p) em eq ∙ ap (λ p. exchangeBy p t i j) ep
+  where
+    others : (t : List (List ℤ)) (i : ℕ) → set (map (rebuildRow j m q) (set t i p)) i p ≡ set (map (rebuildRow j m q) t) i p
+    others [] i = refl
+    others (r ∷ t) zero = refl
+    others (r ∷ t) (suc i) = ap (λ u. rebuildRow j m q r ∷ u) (others t i)
+
+-- ---- a row of zeros, and a solved row
 abbrev pub zeros : List ℤ
 zeros = replicate 18 (pos 0)
 
@@ -380,24 +411,6 @@ pub zeros-at : (n k : ℕ) → getD (replicate n (pos 0)) k (pos 0) ≡ pos 0
 zeros-at zero k = refl
 zeros-at (suc n) zero = refl
 zeros-at (suc n) (suc k) = zeros-at n k
-
--- a row without an entry in the column
-pub cleared-fit : {m : ℕ} (n j : ℕ) (r : List ℤ) → Line n r → FitAt m n (set r (j + 2) (pos 0)) j
-cleared-fit n j r h =
-    let z : getD (set r (j + 2) (pos 0)) (j + 2) (pos 0) ≡ pos 0 = cleared-at r (j + 2) in
-    record { line = clear-line n r (j + 2) h; dens = λ f. absurd (f z); small = λ f. absurd (f z) }
-
-pub fit-set : {m : ℕ} (n j i : ℕ) (t : List (List ℤ)) (z : List ℤ) → FitAt m n z j → ((k : ℕ) → k < length t → FitAt m n (getD t k []) j) → (k : ℕ) → k < length (set t i z) → FitAt m n (getD (set t i z) k []) j
-fit-set n j i [] z f h k l = h k l
-fit-set n j zero (r ∷ t) z f h zero l = f
-fit-set n j zero (r ∷ t) z f h (suc k) l = h (suc k) l
-fit-set n j (suc i) (r ∷ t) z f h zero l = h 0 (omega arith)
-fit-set n j (suc i) (r ∷ t) z f h (suc k) l = fit-set n j i t z f (λ k l. h (suc k) (suc-le-suc l)) k (le-of-suc-le-suc l)
-
-pub set-map-set : (f : List ℤ → List ℤ) (t : List (List ℤ)) (i : ℕ) (z p : List ℤ) → set (map f (set t i z)) i p ≡ set (map f t) i p
-set-map-set f [] i z p = refl
-set-map-set f (r ∷ t) zero z p = refl
-set-map-set f (r ∷ t) (suc i) z p = ap (λ u. f r ∷ u) (set-map-set f t i z p)
 
 -- a solved row, as it is put into the others
 pub divisor-of : {m : ℕ} (n : ℕ) (p : List ℤ) → Sound n m p → DivisorAt m n (getD p 0 (pos 0)) (set p 0 (pos 0))

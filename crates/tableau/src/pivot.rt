@@ -1,7 +1,7 @@
 // The exchange of a row and a column: only the exchanged row and the rows with an entry in the column are built, each once.
 ghost use mathlib.Core.Path.{_≡_};
 ghost use Prim.Native.Nat.{ℕ, _+_, _<_, _≤_};
-ghost use lib.ListN.{length, getD};
+ghost use lib.ListN.{length, getD, set};
 ghost use mathlib.Core.List.{map, []};
 ghost use Rattle.tableau.specs.Rows.{rebuildRow, exchangeRows, rebuilt, touched, Fit, Divisor, Ready};
 
@@ -20,35 +20,30 @@ fn rebuild(r: &mut [i64; 18], n: usize, j: usize, m: i64, q: &[i64; 18]) -> usiz
     1
 }
 
-// Each row rebuilt; the number of rows with an entry in column j.
-fn sweep(t: &mut [[i64; 18]], n: usize, j: usize, m: i64, q: &[i64; 18]) -> usize
-    requires { ⌜ j < 16 ⌝ }
-    requires { ⌜ length (now t) ≤ 64 ⌝ }
-    requires { ⌜ ((k : ℕ) → k < length (now t) → Fit n (getD (now t) k []) j) ⌝ }
-    requires { ⌜ Divisor n m (now q) ⌝ }
-    ensures { λ k. ⌜ (now (t .exit) ≡ map (rebuildRow j m (now (q .entry))) (now (t .entry))) × (k ≡ touched j (now (t .entry))) ⌝ }
+// The rows but row i rebuilt; how many of them have an entry in column j.
+fn sweep(t: &mut [[i64; 18]], n: usize, i: usize, j: usize, m: i64, q: &[i64; 18]) -> usize
+    requires { ⌜ (j < 16) × (length (now t) ≤ 64) × ((k : ℕ) → k < length (now t) → (k ≡ i → ⊥) → Fit n (getD (now t) k []) j) × Divisor n m (now q) ⌝ }
+    ensures { λ k. ⌜ (now (t .exit) ≡ set (map (rebuildRow j m (now (q .entry))) (now (t .entry))) i (getD (now (t .entry)) i [])) × (k ≡ touched j (set (now (t .entry)) i [])) ⌝ }
 {
     let mut built: usize = 0;
     let mut k: usize = 0;
     while k < t.len() {
-        built += rebuild(&mut t[k], n, j, m, q);
+        if k != i {
+            built += rebuild(&mut t[k], n, j, m, q);
+        }
         k += 1;
     }
     built
 }
 
-// The exchange of row i and column j; the number of rows built. Row i stays out of the sweep.
+// The exchange of row i and column j; the number of rows built. Row i is built where it stands; the one copy of it goes into the others.
 pub fn exchange(t: &mut [[i64; 18]], n: usize, i: usize, j: usize) -> usize
     requires { ⌜ Ready n (now t) i j ⌝ }
     ensures { λ k. ⌜ (now (t .exit) ≡ exchangeRows (now (t .entry)) i j) × (k ≡ touched j (now (t .entry))) ⌝ }
 {
+    crate::row::solve(&mut t[i], n, j);
     let mut p = t[i];
-    crate::row::solve(&mut p, n, j);
-    crate::row::clear(&mut t[i], j);
     let m = p[0];
     p[0] = 0;
-    let k = sweep(t, n, j, m, &p);
-    p[0] = m;
-    t[i] = p;
-    k + 1
+    sweep(t, n, i, j, m, &p) + 1
 }

@@ -2,7 +2,7 @@
 // A second word size is a second instance of this file.
 ghost use mathlib.Core.Path.{_≡_};
 ghost use Prim.Native.Nat.{_+_, _<_};
-ghost use lib.ListN.{getD, set};
+ghost use lib.ListN.{getD};
 ghost use mathlib.Core.List.{map};
 ghost use lib.Signed.{quotZ, _<ℤ_};
 ghost use lib.IntN.{pos, natAbs};
@@ -123,14 +123,6 @@ pub fn replace(r: &mut [i64; 18], n: usize, j: usize, m: i64, q: &[i64; 18])
     r[j + 2] = 0;
     let g = combine(r, n, m, 0 - b, q);
     reduce_by(r, n, g);
-}
-
-// The row without an entry in column j.
-pub fn clear(r: &mut [i64; 18], j: usize)
-    requires { ⌜ j < 16 ⌝ }
-    ensures { λ _. ⌜ now (r .exit) ≡ set (now (r .entry)) (j + 2) (pos 0) ⌝ }
-{
-    r[j + 2] = 0;
 }
 
 // Each number with the other sign.

@@ -2,7 +2,7 @@
 use wide::Wide;
 ghost use mathlib.Core.Path.{_≡_};
 ghost use Prim.Native.Nat.{ℕ, _+_, _<_, _≤_};
-ghost use lib.ListN.{length, getD};
+ghost use lib.ListN.{length, getD, set};
 ghost use mathlib.Core.List.{map, []};
 ghost use Rattle.integers.specs.Size.{bound};
 ghost use Rattle.wide.specs.Wide.{valueOf};
@@ -23,32 +23,30 @@ fn rebuild(r: &mut [u64; 36], n: usize, j: usize, m: Wide, q: &[u64; 36]) -> usi
     1
 }
 
-// Each row rebuilt; the number of rows with an entry in column j.
-fn sweep(t: &mut [[u64; 36]], n: usize, j: usize, m: Wide, q: &[u64; 36]) -> usize
-    requires { ⌜ Sheets (now t) × Sheet (now q) × (j < 16) × (length (now t) ≤ 64) × ((k : ℕ) → k < length (now t) → FitAt (bound 128) n (cells (getD (now t) k [])) j) × DivisorAt (bound 128) n (valueOf m) (cells (now q)) ⌝ }
-    ensures { λ k. ⌜ Turns (now (t .exit)) (map (rebuildRow j (valueOf m) (cells (now (q .entry)))) (rowsOf (now (t .entry)))) × (k ≡ touched j (rowsOf (now (t .entry)))) ⌝ }
+// The rows but row i rebuilt; how many of them have an entry in column j.
+fn sweep(t: &mut [[u64; 36]], n: usize, i: usize, j: usize, m: Wide, q: &[u64; 36]) -> usize
+    requires { ⌜ Sheets (now t) × Sheet (now q) × (j < 16) × (length (now t) ≤ 64) × ((k : ℕ) → k < length (now t) → (k ≡ i → ⊥) → FitAt (bound 128) n (cells (getD (now t) k [])) j) × DivisorAt (bound 128) n (valueOf m) (cells (now q)) ⌝ }
+    ensures { λ k. ⌜ Turns (now (t .exit)) (set (map (rebuildRow j (valueOf m) (cells (now (q .entry)))) (rowsOf (now (t .entry)))) i (getD (rowsOf (now (t .entry))) i [])) × (k ≡ touched j (set (rowsOf (now (t .entry))) i [])) ⌝ }
 {
     let mut built: usize = 0;
     let mut k: usize = 0;
     while k < t.len() {
-        built += rebuild(&mut t[k], n, j, m, q);
+        if k != i {
+            built += rebuild(&mut t[k], n, j, m, q);
+        }
         k += 1;
     }
     built
 }
 
-// The exchange of row i and column j; the number of rows built. Row i stays out of the sweep.
+// The exchange of row i and column j; the number of rows built. Row i is built where it stands; the one copy of it goes into the others.
 pub fn exchange(t: &mut [[u64; 36]], n: usize, i: usize, j: usize) -> usize
     requires { ⌜ Sheets (now t) × ReadyAt (bound 128) n (rowsOf (now t)) i j ⌝ }
     ensures { λ k. ⌜ Turns (now (t .exit)) (exchangeRows (rowsOf (now (t .entry))) i j) × (k ≡ touched j (rowsOf (now (t .entry)))) ⌝ }
 {
+    crate::row::solve(&mut t[i], n, j);
     let mut p = t[i];
-    crate::row::solve(&mut p, n, j);
-    crate::row::clear(&mut t[i], j);
     let m = crate::row::cell_at(&p, 0);
-    let mut q = p;
-    crate::row::wipe(&mut q);
-    let k = sweep(t, n, j, m, &q);
-    t[i] = p;
-    k + 1
+    crate::row::wipe(&mut p);
+    sweep(t, n, i, j, m, &p) + 1
 }

@@ -136,7 +136,7 @@ pub fn replace(r: &mut [u64; 36], n: usize, j: usize, m: Wide, q: &[u64; 36])
 }
 
 // The row without an entry in column j.
-pub fn clear(r: &mut [u64; 36], j: usize)
+fn clear(r: &mut [u64; 36], j: usize)
     requires { ⌜ Sheet (now r) × (j < 16) ⌝ }
     ensures { λ _. ⌜ Becomes (now (r .exit)) (set (cells (now (r .entry))) (j + 2) (pos 0)) ⌝ }
 {
