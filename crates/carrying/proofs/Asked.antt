@@ -11,10 +11,11 @@ use Rattle.model.specs.declared.BasicSet.{BasicSet}
 use Rattle.codec.specs.Bytes.{Answer, refused, gives, decode, number}
 use Rattle.codec.specs.Places.{setFrom, Accepted, Opened, Decoded}
 use Rattle.codec.specs.Parts.{Started}
+use Rattle.feasibility.specs.Tableau.{rowsBuilt}
 use Rattle.codec.proofs.Boundaries.{decode-is, boundary-end, boundary-opened, turn}
 use Rattle.simplex.specs.declared.Ended.{Ended}
 use Rattle.carrying.specs.declared.Tested.the-variants.{Refused, NoSuchSet, Answers}
-use Rattle.carrying.specs.Answers.{Tests, foremost, numbered, tested, testIn, testBytes, testedOf}
+use Rattle.carrying.specs.Answers.{Tests, foremost, numbered, tested, testIn, testBytes, testedOf, builtOf, builtFor, builtBytes}
 
 pub asked-refused : (n : ℕ) (s : List ℕ) (k r : ℕ) → r ≡ number (decode n s) → (r ≡ 0 → ⊥) → testedOf (Refused r) ≡ testBytes n s k
 unfolding testBytes
@@ -24,6 +25,15 @@ asked-refused n s k r e z = at (decode n s) e
     at (refused m) q = ap refused q
     at (gives a) q = absurd (z q)
 
+-- and the rows built for it, with each of these laws
+pub built-refused : (n : ℕ) (s : List ℕ) (k : ℕ) → (number (decode n s) ≡ 0 → ⊥) → 0 ≡ builtBytes n s k
+unfolding builtBytes
+built-refused n s k z = at (decode n s) z
+  where
+    at : (a : Answer Set) → (number a ≡ 0 → ⊥) → 0 ≡ builtFor a k
+    at (refused m) z = refl
+    at (gives a) z = absurd (z refl)
+
 module _ (n : ℕ) (s : List ℕ) (z : number (decode n s) ≡ 0) where
   pub accepted : Accepted s
   accepted = record { n = n; accepted = z }
@@ -31,6 +41,13 @@ module _ (n : ℕ) (s : List ℕ) (z : number (decode n s) ≡ 0) where
   asked-is : (k : ℕ) → testBytes n s k ≡ gives (tested (numbered (setFrom s 0) k))
   unfolding testBytes
   asked-is k = ap (λ a. testIn a k) (decode-is n s z)
+
+  built-is : (k : ℕ) → builtBytes n s k ≡ builtOf (numbered (setFrom s 0) k)
+  unfolding builtBytes
+  built-is k = ap (λ a. builtFor a k) (decode-is n s z)
+
+  pub built-zero : 0 ≡ builtBytes n s 0
+  built-zero = sym (built-is 0)
 
   pub asked-zero : testedOf NoSuchSet ≡ testBytes n s 0
   asked-zero = sym (asked-is 0)
@@ -46,6 +63,9 @@ module _ (n : ℕ) (s : List ℕ) (z : number (decode n s) ≡ 0) where
     pub asked-none : length s ≤ at → testedOf NoSuchSet ≡ testBytes n s k
     asked-none l = sym (asked-is k ∙ ap (λ o. gives (tested o)) (numbered-is ∙ ap foremost (boundary-end s at l)))
 
+    pub built-none : length s ≤ at → 0 ≡ builtBytes n s k
+    built-none l = sym (built-is k ∙ ap builtOf (numbered-is ∙ ap foremost (boundary-end s at l)))
+
     module _ (l : at < length s) where
       pub asked-opened : Opened s (at + 1)
       asked-opened = boundary-opened (st .n) s at (st .there) l
@@ -54,3 +74,6 @@ module _ (n : ℕ) (s : List ℕ) (z : number (decode n s) ≡ 0) where
       asked-some b d x t =
           ap₂ (λ v m. gives (some (v, m))) (t .verdict-is) (t .pivots-are)
           ∙ sym (asked-is k ∙ ap (λ o. gives (tested o)) (numbered-is ∙ ap foremost (turn (st .n) s at (st .there) l b d .set)))
+
+      pub built-some : (b : BasicSet) → Decoded s (at + 1) b → rowsBuilt (basicSetOf b) ≡ builtBytes n s k
+      built-some b d = sym (built-is k ∙ ap builtOf (numbered-is ∙ ap foremost (turn (st .n) s at (st .there) l b d .set)))

@@ -1,31 +1,32 @@
 -- A run keeps the table fine; the run at two word sizes shows the carried test. Assumes nothing.
-use mathlib.Core.Path.{_≡_, refl, sym, ap, _∙_, subst}
+use mathlib.Core.Path.{_≡_, refl, sym, ap, ap₂, _∙_, subst}
 use mathlib.Core.List.{List}
 use mathlib.Core.Option.{Option}
 use Prim.Native.Nat.{ℕ, zero, suc, _+_, _-_, _*_, _≤_, _<_}
 use native.Mathlib.Omega.{arith}
 use lib.Dec.{T}
-use mathlib.Core.Bool.{true, false}
+use mathlib.Core.Bool.{true, false, cond}
 use lib.ListN.{length, take}
 use lib.IntN.{ℤ}
 use Rattle.integers.specs.Size.{bound}
 use Rattle.model.specs.Sets.{Kind}
 use Rattle.feasibility.specs.Tableau as F
-use Rattle.feasibility.specs.Tableau.{Tableau, reach, carried, point, dropped, long, wide}
+use Rattle.feasibility.specs.Tableau.{Tableau, reach, carried, built, carriedBuilt, point, dropped, long, wide}
 use Rattle.model.specs.Values.{basicSetOf}
 use Rattle.model.specs.declared.BasicSet.{BasicSet}
 use Rattle.simplex.proofs.Filled.{Filling, filled-fine, shows, sorted}
-use Rattle.simplex.specs.declared.Ended.{Ended}
+use Rattle.simplex.specs.declared.Counted.{Counted}
 use Rattle.simplex.specs.declared.Verdict.{Verdict}
 use Rattle.simplex.specs.declared.Verdict.the-variants.{Point, Dropped, Long, Wide}
 use Rattle.simplex.specs.declared.Move.{Move}
 use Rattle.simplex.specs.declared.Move.the-variants.{Stop, Pivot}
 use Rattle.simplex.specs.Answers.{verdictOf}
-use Rattle.simplex.specs.Table.{moveAt, pivotRows, pivotPlace, Ending, runTableAt, Fine}
+use Rattle.simplex.specs.Table.{moveAt, pivotRows, pivotPlace, Ending, runTableAt, builtTableAt, Fine}
 use Rattle.simplex.proofs.Moves.{crossingAt, run-stopAt, run-moreAt, pivot-leftAt, pivot-fineAt, pivot-length}
 use Rattle.simplex.proofs.Shows.{Shows}
 use Rattle.simplex.proofs.Bridge.{Ends, Sorted, reach-shows}
-use Rattle.carrying.specs.Carried.{isWide, onward, bothTable, RanBoth}
+use Rattle.simplex.proofs.Built.{built-le, built-shows}
+use Rattle.carrying.specs.Carried.{isWide, onward, bothTable, onwardBuilt, bothBuilt, Went, RanBoth}
 use Rattle.carrying.specs.Answers.{Tests}
 
 module _ {W : ℕ} (big : 2 ≤ W) (n : ℕ) (kinds : List ℕ) where
@@ -84,6 +85,29 @@ module _ (k : ℕ) (sort : ℕ → Option Kind) (kinds : List ℕ) where
   both-shows t rows place s ks e =
       onward-shows (reach (F.narrow (bound 64)) sort 200 t) (runTableAt (bound 64) kinds 200 rows place) (reach-shows k sort kinds (bound 64) 200 t rows place s ks) (λ v h. ks v (subst (λ (n : ℕ). v < n) e h))
 
+  onward-built : (e : F.Ending) (o : Ending) → Ends k e o → Sorted k sort kinds (o .place)
+      → onwardBuilt kinds o ≡ carriedBuilt (F.narrow (bound 128)) sort e
+  onward-built e o s ks = by (o .verdict) ∙ ap carry (s .verdict-is)
+    where
+      carry : F.Verdict → ℕ
+      carry v = elim v [ point ↦ 0 | dropped ↦ 0 | long ↦ 0 | wide ↦ built (F.narrow (bound 128)) sort (e .left) (e .tableau) ]
+
+      by : (v : Verdict) → cond (isWide v) (builtTableAt (bound 128) kinds (o .left) (o .rows) (o .place)) 0 ≡ carry (verdictOf v)
+      by Point = refl
+      by Dropped = refl
+      by Long = refl
+      by Wide =
+          built-shows k sort kinds (bound 128) (o .left) (e .tableau) (o .rows) (o .place) (s .shows) ks
+          ∙ ap (λ (l : ℕ). built (F.narrow (bound 128)) sort l (e .tableau)) (s .left-is)
+
+  pub both-built : (t : Tableau) (rows : List (List ℤ)) (place : List ℕ) → Shows k rows place t → Sorted k sort kinds place
+      → length (runTableAt (bound 64) kinds 200 rows place .place) ≡ length place
+      → let fits = F.narrow (bound 64) in
+      bothBuilt kinds rows place ≡ built fits sort 200 t + carriedBuilt (F.narrow (bound 128)) sort (reach fits sort 200 t)
+  both-built t rows place s ks e =
+      ap₂ _+_ (built-shows k sort kinds (bound 64) 200 t rows place s ks)
+      (onward-built (reach (F.narrow (bound 64)) sort 200 t) (runTableAt (bound 64) kinds 200 rows place) (reach-shows k sort kinds (bound 64) 200 t rows place s ks) (λ v h. ks v (subst (λ (n : ℕ). v < n) e h)))
+
 -- ---- which way it goes
 pub onward-no : (kinds : List ℕ) (o : Ending) → isWide (o .verdict) ≡ false → onward kinds o ≡ o
 onward-no kinds o e = at (o .verdict) e
@@ -103,12 +127,20 @@ onward-yes kinds o e = at (o .verdict) e
     at Long e = absurd (subst T (sym e) tt)
     at Wide e = refl
 
+-- a run at 128 bits builds 64 rows a pivot at most
+pub went-le : {rows : List (List ℤ)} {place kinds : List ℕ} {from : ℕ} {x : Counted} → Went rows place kinds from x
+    → length rows ≤ 64 → x .built ≤ 64 * from
+went-le {rows} {place} {kinds} {from} {x} g h = omega (arith, built-le (bound 128) kinds from rows place h, g .built-is)
+
 -- ---- the test of a basic set whose first table is filled
-pub filled-both : (b : BasicSet) (rows : List (List ℤ)) (place kinds : List ℕ) (f : Filling b (b .cons) rows place kinds) (x : Ended)
-    → RanBoth (take (2 * b .divs + b .cons) rows) (take (8 + b .divs + (2 * b .divs + b .cons)) place) (take (8 + b .divs + (2 * b .divs + b .cons)) kinds) x → Tests (basicSetOf b) x
-unfolding F.testEnds F.endsAt
+pub filled-both : (b : BasicSet) (rows : List (List ℤ)) (place kinds : List ℕ) (f : Filling b (b .cons) rows place kinds) (x : Counted)
+    → RanBoth (take (2 * b .divs + b .cons) rows) (take (8 + b .divs + (2 * b .divs + b .cons)) place) (take (8 + b .divs + (2 * b .divs + b .cons)) kinds) x
+    → Tests (basicSetOf b) (x .ended) × (x .built ≡ F.rowsBuilt (basicSetOf b))
+unfolding F.testEnds F.endsAt F.rowsBuilt
 filled-both b rows place kinds f x r =
     let m = 2 * b .divs + b .cons in let n = 8 + b .divs + m in let B = basicSetOf b in
     let k = run-keeps {W = 64} (omega arith) (b .divs + 10) (take n kinds) 200 (take m rows) (take n place) (filled-fine b rows place kinds f) in
-    let s = both-shows (b .divs) (F.sorts B) (take n kinds) (F.begin B) (take m rows) (take n place) (shows b rows place kinds f) (sorted b rows place kinds f) (k .1) in
-    record { verdict-is = ap verdictOf (r .verdict-is) ∙ s .verdict-is; pivots-are = r .pivots-are ∙ ap (λ (l : ℕ). 200 - l) (s .left-is) }
+    let s = both-shows (b .divs) (F.sorts B) (take n kinds) (F.begin B) (take m rows) (take n place) (shows b rows place kinds f) (sorted b rows place kinds f) (k .1) in (
+      record { verdict-is = ap verdictOf (r .verdict-is) ∙ s .verdict-is; pivots-are = r .pivots-are ∙ ap (λ (l : ℕ). 200 - l) (s .left-is) },
+      r .built-is ∙ both-built (b .divs) (F.sorts B) (take n kinds) (F.begin B) (take m rows) (take n place) (shows b rows place kinds f) (sorted b rows place kinds f) (k .1),
+    )

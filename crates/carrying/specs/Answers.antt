@@ -40,6 +40,18 @@ testIn (gives s) k = gives (tested (numbered s k))
 unfoldable pub testBytes : ℕ → List ℕ → ℕ → Answer (Option (T.Verdict × ℕ))
 testBytes n s k = testIn (decode n s) k
 
+-- the rows built by its test (document 02, request 4); 0 where the bytes are refused or there is no such basic set
+abbrev pub builtOf : Option BasicSet → ℕ
+builtOf none = 0
+builtOf (some b) = T.rowsBuilt b
+
+abbrev pub builtFor : Answer Set → ℕ → ℕ
+builtFor (refused m) k = 0
+builtFor (gives s) k = builtOf (numbered s k)
+
+unfoldable pub builtBytes : ℕ → List ℕ → ℕ → ℕ
+builtBytes n s k = builtFor (decode n s) k
+
 -- each case of the code's answer: a refusal's number, no basic set of that number, or the answer and the pivots
 abbrev pub testedOf : Tested → Answer (Option (T.Verdict × ℕ))
 testedOf (Refused m) = refused m

@@ -1,5 +1,5 @@
 // The run at 64 bits, and at 128 where that is wide.
-use simplex::Ended;
+use simplex::Counted;
 use simplex::Verdict;
 ghost use mathlib.Core.Path.{_≡_};
 ghost use Prim.Native.Nat.{_≤_};
@@ -26,7 +26,7 @@ fn in_table(
     kinds: &[u8],
     from: usize,
     out: &mut [[u64; 36]],
-) -> Ended
+) -> Counted
     requires { ⌜ Fine n (now t) (now place) (now kinds) × (from ≤ 200) × (length (now out) ≡ length (now t)) ⌝ }
     ensures { λ x. ⌜ Went (now (t .entry)) (now (place .entry)) (now (kinds .entry)) from x ⌝ }
 {
@@ -34,7 +34,7 @@ fn in_table(
     crate::going::go_on(out, n, place, kinds, from)
 }
 
-fn widened(t: &[[i64; 18]], n: usize, place: &mut [usize], kinds: &[u8], from: usize) -> Ended
+fn widened(t: &[[i64; 18]], n: usize, place: &mut [usize], kinds: &[u8], from: usize) -> Counted
     requires { ⌜ Fine n (now t) (now place) (now kinds) × (from ≤ 200) ⌝ }
     ensures { λ x. ⌜ Went (now (t .entry)) (now (place .entry)) (now (kinds .entry)) from x ⌝ }
 {
@@ -43,15 +43,20 @@ fn widened(t: &[[i64; 18]], n: usize, place: &mut [usize], kinds: &[u8], from: u
     in_table(t, n, place, kinds, from, &mut out[..m])
 }
 
-pub fn run_both(t: &mut [[i64; 18]], n: usize, place: &mut [usize], kinds: &[u8]) -> Ended
+pub fn run_both(t: &mut [[i64; 18]], n: usize, place: &mut [usize], kinds: &[u8]) -> Counted
     requires { ⌜ Fine n (now t) (now place) (now kinds) ⌝ }
     ensures { λ x. ⌜ RanBoth (now (t .entry)) (now (place .entry)) (now (kinds .entry)) x ⌝ }
 {
     let e = simplex::run::run(t, n, place, kinds);
-    let v = e.verdict;
-    let p = e.pivots;
+    let first = e.ended;
+    let v = first.verdict;
+    let p = first.pivots;
+    let before = e.built;
     if is_wide(v) {
-        return widened(t, n, place, kinds, 200 - p);
+        let w = widened(t, n, place, kinds, 200 - p);
+        let ended = w.ended;
+        let built = before + w.built;
+        return Counted { ended, built };
     }
     e
 }

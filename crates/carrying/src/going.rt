@@ -1,42 +1,52 @@
 // Step 5 at 128 bits, and the steps until one of them answers.
+use simplex::Counted;
 use simplex::Ended;
 use simplex::Move;
 ghost use mathlib.Core.Path.{_≡_};
 ghost use Prim.Native.Nat.{_≤_};
 ghost use Rattle.integers.specs.Size.{bound};
 ghost use Rattle.wide_tableau.specs.Cells.{rowsOf, Sheets, Turns};
-ghost use Rattle.simplex.specs.Table.{pivotRows, pivotPlace, Fine, CrossingAt};
+ghost use Rattle.simplex.specs.Table.{pivotRows, pivotPlace, pivotBuilt, Fine, CrossingAt};
 ghost use Rattle.carrying.specs.Carried.{Went};
 
-// Step 5: the row of variable v and the column of variable w.
-pub fn pivot(t: &mut [[u64; 36]], n: usize, place: &mut [usize], v: usize, w: usize)
+// Step 5: the row of variable v and the column of variable w; the number of rows built.
+pub fn pivot(t: &mut [[u64; 36]], n: usize, place: &mut [usize], v: usize, w: usize) -> usize
     requires { ⌜ Sheets (now t) × CrossingAt (bound 128) n (rowsOf (now t)) (now place) v w ⌝ }
-    ensures { λ _. ⌜ Turns (now (t .exit)) (pivotRows (rowsOf (now (t .entry))) (now (place .entry)) v w) × (now (place .exit) ≡ pivotPlace (now (place .entry)) v w) ⌝ }
+    ensures { λ k. ⌜ Turns (now (t .exit)) (pivotRows (rowsOf (now (t .entry))) (now (place .entry)) v w) × (now (place .exit) ≡ pivotPlace (now (place .entry)) v w) × (k ≡ pivotBuilt (rowsOf (now (t .entry))) (now (place .entry)) w) ⌝ }
 {
     let i = place[v];
     let c = place[w];
-    wide_tableau::exchange(t, n, i, c - 64);
+    let k = wide_tableau::exchange(t, n, i, c - 64);
     place[v] = c;
     place[w] = i;
+    k
 }
 
 // The steps, with so many pivots left of the 200.
-pub fn go_on(t: &mut [[u64; 36]], n: usize, place: &mut [usize], kinds: &[u8], from: usize) -> Ended
+pub fn go_on(
+    t: &mut [[u64; 36]],
+    n: usize,
+    place: &mut [usize],
+    kinds: &[u8],
+    from: usize,
+) -> Counted
     requires { ⌜ Sheets (now t) × Fine n (rowsOf (now t)) (now place) (now kinds) × (from ≤ 200) ⌝ }
     ensures { λ x. ⌜ Went (rowsOf (now (t .entry))) (now (place .entry)) (now (kinds .entry)) from x ⌝ }
 {
     let mut left = from;
+    let mut built: usize = 0;
     loop {
         let m = crate::choose::choose(t, n, place, kinds, left);
         match m {
             Move::Stop(x) => {
-                return Ended {
+                let ended = Ended {
                     verdict: x,
                     pivots: 200 - left,
                 };
+                return Counted { ended, built };
             }
             Move::Pivot(v, w) => {
-                pivot(t, n, place, v, w);
+                built += pivot(t, n, place, v, w);
                 left -= 1;
             }
         }

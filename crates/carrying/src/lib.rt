@@ -8,6 +8,7 @@ pub mod testing;
 use simplex::Ended;
 pub use testing::test;
 pub use testing::test_basic;
+pub use testing::test_counted;
 
 // The answer for one basic set of a set's bytes; `testedOf` in specs/Answers says what each case means.
 pub enum Tested {

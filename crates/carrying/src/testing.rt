@@ -2,6 +2,7 @@
 use crate::Tested;
 use crate::both::run_both;
 use model::BasicSet;
+use simplex::Counted;
 use simplex::Ended;
 use simplex::fill::constraint_row;
 use simplex::fill::fill_bounds;
@@ -11,21 +12,23 @@ ghost use Prim.Native.Nat.{_≤_};
 ghost use mathlib.Core.Path.{_≡_};
 ghost use lib.ListN.{length};
 ghost use Rattle.model.specs.Values.{basicSetOf};
+ghost use Rattle.feasibility.specs.Tableau.{rowsBuilt};
 ghost use Rattle.simplex.specs.Table.{Valid};
 ghost use Rattle.carrying.specs.Answers.{Tests, testBytes, testedOf};
 
-// The answer for a decoded basic set, worked out in lent tables: nothing large is made for a test.
-pub fn test_basic(
+// The answer for a decoded basic set and the number of rows built for it, worked out in lent tables: nothing large is made for a
+// test.
+pub fn test_counted(
     b: BasicSet,
     rows: &mut [[i64; 18]],
     place: &mut [usize],
     kinds: &mut [u8],
-) -> Ended
+) -> Counted
     requires { ⌜ Valid b ⌝ }
     requires { ⌜ 64 ≤ length (now rows) ⌝ }
     requires { ⌜ 80 ≤ length (now place) ⌝ }
     requires { ⌜ 80 ≤ length (now kinds) ⌝ }
-    ensures { λ r. ⌜ Tests (basicSetOf b) r ⌝ }
+    ensures { λ r. ⌜ Tests (basicSetOf b) (r .ended) × (r .built ≡ rowsBuilt (basicSetOf b)) ⌝ }
 {
     let k = b.divs;
     let cons = b.cons;
@@ -42,6 +45,24 @@ pub fn test_basic(
         i += 1;
     }
     run_both(&mut rows[..m], k + 10, &mut place[..n], &kinds[..n])
+}
+
+// The answer alone.
+pub fn test_basic(
+    b: BasicSet,
+    rows: &mut [[i64; 18]],
+    place: &mut [usize],
+    kinds: &mut [u8],
+) -> Ended
+    requires { ⌜ Valid b ⌝ }
+    requires { ⌜ 64 ≤ length (now rows) ⌝ }
+    requires { ⌜ 80 ≤ length (now place) ⌝ }
+    requires { ⌜ 80 ≤ length (now kinds) ⌝ }
+    ensures { λ r. ⌜ Tests (basicSetOf b) r ⌝ }
+{
+    let c = test_counted(b, rows, place, kinds);
+    let e = c.ended;
+    e
 }
 
 // The same in tables of its own.

@@ -4,7 +4,7 @@ use mathlib.Core.Path.{_≡_, refl}
 use mathlib.Core.List.{List, [], _∷_}
 use lib.IntN.{ℤ, pos, negsuc}
 use Rattle.model.specs.Sets.{inequality, Constraint, BasicSet}
-use Rattle.feasibility.specs.Tableau.{point, dropped, wide, bound, testAt, test, look, exchange, reach, endsAt, testEnds, pivotsMade}
+use Rattle.feasibility.specs.Tableau.{point, dropped, wide, bound, testAt, test, look, exchange, reach, endsAt, testEnds, pivotsMade, narrow, sorts, begin, built, rowsBuilt}
 
 -- c + a·x ≥ 0
 abbrev ge : ℤ → ℤ → Constraint
@@ -64,3 +64,8 @@ steep =
 pub far-wide-128 : (testAt 64 steep ≡ wide) × (test steep ≡ wide) × (pivotsMade steep ≡ 4)
 unfolding testEnds endsAt reach look exchange
 far-wide-128 = (refl, refl, refl)
+
+-- each of its exchanges, two at 64 bits and two at 128, builds its own row and the next
+pub steep-built : (built (narrow (bound 64)) (sorts steep) 200 (begin steep) ≡ 4) × (rowsBuilt steep ≡ 8)
+unfolding rowsBuilt built endsAt reach look exchange
+steep-built = (refl, refl)

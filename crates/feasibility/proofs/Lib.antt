@@ -3,6 +3,7 @@ pub mod Reduce
 pub mod Exchange
 pub mod Reach
 pub mod Sizes
+pub mod Built
 pub mod Stops
 pub mod Start
 pub mod Points

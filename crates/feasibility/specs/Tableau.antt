@@ -9,7 +9,7 @@ use lib.IntN.{ℤ, pos, negℤ, natAbs, _-ℤ_, _*ℤ_}
 use lib.Signed.{nonNeg}
 use lib.Dec.{ltb, leb}
 use lib.ListN.{length, replicate, set, getD}
-use Rattle.model.specs.Lists.{all}
+use Rattle.model.specs.Lists.{all, filter}
 use Rattle.model.specs.Sets.{Kind, equality, inequality, Constraint, BasicSet, isZero, meets, floorDiv, conditions}
 
 pub data Verdict : Type 0 where
@@ -219,3 +219,27 @@ test b = testEnds b .verdict
 -- the pivots made, of both
 abbrev pub pivotsMade : BasicSet → ℕ
 pivotsMade b = 200 - testEnds b .left
+
+-- ---- the rows built (document 02, request 4)
+
+-- an exchange in column j builds "only the rows with a nonzero entry in the column, each once"
+abbrev pub builtRows : ℕ → Tableau → List Row
+builtRows j t = filter (λ (r : Row). not (isZero (entry r j))) (t .rows)
+
+-- how many the exchanges of a test build, which makes them as `reach` does
+unfoldable pub built : (ℕ → Tableau → Bool) → (ℕ → Option Kind) → ℕ → Tableau → ℕ
+built fits sort zero t = 0
+built fits sort (suc n) t =
+    elim (look sort t) [
+      | noneViolated ↦ 0
+      | noneHelps ↦ 0
+      | pivot i j ↦ elim (fits j t) [ false ↦ 0 | true ↦ length (builtRows j t) + built fits sort n (exchange i j t) ]
+    ]
+
+-- how many a test builds once it is carried over, which only a wide one is
+abbrev pub carriedBuilt : (ℕ → Tableau → Bool) → (ℕ → Option Kind) → Ending → ℕ
+carriedBuilt fits sort e = elim (e .verdict) [ point ↦ 0 | dropped ↦ 0 | long ↦ 0 | wide ↦ built fits sort (e .left) (e .tableau) ]
+
+-- the rows built by the test of a basic set, at 64 bits and at 128
+unfoldable pub rowsBuilt : BasicSet → ℕ
+rowsBuilt b = built (narrow (bound 64)) (sorts b) 200 (begin b) + carriedBuilt (narrow (bound 128)) (sorts b) (endsAt 64 b)

@@ -5,5 +5,6 @@ pub mod Shown
 pub mod Shows
 pub mod Choosing
 pub mod Bridge
+pub mod Built
 pub mod Fills
 pub mod Filled

@@ -9,7 +9,7 @@ use lib.Dec.{leb, ltb, eqb}
 use lib.ListN.{getD, set, length, take}
 use lib.IntN.{ℤ, pos, _*ℤ_}
 use lib.Signed.{_<ℤ_}
-use Rattle.tableau.specs.Rows.{den, exchangeRows, violated, helping, narrowRowsAt, Line, ReadyAt}
+use Rattle.tableau.specs.Rows.{den, exchangeRows, touched, violated, helping, narrowRowsAt, Line, ReadyAt}
 use Rattle.integers.specs.Size.{bound}
 use Rattle.model.specs.Sets as S
 use Rattle.model.specs.Sets.{Kind, equality, inequality, bounds}
@@ -19,7 +19,7 @@ use Rattle.model.specs.declared.BasicSet.{BasicSet}
 use Rattle.feasibility.specs.Tableau as T
 use Rattle.simplex.specs.declared.Verdict.{Verdict}
 use Rattle.simplex.specs.declared.Verdict.the-variants.{Point, Dropped, Long, Wide}
-use Rattle.simplex.specs.declared.Ended.{Ended}
+use Rattle.simplex.specs.declared.Counted.{Counted}
 use Rattle.simplex.specs.declared.Move.{Move}
 use Rattle.simplex.specs.declared.Move.the-variants.{Stop, Pivot}
 
@@ -50,6 +50,10 @@ pivotRows rows place v w = exchangeRows rows (getD place v 0) (getD place w 0 - 
 unfoldable pub pivotPlace : List ℕ → ℕ → ℕ → List ℕ
 pivotPlace place v w = set (set place v (getD place w 0)) w (getD place v 0)
 
+-- and the rows that it builds (document 02, request 4)
+abbrev pub pivotBuilt : List (List ℤ) → List ℕ → ℕ → ℕ
+pivotBuilt rows place w = touched (getD place w 0 - 64) rows
+
 -- how a run ends: with what, and how many pivots were left, and the tableau
 pub record Ending : Type 0 where
   pub verdict : Verdict
@@ -68,6 +72,15 @@ runTableAt m kinds (suc n) rows place = follow (moveAt m rows place kinds (suc n
 
 abbrev pub runTable : List ℕ → ℕ → List (List ℤ) → List ℕ → Ending
 runTable kinds n rows place = runTableAt (bound 64) kinds n rows place
+
+-- the rows that the run's pivots build
+abbrev pub countMove : Move → (List (List ℤ) → List ℕ → ℕ) → List (List ℤ) → List ℕ → ℕ
+countMove (Stop x) go rows place = 0
+countMove (Pivot v w) go rows place = pivotBuilt rows place w + go (pivotRows rows place v w) (pivotPlace place v w)
+
+unfoldable pub builtTableAt : ℕ → List ℕ → ℕ → List (List ℤ) → List ℕ → ℕ
+builtTableAt m kinds zero rows place = 0
+builtTableAt m kinds (suc n) rows place = countMove (moveAt m rows place kinds (suc n)) (builtTableAt m kinds n) rows place
 
 -- ---- how a table shows a tableau of 8 + k columns: the k divisions' columns come first, so that those of absent axes are the last
 
@@ -130,9 +143,10 @@ abbrev pub Crossing : ℕ → List (List ℤ) → List ℕ → ℕ → ℕ → T
 Crossing n rows place v w = CrossingAt (bound 64) n rows place v w
 
 -- the run from (rows, place) ends in x, with these rows and places
-pub record Ran (rows : List (List ℤ)) (place kinds : List ℕ) (x : Ended) (rows′ : List (List ℤ)) (place′ : List ℕ) : Type 0 where
-  pub verdict-is : x .verdict ≡ runTable kinds 200 rows place .verdict
-  pub pivots-are : x .pivots ≡ 200 - runTable kinds 200 rows place .left
+pub record Ran (rows : List (List ℤ)) (place kinds : List ℕ) (x : Counted) (rows′ : List (List ℤ)) (place′ : List ℕ) : Type 0 where
+  pub verdict-is : x .ended .verdict ≡ runTable kinds 200 rows place .verdict
+  pub pivots-are : x .ended .pivots ≡ 200 - runTable kinds 200 rows place .left
+  pub built-is : x .built ≡ builtTableAt (bound 64) kinds 200 rows place
   pub rows-are : rows′ ≡ runTable kinds 200 rows place .rows
   pub place-is : place′ ≡ runTable kinds 200 rows place .place
 

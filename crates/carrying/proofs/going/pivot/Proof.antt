@@ -47,7 +47,7 @@ same-length-2 c = search needs
 
 returns : tie.Need-returns
 unfolding S.pivotRows S.pivotPlace
-returns c = (c .before .exchange .ensures .0, refl)
+returns c = (c .before .exchange .ensures .0, refl, c .before .exchange .ensures .1)
 
 pub pivot-spec : {M : Type 1} → statement M
 pivot-spec =

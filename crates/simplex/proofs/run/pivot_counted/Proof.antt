@@ -1,10 +1,10 @@
 use mathlib.Core.Path.{refl}
 use Rattle.simplex.specs.Table.{pivotRows, pivotPlace}
 use borrow.Author.Needs.{needs}
-use Rattle.simplex.proofs.run.pivot.Statement.{statement}
-use Rattle.simplex.proofs.run.pivot.Tie as tie
-use Rattle.simplex.proofs.run.pivot.Reads as reads
-use Rattle.simplex.proofs.run.pivot.Lts as lts
+use Rattle.simplex.proofs.run.pivot_counted.Statement.{statement}
+use Rattle.simplex.proofs.run.pivot_counted.Tie as tie
+use Rattle.simplex.proofs.run.pivot_counted.Reads as reads
+use Rattle.simplex.proofs.run.pivot_counted.Lts as lts
 use Rattle.tableau.proofs.exchange.Reads as exchange-reads
 
 mul-i : tie.Need-mul-i
@@ -48,10 +48,10 @@ same-length-2 c = search needs
 
 returns : tie.Need-returns
 unfolding pivotRows pivotPlace
-returns c = (c .before .exchange .ensures .0, refl)
+returns c = (c .before .exchange .ensures .0, refl, c .before .exchange .ensures .1)
 
-pub pivot-spec : {M : Type 1} → statement M
-pivot-spec =
+pub pivot-counted-spec : {M : Type 1} → statement M
+pivot-counted-spec =
     tie.close
     (tie.spec
     mul-i

@@ -1,4 +1,4 @@
--- `carrying::testing::test_basic` meets its contract. Assumes nothing.
+-- `carrying::testing::test_counted` meets its contract. Assumes nothing.
 use mathlib.Core.Path.{sym}
 use Prim.Native.Nat.{_+_, _-_, _*_, _≤_, _<_}
 use native.Mathlib.Omega.{arith}
@@ -8,8 +8,8 @@ use Rattle.simplex.specs.Table.{Ruled}
 use Rattle.simplex.proofs.Fills.{ruled-none, ruled-more}
 use Rattle.simplex.proofs.Filled.{Filling, filling-room, filling-done, rows-taken, place-long, kinds-long, filled-fine}
 use Rattle.carrying.proofs.Runs.{filled-both}
-use Rattle.carrying.proofs.testing.test_basic.Statement.{statement}
-use Rattle.carrying.proofs.testing.test_basic.Tie as tie
+use Rattle.carrying.proofs.testing.test_counted.Statement.{statement}
+use Rattle.carrying.proofs.testing.test_counted.Tie as tie
 
 abbrev Inv-loop : tie.InvT-loop
 Inv-loop rows₀ place kinds₀ b k cons m n i₀ rows kinds i = (i ≤ b .cons) × Ruled b i rows₀ rows kinds₀ kinds
@@ -163,8 +163,8 @@ same-length-3 c = search needs
 returns : tie.Need-returns Inv-loop μ-loop
 returns c = filled-both _ _ _ _ (filled (c .before .before .before .before .before .before .before)) _ (c .before .before .before .run-both .ensures)
 
-pub test-basic-spec : {M : Type 1} → statement M
-test-basic-spec =
+pub test-counted-spec : {M : Type 1} → statement M
+test-counted-spec =
     tie.close
     (tie.spec
     Inv-loop
