@@ -16,6 +16,7 @@ pub use operating::probe_union;
 pub use searching::probe_coordinate;
 pub use searching::probe_search;
 pub use searching::probe_tally;
+pub use testing::probe_built;
 pub use testing::probe_pivots;
 pub use testing::probe_test;
 pub use testing::probe_tests;
