@@ -17,6 +17,7 @@ uint64_t probe_member(size_t, const uint8_t *, size_t, EIGHT);
 size_t probe_holder(size_t, const uint8_t *, size_t, const uint8_t *, size_t, EIGHT, uint8_t *, size_t);
 uint64_t probe_test(size_t, const uint8_t *, size_t, size_t);
 size_t probe_pivots(size_t, const uint8_t *, size_t, size_t);
+size_t probe_built(size_t, const uint8_t *, size_t, size_t);
 uint64_t probe_search(size_t, const uint8_t *, size_t, uint32_t, EIGHT, EIGHT);
 uint32_t probe_tally(size_t, const uint8_t *, size_t, uint32_t, EIGHT, EIGHT);
 int64_t probe_coordinate(size_t, const uint8_t *, size_t, uint32_t, EIGHT, EIGHT, size_t);
@@ -130,9 +131,11 @@ static void test(char **rest)
     table t = bytes(rest);
     size_t k = number(rest);
     uint64_t r = probe_test(n, t.bytes, t.length, k);
-    if (r >= 100) printf("refused %" PRIu64 "\n", r - 100);
+    size_t pivots = probe_pivots(n, t.bytes, t.length, k), built = probe_built(n, t.bytes, t.length, k);
+    if (r >= 4 && (pivots || built)) puts("counts without a test");
+    else if (r >= 100) printf("refused %" PRIu64 "\n", r - 100);
     else if (r == 4) puts("none");
-    else printf("%s %zu\n", words[r], probe_pivots(n, t.bytes, t.length, k));
+    else printf("%s %zu %zu\n", words[r], pivots, built);
     free(t.bytes);
 }
 

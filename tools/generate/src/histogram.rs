@@ -25,13 +25,44 @@ pub fn carried(kind: &str, answer: &str) -> String {
     format!("{kind} carried, {answer}")
 }
 
+/// The sizes of numbers at which a test's exchanges are made.
+const SIZES: [&str; 3] = ["64 bits", "both sizes", "128 bits"];
+
+/// What the exchanges of a test build: no pivot, at each its own row alone of several, at each every row, or neither.
+pub fn built_names() -> Vec<String> {
+    let named = ["built nothing", "built own row only"].map(str::to_string);
+    let sized = SIZES.iter().flat_map(|size| ["every row", "some rows"].map(|rows| format!("built {rows} at {size}")));
+    named.into_iter().chain(sized).collect()
+}
+
+fn size(outcome: Outcome) -> &'static str {
+    match outcome.carried {
+        Some(0) => "128 bits",
+        Some(before) if before < outcome.pivots => "both sizes",
+        _ => "64 bits",
+    }
+}
+
+/// Counts a test by what its exchanges build.
+fn count_built(basic: &BasicSet, outcome: Outcome, counts: &mut Counts) {
+    let rows = (2 * basic.divisions.len() + basic.rules.len()) as u32;
+    let name = match (outcome.pivots, outcome.built) {
+        (0, _) => "built nothing".to_string(),
+        (pivots, built) if built == pivots * rows => format!("built every row at {}", size(outcome)),
+        (pivots, built) if built == pivots => "built own row only".to_string(),
+        _ => format!("built some rows at {}", size(outcome)),
+    };
+    bump(counts, &name);
+}
+
 /// Every name that has to occur.
 pub fn wanted() -> Vec<String> {
     let refusals = (1..=15).map(|k| format!("refused {k}"));
     let tests = ANSWERS.iter().map(|answer| format!("test {answer}"));
     let others = ["search at", "search none", "search spent"];
     let carried = TESTING.iter().flat_map(|kind| ANSWERS.map(|answer| carried(kind, answer)));
-    refusals.chain(tests).chain(others.into_iter().chain(events::EVENTS).map(str::to_string)).chain(carried).collect()
+    let others = others.into_iter().chain(events::EVENTS).map(str::to_string);
+    refusals.chain(tests).chain(others).chain(carried).chain(built_names()).collect()
 }
 
 /// Counts a test that was carried into 128 bits.
@@ -128,9 +159,10 @@ fn count_tests(script: &[u8], counts: &mut Counts) {
         if let (Some(a), Some(b)) = (set(2), set(command.len() - 1)) {
             count_events(kind, a, b, counts);
         }
-        let mut watch = |_: &BasicSet, outcome: Outcome| {
+        let mut watch = |candidate: &BasicSet, outcome: Outcome| {
             bump(counts, &format!("test {}", outcome.answer.word()));
             count_carried(kind, outcome, counts);
+            count_built(candidate, outcome, counts);
         };
         if let Some(set) = result(n, command, &sets, &mut watch) {
             if second::encode(&set).len() <= 8_000 {
@@ -161,21 +193,28 @@ fn count_operation(call: &str, counts: &mut Counts) {
     }
 }
 
-/// What comes of a call of the test, where its set is good and has that basic set.
-fn tested(call: &str) -> Option<Outcome> {
+/// The basic set of a call of the test and its number of axes, where the set is good and has that basic set.
+fn tested(call: &str) -> Option<(usize, BasicSet)> {
     let words: Vec<&str> = call.split(' ').collect();
     let ["test", n, set, k] = words[..] else { return None };
-    let set = parse(n.parse().ok()?, &unhex(set)?).ok()?;
-    let basic = set.basics.get(k.parse::<usize>().ok()?.checked_sub(1)?)?;
-    Some(test(set.n, basic))
+    let mut set = parse(n.parse().ok()?, &unhex(set)?).ok()?;
+    let index = k.parse::<usize>().ok()?.checked_sub(1)?;
+    (index < set.basics.len()).then(|| (set.n, set.basics.swap_remove(index)))
 }
 
-/// The carried ones among so many calls of the test.
+/// Counts the test of a call by its carry and by what its exchanges build.
+fn count_tested(call: &str, counts: &mut Counts) {
+    if let Some((n, basic)) = tested(call) {
+        let outcome = test(n, &basic);
+        count_carried("test", outcome, counts);
+        count_built(&basic, outcome, counts);
+    }
+}
+
+/// The same of so many calls of the test.
 pub fn of_tests(count: u64, seed: u64) -> Counts {
     let mut counts = Counts::new();
-    for outcome in (0..count).filter_map(|index| tested(&calls::call(seed, index, &["test"]))) {
-        count_carried("test", outcome, &mut counts);
-    }
+    (0..count).for_each(|index| count_tested(&calls::call(seed, index, &["test"]), &mut counts));
     counts
 }
 
@@ -184,9 +223,7 @@ pub fn of_calls(count: u64, seed: u64) -> Counts {
     for index in 0..count {
         let call = calls::call(seed, index, &calls::KINDS);
         count_operation(&call, &mut counts);
-        if let Some(outcome) = tested(&call) {
-            count_carried("test", outcome, &mut counts);
-        }
+        count_tested(&call, &mut counts);
         let answer = second::run_call(&call);
         let kind = call.split(' ').next().unwrap_or("");
         let words: Vec<&str> = answer.split(' ').collect();

@@ -1,15 +1,17 @@
 //! `generate scripts COUNT SEED DIR|-`   scripts as files `000000.bin` .. in DIR, or as hex lines
 //! `generate calls COUNT SEED [KIND..]`  line-mode calls
 //! `generate histogram COUNT SEED`       what COUNT scripts and as many calls reach
-//! `generate carried COUNT SEED`         how many of COUNT calls of the test are wide at 64 bits, and how these end
+//! `generate tests COUNT SEED`           what COUNT calls of the test reach: how many are wide at 64 bits, how these end,
+//!                                       and which rows their exchanges build
 
+use generate::histogram::Counts;
 use generate::{calls, histogram, scripts};
 use hexscript::tokens::hex;
 use std::io::Write;
 use std::process::ExitCode;
 
 const USAGE: &str =
-    "generate scripts COUNT SEED DIR|- | calls COUNT SEED [KIND..] | histogram COUNT SEED | carried COUNT SEED";
+    "generate scripts COUNT SEED DIR|- | calls COUNT SEED [KIND..] | histogram COUNT SEED | tests COUNT SEED";
 
 /// One test in so many has to be wide at 64 bits.
 const CARRIED_ONE_IN: u64 = 25;
@@ -40,14 +42,18 @@ fn write_calls(count: u64, seed: u64, kinds: &[&str]) -> Result<ExitCode, String
     Ok(ExitCode::SUCCESS)
 }
 
+fn count_of(counts: &Counts, name: &str) -> usize {
+    counts.get(name).copied().unwrap_or(0)
+}
+
 /// Each wanted name is a check: it must occur among the scripts and among the calls (14 and 15 are of scripts only, a
-/// test of its own is of calls only).
+/// test of its own is of calls only, and what calls of the test build is for `tests` to say).
 fn print_histogram(count: u64, seed: u64) -> ExitCode {
     let by_scripts = histogram::of_scripts(count, seed);
     let by_calls = histogram::of_calls(count, seed);
     let wanted = histogram::wanted();
     let line = |name: &String| {
-        let (s, c) = (by_scripts.get(name).copied().unwrap_or(0), by_calls.get(name).copied().unwrap_or(0));
+        let (s, c) = (count_of(&by_scripts, name), count_of(&by_calls, name));
         println!("{name:<34} {s:>9} {c:>9}");
         (s, c)
     };
@@ -55,7 +61,7 @@ fn print_histogram(count: u64, seed: u64) -> ExitCode {
     let mut passed = 0;
     for name in &wanted {
         let (s, c) = line(name);
-        let script_only = name == "refused 14" || name == "refused 15";
+        let script_only = name == "refused 14" || name == "refused 15" || name.starts_with("built");
         let call_only = name.starts_with("test carried");
         passed += usize::from((s > 0 || call_only) && (c > 0 || script_only));
     }
@@ -67,17 +73,31 @@ fn print_histogram(count: u64, seed: u64) -> ExitCode {
     ExitCode::from(u8::from(failed > 0))
 }
 
-/// Enough of the tests have to be wide at 64 bits, and each answer at 128 bits has to be that of some of them.
-fn print_carried(count: u64, seed: u64) -> ExitCode {
-    let counts = histogram::of_tests(count, seed);
-    let all: usize = counts.values().sum();
+/// How many of the tests are wide at 64 bits and how these end. Checks: enough of them are, and each answer at 128 bits
+/// is that of some of them.
+fn print_carried(counts: &Counts, count: u64) -> Vec<bool> {
+    let ended = |answer| count_of(counts, &histogram::carried("test", answer));
+    let all: usize = histogram::ANSWERS.map(ended).iter().sum();
     let least = count.div_ceil(CARRIED_ONE_IN);
-    let ended = |answer| counts.get(&histogram::carried("test", answer)).copied().unwrap_or(0);
     let endings = histogram::ANSWERS.map(|answer| format!("{answer} {}", ended(answer)));
     println!("{all} of {count} tests are wide at 64 bits ({least} are wanted); at 128 bits: {}", endings.join(", "));
-    let present = histogram::ANSWERS.into_iter().filter(|answer| ended(answer) > 0).count();
-    let passed = usize::from(all as u64 >= least) + present;
-    let failed = 1 + histogram::ANSWERS.len() - passed;
+    let present = histogram::ANSWERS.map(|answer| ended(answer) > 0);
+    std::iter::once(all as u64 >= least).chain(present).collect()
+}
+
+/// Which rows the tests' exchanges build. Checks: each kind is that of some of them.
+fn print_built(counts: &Counts) -> Vec<bool> {
+    let names = histogram::built_names();
+    let kinds: Vec<String> = names.iter().map(|name| format!("{name}: {}", count_of(counts, name))).collect();
+    println!("{}", kinds.join("; "));
+    names.iter().map(|name| count_of(counts, name) > 0).collect()
+}
+
+fn print_tests(count: u64, seed: u64) -> ExitCode {
+    let counts = histogram::of_tests(count, seed);
+    let checks = [print_carried(&counts, count), print_built(&counts)].concat();
+    let passed = checks.iter().filter(|&&good| good).count();
+    let failed = checks.len() - passed;
     println!("{passed} passed, {failed} failed");
     ExitCode::from(u8::from(failed > 0))
 }
@@ -88,7 +108,7 @@ fn run(words: &[&str]) -> Result<ExitCode, String> {
         ["scripts", count, seed, place] => write_scripts(number(count)?, number(seed)?, place),
         ["calls", count, seed, kinds @ ..] => write_calls(number(count)?, number(seed)?, kinds),
         ["histogram", count, seed] => Ok(print_histogram(number(count)?, number(seed)?)),
-        ["carried", count, seed] => Ok(print_carried(number(count)?, number(seed)?)),
+        ["tests", count, seed] => Ok(print_tests(number(count)?, number(seed)?)),
         _ => Err(USAGE.to_string()),
     }
 }

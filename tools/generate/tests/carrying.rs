@@ -15,6 +15,11 @@ fn test_at(n: usize, basic: &BasicSet, bound: i128) -> Outcome {
     test_bounded(n, basic, Some(PIVOT_LIMIT), [bound; 2])
 }
 
+/// What a test comes to, whatever the size of its numbers.
+fn made(outcome: Outcome) -> (Answer, u32, u32) {
+    (outcome.answer, outcome.pivots, outcome.built)
+}
+
 fn any(rng: &mut Rng) -> (usize, Basic) {
     let world = World::new(rng);
     match rng.below(20) {
@@ -35,7 +40,7 @@ fn a_carried_test_is_one_test_at_the_larger_bound() {
         let (n, basic) = any(rng);
         let basic = read(n, &basic);
         let (whole, at_64, at_128) = (test(n, &basic), test_at(n, &basic, BOUND_64), test_at(n, &basic, BOUND_128));
-        assert_eq!((whole.answer, whole.pivots), (at_128.answer, at_128.pivots));
+        assert_eq!(made(whole), made(at_128));
         if at_64.answer == Answer::Wide {
             assert_eq!(whole.carried, Some(at_64.pivots));
             answers.insert(whole.answer.word());
@@ -55,7 +60,7 @@ fn hard_sets_over_larger_numbers_make_the_same_pivots() {
         assert_eq!(given.carried, None);
         for k in [7, 229, 1_147, 16_381] {
             let larger = outcome(&hard::spread(&basic, k).expect("numbers in their ranges"));
-            assert_eq!((larger.answer, larger.pivots), (given.answer, given.pivots));
+            assert_eq!(made(larger), made(given));
             assert!(k < 16_381 || larger.carried.is_some());
         }
         // Coefficients and divisors have no room for more.

@@ -26,7 +26,7 @@ fn every_call_is_well_formed_and_of_its_kind() {
 
 #[test]
 fn the_stored_hard_sets_answer_as_their_headings_say() {
-    let answers = ["point 199", "dropped 200", "long 200", "long 200"];
+    let answers = ["point 199 6569", "dropped 200 6591", "long 200 6793", "long 200 6822"];
     let stored = hard::stored();
     assert_eq!(stored.len(), answers.len());
     for ((n, basic), answer) in stored.into_iter().zip(answers) {
@@ -42,7 +42,7 @@ fn changed_hard_sets_stay_near_200_pivots() {
     for _ in 0..100 {
         let (n, basic) = hard::near(rng);
         let answer = second::run_call(&format!("test {n} {} 1", hex(&model::encode(&[basic]))));
-        let pivots: u32 = answer.rsplit(' ').next().and_then(|p| p.parse().ok()).expect("a count of pivots");
+        let pivots: u32 = answer.split(' ').nth(1).and_then(|p| p.parse().ok()).expect("a count of pivots");
         near += u32::from(pivots >= 150);
     }
     assert!(near >= 30, "{near} of 100");
@@ -80,5 +80,5 @@ fn a_multiplied_rule_stays_within_its_ranges() {
 
 #[test]
 fn wanted_names_are_all_there() {
-    assert_eq!(histogram::wanted().len(), 15 + 4 + 3 + events::EVENTS.len() + 4 * 4);
+    assert_eq!(histogram::wanted().len(), 15 + 4 + 3 + events::EVENTS.len() + 4 * 4 + 8);
 }

@@ -295,7 +295,7 @@ fn test(n: usize, basic: model::Basic, may_be_wide: bool) -> Check {
             (Some("dropped"), Some(found)) => verdict(!found, || "has a point with fractions".to_string()),
             (Some("point" | "dropped"), None) => Verdict::Untold,
             (Some("wide"), _) if may_be_wide => Verdict::Untold,
-            _ if answer == "long 200" => Verdict::Untold,
+            _ if answer.starts_with("long 200 ") => Verdict::Untold,
             _ => Verdict::Bad("neither point nor dropped".to_string()),
         }
     };

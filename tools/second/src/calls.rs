@@ -112,7 +112,7 @@ fn call_test(n: u8, fields: &mut Fields) -> Option<String> {
         None => "none".to_string(),
         Some(basic) => {
             let outcome = test(set.n, basic);
-            format!("{} {}", outcome.answer.word(), outcome.pivots)
+            format!("{} {} {}", outcome.answer.word(), outcome.pivots, outcome.built)
         }
     })
 }

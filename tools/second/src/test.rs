@@ -1,6 +1,7 @@
 //! "The test for fractions": a tableau of whole-number rows, each with its
 //! own denominator, exchanged by the numbered steps; request 9, "Wider numbers
-//! without starting over", carries it on where step 4 would have it wide.
+//! without starting over", carries it on where step 4 would have it wide; request
+//! 4, "Fewer copies in the exchange", counts the rows that its exchanges build.
 
 use crate::exact::{add, gcd, mul};
 use crate::model::{BasicSet, Kind};
@@ -30,12 +31,14 @@ impl Answer {
     }
 }
 
-/// A test's answer and the number of pivots made on the way to it.
+/// A test's answer, and what was done on the way to it.
 #[derive(Clone, Copy, Debug, PartialEq, Eq, Hash)]
 pub struct Outcome {
     pub answer: Answer,
     /// At 64 and at 128 bits together.
     pub pivots: u32,
+    /// The rows built by all these exchanges.
+    pub built: u32,
     /// The pivots made before the tableau was carried, if it was.
     pub carried: Option<u32>,
 }
@@ -66,7 +69,7 @@ pub fn test_bounded(
     [first, wider]: [i128; 2],
 ) -> Outcome {
     let mut tableau = Tableau::new(n, basic);
-    let (mut pivots, mut carried) = (0, None);
+    let (mut pivots, mut built, mut carried) = (0, 0, None);
     let answer = loop {
         // The numbered steps, in the document's order.
         let Some(row) = tableau.lowest_violated_row() else { break Answer::Point };
@@ -81,10 +84,10 @@ pub fn test_bounded(
         if carried.is_some() && tableau.is_wide(row, column, wider) {
             break Answer::Wide;
         }
-        tableau.exchange(row, column);
+        built += tableau.exchange(row, column);
         pivots += 1;
     };
-    Outcome { answer, pivots, carried }
+    Outcome { answer, pivots, built, carried }
 }
 
 /// What a variable may be: anything, at least 0 (inequality or bound), 0.
@@ -226,16 +229,21 @@ impl Tableau {
     }
 
     /// Step 5: the column's variable becomes the row's, and the other way.
-    fn exchange(&mut self, row: usize, column: usize) {
+    /// Gives the number of rows built: this one, and the others with a nonzero
+    /// entry in the column.
+    fn exchange(&mut self, row: usize, column: usize) -> u32 {
         let leaving = self.rows[row].variable;
         let solved = solve_for(&self.rows[row], column, self.columns[column]);
+        let mut built = 1;
         self.columns[column] = leaving;
         for other in &mut self.rows {
             if other.variable != leaving && other.entries[column] != 0 {
                 substitute(other, &solved, column);
+                built += 1;
             }
         }
         self.rows[row] = solved;
+        built
     }
 }
 

@@ -18,26 +18,26 @@ fn answer_64(n: usize, lines: &str) -> String {
 
 #[test]
 fn a_free_column_helps_both_ways() {
-    assert_eq!(answer(1, "basic; ge -5 1"), "point 1");
-    assert_eq!(answer(1, "basic; ge -5 -1"), "point 1");
-    assert_eq!(answer(1, "basic; eq 5 1"), "point 1");
-    assert_eq!(answer(1, "basic; ge -5 0"), "dropped 0");
-    assert_eq!(answer(1, "basic"), "point 0");
+    assert_eq!(answer(1, "basic; ge -5 1"), "point 1 1");
+    assert_eq!(answer(1, "basic; ge -5 -1"), "point 1 1");
+    assert_eq!(answer(1, "basic; eq 5 1"), "point 1 1");
+    assert_eq!(answer(1, "basic; ge -5 0"), "dropped 0 0");
+    assert_eq!(answer(1, "basic"), "point 0 0");
 }
 
 #[test]
 fn an_equality_column_never_helps() {
     // x = 1 + e1; the second row is −1 + e1.
-    assert_eq!(answer(1, "basic; eq -1 1; eq -2 1"), "dropped 1");
-    assert_eq!(answer(1, "basic; eq -1 1; ge -2 1"), "dropped 1");
+    assert_eq!(answer(1, "basic; eq -1 1; eq -2 1"), "dropped 1 2");
+    assert_eq!(answer(1, "basic; eq -1 1; ge -2 1"), "dropped 1 2");
 }
 
 #[test]
 fn an_inequality_column_only_grows() {
     // x = 5 + s1; the equality is 2 + s1, −2 + s1, 2 − s1.
-    assert_eq!(answer(1, "basic; ge -5 1; eq -3 1"), "dropped 1");
-    assert_eq!(answer(1, "basic; ge -5 1; eq -7 1"), "point 2");
-    assert_eq!(answer(1, "basic; ge -5 1; eq 7 -1"), "point 2");
+    assert_eq!(answer(1, "basic; ge -5 1; eq -3 1"), "dropped 1 2");
+    assert_eq!(answer(1, "basic; ge -5 1; eq -7 1"), "point 2 4");
+    assert_eq!(answer(1, "basic; ge -5 1; eq 7 -1"), "point 2 4");
 }
 
 #[test]

@@ -42,6 +42,19 @@ fn without_the_limit_as_the_headings_say() {
     }
 }
 
+/// Request 4: each exchange builds its own row and at most all of them.
+#[test]
+fn rows_built_exchange_by_exchange() {
+    for hard in hard_sets() {
+        let built = |limit| test_limited(hard.n, &hard.basic, Some(limit)).built;
+        let rows = 2 * hard.basic.divisions.len() + hard.basic.rules.len();
+        let each: Vec<u32> = (0..hard.pivots).map(|made| built(made + 1) - built(made)).collect();
+        assert!(each.iter().all(|&one| (1..=rows as u32).contains(&one)));
+        assert!(each.iter().any(|&one| one < rows as u32));
+        assert_eq!((built(0), built(hard.pivots)), (0, each.iter().sum()));
+    }
+}
+
 /// Step 3 stands after steps 1 and 2: the 200 that end in dropped are not long.
 #[test]
 fn with_the_limit() {

@@ -103,7 +103,7 @@ fn reading_07_the_join_comes_first_but_only_for_pieces_there_are() {
 fn reading_08_over_48_rules_whatever_the_test_says() {
     let never = set(1, &format!("basic; ge -1 0; {}", times(47, "ge 0 1")));
     let one = set(1, "basic; ge 0 1");
-    assert_eq!(tested(1, &never), "dropped 0");
+    assert_eq!(tested(1, &never), "dropped 0 0");
     assert_eq!(short("intersection", 1, 5000, &never, &one), "refused 10");
     assert_eq!(short("difference", 1, 5000, &never, &one), "refused 10");
     assert_eq!(short("intersection", 1, 5000, &never, &[0x11]), "gives 0");
@@ -140,12 +140,12 @@ fn reading_11_only_touched_rows_are_judged() {
     // which the pivot of v ≥ 1 does not touch.
     let high = "basic; ge -2147483648 1 0 0 0 0; ge 0 -16384 1 0 0 0; ge 0 0 -16384 1 0 0";
     let apart = set(5, &format!("{high}; ge -1 0 0 0 1 0; ge 0 0 0 -16 0 1"));
-    assert_eq!(tested(5, &apart), "wide 4");
+    assert_eq!(tested(5, &apart), "wide 4 7");
     let touched = set(5, &format!("{high}; ge -1 0 0 0 1 0; ge 0 0 0 -16 1 1"));
-    assert_eq!(tested(5, &touched), "wide 3");
+    assert_eq!(tested(5, &touched), "wide 3 6");
     // Nor does it matter where no pivot is needed, or none helps.
-    assert_eq!(tested(1, &set(1, "basic; ge 2147483647 1")), "point 0");
-    assert_eq!(tested(1, &set(1, "basic; ge -2147483648 0")), "dropped 0");
+    assert_eq!(tested(1, &set(1, "basic; ge 2147483647 1")), "point 0 0");
+    assert_eq!(tested(1, &set(1, "basic; ge -2147483648 0")), "dropped 0 0");
 }
 
 #[test]

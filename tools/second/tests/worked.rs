@@ -76,9 +76,9 @@ fn dropped_at_the_bound_and_beyond() {
     let beyond = set(1, "basic; ge -2147483648 1");
     table("intersection", 1, &beyond, &below, &[]);
     let dropped = set(1, "basic; ge -2147483647 1; ge 0 -1");
-    assert_eq!(tested(1, &dropped), "dropped 1");
+    assert_eq!(tested(1, &dropped), "dropped 1 2");
     let carried = set(1, "basic; ge -2147483648 1; ge 0 -1");
-    assert_eq!(tested(1, &carried), "dropped 1");
+    assert_eq!(tested(1, &carried), "dropped 1 2");
 }
 
 #[test]
@@ -86,7 +86,7 @@ fn a_half_is_dropped_and_not_found() {
     let half = set(1, "basic; eq -1 2");
     table("intersection", 1, &half, &[0x11], &[]);
     // As stored it has a point with fractions.
-    assert_eq!(tested(1, &half), "point 1");
+    assert_eq!(tested(1, &half), "point 1 1");
     assert_eq!(search(1, &half, 1_000_000, &[0], &[1]), "none 2");
     assert_eq!(search(1, &half, 2, &[0], &[1]), "none 2");
     assert_eq!(search(1, &half, 1, &[0], &[1]), "spent 1");
