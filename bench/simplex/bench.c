@@ -2,26 +2,14 @@
  * the same steps, on the same basic sets. Both run in turns, and of each set's rounds the least time counts. A test is
  * the first table and the run, without decoding. Answers and pivots must agree. */
 #define _POSIX_C_SOURCE 200809L
-#include <stdio.h>
-#include <stdlib.h>
-#include <time.h>
+#include "rounds.h"
 #include "sets.h"
 
 size_t probe_tests(size_t axes, const uint8_t *set, size_t length, size_t times);
 uint64_t probe_test(size_t axes, const uint8_t *set, size_t length, size_t k);
 
-/* rounds, tests of a round, and those of a test of many pivots, which the clock can tell alone */
-enum { ROUNDS = 25, TIMES = 20, MANY = 30, FEW = 2 };
-
 /* of all the sets of a workload; narrow: the pivots at 64 bits, before: those of the tests that are then carried */
 typedef struct { double ours, plain, pivots, narrow, carried, before, rows, columns; } sums;
-
-static double now(void)
-{
-    struct timespec t;
-    clock_gettime(CLOCK_MONOTONIC, &t);
-    return (double)t.tv_sec * 1e9 + (double)t.tv_nsec;
-}
 
 static ended plain_tests(const basic_set *b, size_t times)
 {
@@ -33,15 +21,6 @@ static ended plain_tests(const basic_set *b, size_t times)
     for (; times > 1; times--) pivots += plain_test(b, rows, place, kinds).pivots;
     e.pivots = pivots;
     return e;
-}
-
-static double least(double x, double y) { return x < y ? x : y; }
-
-static void agree(int same, const char *what)
-{
-    if (same) return;
-    printf("%s differ\n", what);
-    exit(1);
 }
 
 /* Adds the least times of one set. A call without tests is what ours costs beside them. */

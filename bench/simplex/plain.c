@@ -1,6 +1,16 @@
 #include "plain.h"
 #include <string.h>
 
+/* Rows with an entry in the column. With EVERY_ROW the others too, but for those beyond the bound: step 4 has not seen
+ * them, and their products may not fit. */
+#ifdef EVERY_ROW
+#define PLAIN_TEST plain_every_row
+#define IS_BUILT(r, w, j) ((r)[(j) + 2] != 0 || AT(small)(r, w))
+#else
+#define PLAIN_TEST plain_test
+#define IS_BUILT(r, w, j) ((r)[(j) + 2] != 0)
+#endif
+
 enum { PIVOTS = 200 };
 
 typedef __int128 wide;
@@ -87,7 +97,7 @@ static answer carry(const basic_set *b, row *rows, size_t *place, const uint8_t 
     return run_128(b, carried, place, kinds, pivots);
 }
 
-ended plain_test(const basic_set *b, row *rows, size_t *place, uint8_t *kinds)
+ended PLAIN_TEST(const basic_set *b, row *rows, size_t *place, uint8_t *kinds)
 {
     ended e = {POINT, 0, 0, 0};
     fill(b, rows, place, kinds);

@@ -19,6 +19,9 @@ typedef enum { POINT, DROPPED, LONG, WIDE } answer;
 typedef struct { answer answer; size_t pivots, narrow; int carried; } ended;
 
 /* The tables have 64 rows, 80 places and 80 kinds. */
-ended plain_test(const basic_set *b, row *rows, size_t *place, uint8_t *kinds);
+typedef ended plain(const basic_set *b, row *rows, size_t *place, uint8_t *kinds);
+plain plain_test;
+/* The same answer by the same pivots, but an exchange builds every row: plain.c with -DEVERY_ROW. */
+plain plain_every_row;
 
 #endif

@@ -2,7 +2,8 @@
  * AT(name)       the name of a function at that size
  * NUMBER         its signed numbers, NATURAL their sizes
  * PRODUCT(a, b)  of two numbers that step 4 has let pass
- * BOUND          step 4's */
+ * BOUND          step 4's
+ * and once for both IS_BUILT(r, w, j), whether the exchange of column j builds row r */
 
 /* ---- steps 1 to 4; w is the number of numbers of a row that can be other than 0 */
 
@@ -80,7 +81,7 @@ static void AT(exchange)(NUMBER (*t)[NUMBERS], size_t m, size_t w, size_t i, siz
 {
     AT(solve)(t[i], w, j);
     for (size_t k = 0; k < m; k++)
-        if (k != i && t[k][j + 2] != 0) AT(replace)(t[k], w, j, t[i]);
+        if (k != i && IS_BUILT(t[k], w, j)) AT(replace)(t[k], w, j, t[i]);
 }
 
 /* the answer; goes on from the pivots made already */
