@@ -9,3 +9,5 @@ pub mod Valid
 pub mod Commands
 pub mod RoundTrips
 pub mod Located
+mod Ranges
+mod Leading

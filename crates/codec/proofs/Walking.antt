@@ -30,7 +30,7 @@ pub built-none : built [] ≡ record { divisions = []; constraints = []; rest = 
 unfolding built commandsOf
 built-none = refl
 
-built-more : (b : ℕ) (s : List ℕ) → built (b ∷ s) ≡ added (readCommand b s) (built (drop (widthOf b - 1) s))
+pub built-more : (b : ℕ) (s : List ℕ) → built (b ∷ s) ≡ added (readCommand b s) (built (drop (widthOf b - 1) s))
 unfolding built commandsOf
 built-more b s =
     let l : List ℕ = drop (widthOf b - 1) s in

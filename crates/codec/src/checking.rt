@@ -9,6 +9,7 @@ ghost use Rattle.model.specs.Sets.{isZero};
 ghost use Rattle.codec.specs.Bytes as B;
 ghost use Rattle.codec.specs.Bytes.{signed, signedList, coefficient, within, constantFits, readDivision, readConstraint, readCommand, constraint, division, opens, refusal, headRefusal, decode, number, kindOf};
 ghost use Rattle.codec.specs.Checking.{countsOf, bitsAllowed};
+use crate::accepting::accepts;
 use crate::readers::tail;
 use crate::readers::width;
 use integers::u16_at;
@@ -246,7 +247,7 @@ fn scan(n: usize, s: &[u8], bits: &[u16]) -> u32
 }
 
 // 0, or the number that refuses the bytes of a set.
-pub fn check(n: usize, s: &[u8]) -> u32
+pub fn scanned(n: usize, s: &[u8]) -> u32
     ensures { λ r. ⌜ r ≡ number (decode n (now (s .entry))) ⌝ }
 {
     if n == 0 {
@@ -257,4 +258,15 @@ pub fn check(n: usize, s: &[u8]) -> u32
     }
     let bits = allowed();
     scan(n, s, &bits)
+}
+
+// The same; most sets are accepted quickly.
+pub fn check(n: usize, s: &[u8]) -> u32
+    ensures { λ r. ⌜ r ≡ number (decode n (now (s .entry))) ⌝ }
+{
+    let q = accepts(n, s);
+    if q.accepted {
+        return 0;
+    }
+    scanned(n, s)
 }

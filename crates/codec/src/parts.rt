@@ -2,9 +2,12 @@
 ghost use mathlib.Core.Path.{_≡_};
 ghost use Prim.Native.Nat.{_+_, _-_, _≤_};
 ghost use lib.ListN.{length, take, drop};
+ghost use Rattle.codec.specs.Bytes.{decode, number};
 ghost use Rattle.codec.specs.Places.{setFrom, endOf, Accepted, Opened};
 ghost use Rattle.codec.specs.Parts.{partOf, held, Started};
+use crate::accepting::accepts;
 use crate::checking::check;
+use crate::checking::scanned;
 use crate::readers::code;
 use crate::readers::width;
 
@@ -32,6 +35,37 @@ pub fn count(s: &[u8]) -> usize
         k += 1;
     }
     k
+}
+
+// What the check of the bytes of a set tells: the refusal, and of bytes that are not refused the number of basic sets.
+pub struct Verdict {
+    pub refusal: u32,
+    pub basics: usize,
+}
+
+// The refusal as `check` gives it; where there is none, the basic sets are counted on the way.
+pub fn check_counting(n: usize, s: &[u8]) -> Verdict
+    ensures refusal { λ r. ⌜ r .refusal ≡ number (decode n (now (s .entry))) ⌝ }
+    ensures basics { λ r. ⌜ (r .refusal ≡ 0 → r .basics ≡ length (setFrom (now (s .entry)) 0)) ⌝ }
+{
+    let q = accepts(n, s);
+    if q.accepted {
+        return Verdict {
+            refusal: 0,
+            basics: q.basics,
+        };
+    }
+    let k = scanned(n, s);
+    if k != 0 {
+        return Verdict {
+            refusal: k,
+            basics: 0,
+        };
+    }
+    Verdict {
+        refusal: 0,
+        basics: count(s),
+    }
 }
 
 // The place of basic set number i of checked bytes, the first being 0; the end of the bytes where there are fewer.

@@ -105,15 +105,15 @@ module _ (n : ℕ) (a : List ℕ) where
 
 -- ---- union
 
-module _ (a b : List ℕ) (s : Sets a b) (x y : ℕ) (p : x ≡ length (setFrom a 0)) (q : y ≡ length (setFrom b 0)) where
-  count-is : length (union (setFrom a 0) (setFrom b 0)) ≡ x + y
-  count-is = length-append (setFrom a 0) (setFrom b 0) ∙ ap₂ _+_ (sym p) (sym q)
+module _ (a b : List ℕ) (s : Sets a b) (n : ℕ) (p : n ≡ length (setFrom a 0) + length (setFrom b 0)) where
+  count-is : length (union (setFrom a 0) (setFrom b 0)) ≡ n
+  count-is = length-append (setFrom a 0) (setFrom b 0) ∙ sym p
 
-  pub union-over : (o o′ : List ℕ) (at count : ℕ) → 32 < x + y → Made (unionFits keeps (setFrom a 0) (setFrom b 0)) (union (setFrom a 0) (setFrom b 0)) o (record { at = at; count = count; fits = false }) o′
+  pub union-over : (o o′ : List ℕ) (at count : ℕ) → 32 < n → Made (unionFits keeps (setFrom a 0) (setFrom b 0)) (union (setFrom a 0) (setFrom b 0)) o (record { at = at; count = count; fits = false }) o′
   union-over o o′ at count h =
       record { fits = sym (lt-leb (length (union (setFrom a 0) (setFrom b 0))) 32 (subst (λ (k : ℕ). 32 < k) (sym count-is) h)); bytes = λ t. clash t refl }
 
-  pub union-made : ((i : ℕ) → getD a i 0 < 256) → ((i : ℕ) → getD b i 0 < 256) → (o o₁ o₂ : List ℕ) (m e count : ℕ) → x + y ≤ 32 → Emitted a o 0 m o₁ → Emitted b o₁ m e o₂
+  pub union-made : ((i : ℕ) → getD a i 0 < 256) → ((i : ℕ) → getD b i 0 < 256) → (o o₁ o₂ : List ℕ) (m e count : ℕ) → n ≤ 32 → Emitted a o 0 m o₁ → Emitted b o₁ m e o₂
       → Made (unionFits keeps (setFrom a 0) (setFrom b 0)) (union (setFrom a 0) (setFrom b 0)) o (record { at = e; count = count; fits = true }) o₂
   union-made ba bb o o₁ o₂ m e count h u v =
       let ea : encode (setFrom a 0) ≡ a = encode-decode (s .n) a (setFrom a 0) (bytes-of a ba) (decode-is (s .n) a (s .first)) in

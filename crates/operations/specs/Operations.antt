@@ -2,10 +2,13 @@
 use mathlib.Core.Path.{_≡_}
 use mathlib.Core.Bool.{Bool}
 use mathlib.Core.List.{List, [], _∷_}
-use Prim.Native.Nat.{ℕ}
+use Prim.Native.Nat.{ℕ, _+_}
+use lib.ListN.{length}
 use Rattle.model.specs.Lists.{all, concatMap, filter}
 use Rattle.model.specs.Sets.{BasicSet, Set}
 use Rattle.codec.specs.Bytes.{Answer, refused, decode, number}
+use Rattle.codec.specs.Places.{setFrom}
+use Rattle.codec.specs.declared.parts.Verdict.{Verdict}
 use Rattle.algebra.specs.Tighten.{solvable}
 use Rattle.algebra.specs.Cut.{keeps, both, bothFits}
 use Rattle.algebra.specs.Operations.{onTwo}
@@ -14,6 +17,11 @@ use Rattle.algebra.specs.Operations.{onTwo}
 pub record Checks (n : ℕ) (a b : List ℕ) (k : ℕ) : Type 0 where
   pub good : k ≡ 0 → (number (decode n a) ≡ 0) × (number (decode n b) ≡ 0)
   pub bad : (k ≡ 0 → ⊥) → (f : Set → Set → Answer (List ℕ)) → onTwo f (decode n a) (decode n b) ≡ refused k
+
+-- the same, with the basic sets of both counted where neither is refused
+pub record ChecksCounting (n : ℕ) (a b : List ℕ) (v : Verdict) : Type 0 where
+  pub checks : Checks n a b (v .refusal)
+  pub counts : v .refusal ≡ 0 → v .basics ≡ length (setFrom a 0) + length (setFrom b 0)
 
 -- ---- the intersection
 
