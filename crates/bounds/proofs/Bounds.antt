@@ -193,6 +193,7 @@ pub record Opening (s : List ℕ) (start : ℕ) (ok : Constraint → Bool) (at i
   pub few : length (formsFrom s start) ≤ 56
   pub forms : drop i (formsFrom s start) ≡ formsFrom s at
   pub is : all ok (built (drop at s) .constraints) ≡ all ok (built (drop start s) .constraints)
+  pub part : (p : Constraint → Bool) → all p (built (drop at s) .constraints) ≡ false → all p (built (drop start s) .constraints) ≡ false
 
 forms-past : (es : List Division) (cs : List Constraint) → drop (length es) (formsOf es cs) ≡ formsOf [] cs
 forms-past [] cs = refl
@@ -207,6 +208,7 @@ opening-start s start d ok o p =
           ap (λ (m : ℕ). drop m (formsFrom s start)) (p .count) ∙ forms-past (built (drop start s) .divisions) (built (drop start s) .constraints)
           ∙ ap₂ formsOf (sym (p .there .none)) (sym (p .same));
       is = ap (all ok) (p .same);
+      part = λ q e. ap (all q) (sym (p .same)) ∙ e;
     }
 
 module _ (s : List ℕ) (start : ℕ) (ok : Constraint → Bool) (at i : ℕ) (g : Opening s start ok at i) where
@@ -236,6 +238,10 @@ module _ (s : List ℕ) (start : ℕ) (ok : Constraint → Bool) (at i : ℕ) (g
     pub opening-stop : ok c ≡ false → false ≡ all ok (built (drop start s) .constraints)
     opening-stop q = ap (λ (b : Bool). b && all ok (built (drop (at + 37) s) .constraints)) (sym q) ∙ sym step
 
+    -- any test that it fails
+    pub opening-falls : (p : Constraint → Bool) → p c ≡ false → all p (built (drop start s) .constraints) ≡ false
+    opening-falls p q = g .part p (ap (λ (u : Built). all p (u .constraints)) (opening-at e .builds) ∙ ap (λ (b : Bool). b && all p (built (drop (at + 37) s) .constraints)) q)
+
     pub opening-next : ok c ≡ true → Opening s start ok (at + 37) (i + 1)
     opening-next q =
         let h = opening-at e in
@@ -244,6 +250,7 @@ module _ (s : List ℕ) (start : ℕ) (ok : Constraint → Bool) (at i : ℕ) (g
           few = g .few;
           forms = head .more;
           is = ap (λ (b : Bool). b && all ok (built (drop (at + 37) s) .constraints)) (sym q) ∙ sym step;
+          part = λ p f. g .part p (ap (λ (u : Built). all p (u .constraints)) (h .builds) ∙ ap (λ (b : Bool). p c && b) f ∙ and-false (p c));
         }
 
   pub opening-end : (eqb (getD s at 0) 19 || eqb (getD s at 0) 20) ≡ false → true ≡ all ok (built (drop start s) .constraints)

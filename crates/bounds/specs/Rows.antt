@@ -1,15 +1,14 @@
 -- Rows of ends. A row is of one basic set and one box: it has the least and the greatest value of the axes' part of each division and constraint, the box
 -- itself, and the place of the basic set.
 use mathlib.Core.Path.{_≡_}
-use mathlib.Core.Bool.{Bool}
 use mathlib.Core.List.{List, [], _++_, map}
 use Prim.Native.Nat.{ℕ, _+_, _≤_, _<_}
 use lib.IntN.{ℤ, pos, natAbs, _+ℤ_}
 use lib.ListN.{length, take, drop, getD}
 use Rattle.integers.specs.Z.{Within}
 use Rattle.model.specs.Sets.{Division, Constraint}
+use Rattle.codec.specs.Bytes.{readConstraint, kindOf}
 use Rattle.codec.specs.Places.{basicAt, Opened}
-use Rattle.bounds.specs.Intervals.{canHold, boxOf}
 use Rattle.bounds.specs.Ends.{best, gain}
 
 abbrev pub divisionAxes : Division → List ℤ
@@ -78,8 +77,12 @@ pub record Settled (s : List ℕ) (k : ℕ) (low high r : List ℤ) : Type 0 whe
   pub lows : (i : ℕ) → i < length low → (i ≡ k → ⊥) → getD r (56 + i) (pos 0) ≡ getD low i (pos 0)
   pub highs : (i : ℕ) → i < length low → (i ≡ k → ⊥) → getD r (120 + i) (pos 0) ≡ getD high i (pos 0)
 
--- x tells whether the basic set of a row can hold over the box from low to high; the row is of the same basic set after it
-pub record Told (s : List ℕ) (low high r₀ r : List ℤ) (x : Bool) : Type 0 where
-  pub is : x ≡ canHold (boxOf low high) (basicAt s (startOf r₀))
-  pub row : Row s (length low) r
-  pub place : startOf r ≡ startOf r₀
+-- the constraint at a place
+abbrev pub constraintAt : List ℕ → ℕ → Constraint
+constraintAt s at = readConstraint (kindOf (getD s at 0)) (drop (at + 1) s)
+
+-- number i of the row is that of the constraint at a place
+pub record Numbered (s : List ℕ) (r : List ℤ) (at i : ℕ) : Type 0 where
+  pub room : at + 37 ≤ length s
+  pub few : i < 56
+  pub form : getD (rowForms s r) i [] ≡ constraintAt s at .axes

@@ -31,7 +31,7 @@ fn term(a: i64, u: i64, v: i64) -> i64
 }
 
 // A number, and the greatest sum of the coefficients from p on times the sides from v to u.
-fn extreme(t: &[u8], p: usize, u: &[i64], v: &[i64], from: i64) -> i64
+pub fn extreme(t: &[u8], p: usize, u: &[i64], v: &[i64], from: i64) -> i64
     requires { ⌜ (p + 16 ≤ length (now t)) × Ends (now u) (now v) 2199023255552 × Within 2199023255552 from ⌝ }
     ensures is { λ r. ⌜ r ≡ from +ℤ best (signedList 8 (drop p (now (t .entry)))) (now (u .entry)) (now (v .entry)) ⌝ }
     ensures size { λ r. ⌜ ((F B : ℕ) → Within F from → AllWithin B (now (u .entry)) → AllWithin B (now (v .entry)) → Within (F + 8 * (32768 * B)) r) ⌝ }
@@ -57,7 +57,7 @@ pub fn moved(t: &[u8], p: usize, k: usize, from: i64, to: i64, z: i64) -> i64
 }
 
 // The same, with the constant that stands before the coefficients.
-fn end_at(t: &[u8], p: usize, k: usize, from: i64, to: i64, z: i64) -> i64
+pub fn end_at(t: &[u8], p: usize, k: usize, from: i64, to: i64, z: i64) -> i64
     requires { ⌜ (4 ≤ p) × (p + 16 ≤ length (now t)) × Step k from to × Within 274877906944 z ⌝ }
     ensures is { λ r. ⌜ r ≡ signed 4 (valueOf (take 4 (drop (p - 4) (now (t .entry))))) +ℤ (z +ℤ gain k from to (signedList 8 (drop p (now (t .entry))))) ⌝ }
     ensures size { λ r. ⌜ Within 549755813888 r ⌝ }

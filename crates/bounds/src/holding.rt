@@ -1,22 +1,16 @@
-// Whether the basic set of a row can hold over a box that the row has been settled to but for one axis.
+// What the divisions and constraints of a row can reach over a box that the row has been settled to but for one axis.
 ghost use mathlib.Core.Path.{_≡_};
-ghost use Prim.Native.Nat.{_+_, _*_, _<_};
 ghost use lib.ListN.{length};
-ghost use Rattle.model.specs.Lists.{all};
-ghost use Rattle.codec.specs.Places.{basicAt};
 ghost use Rattle.bounds.specs.Intervals.{boxOf};
-ghost use Rattle.bounds.specs.Ends.{AllWithin, Ends, Bounded, Past, canStand};
-ghost use Rattle.bounds.specs.Rows.{startOf, Row, Settled, Told};
+ghost use Rattle.bounds.specs.Ends.{AllWithin, Ends, Bounded, canStand};
+ghost use Rattle.bounds.specs.Rows.{startOf, Settled, Numbered, constraintAt};
 use crate::ends::can_meet;
-use crate::ends::no_values;
 use crate::ends::quotient_end;
-use crate::numbers::is_constraint;
 use crate::rows::gap;
 use crate::rows::place;
-use crate::rows::settle;
 
 // The ends of the values of the divisions, and how many they are.
-fn bounded(
+pub fn bounded(
     s: &[u8],
     k: usize,
     low: &[i64],
@@ -44,8 +38,8 @@ fn bounded(
     d
 }
 
-// Whether each constraint can hold by itself.
-fn open(
+// Whether the constraint at a place, number i of the row, can hold by itself.
+pub fn can_stand(
     s: &[u8],
     k: usize,
     low: &[i64],
@@ -53,34 +47,15 @@ fn open(
     r: &[i64; 129],
     ql: &[i64],
     qh: &[i64],
+    at: usize,
+    i: usize,
 ) -> bool
-    requires { ⌜ Settled (now s) k (now low) (now high) (now r) × Ends (now low) (now high) 1048576 × Ends (now ql) (now qh) 549755813888 × Past (now s) (startOf (now r)) (length (now ql)) ⌝ }
-    ensures { λ x. ⌜ x ≡ all (canStand (boxOf (now (low .entry)) (now (high .entry))) (boxOf (now (ql .entry)) (now (qh .entry)))) (basicAt (now (s .entry)) (startOf (now (r .entry))) .constraints) ⌝ }
+    requires { ⌜ Settled (now s) k (now low) (now high) (now r) × Ends (now low) (now high) 1048576 × Ends (now ql) (now qh) 549755813888 × Numbered (now s) (now r) at i ⌝ }
+    ensures { λ x. ⌜ x ≡ canStand (boxOf (now (low .entry)) (now (high .entry))) (boxOf (now (ql .entry)) (now (qh .entry))) (constraintAt (now (s .entry)) at) ⌝ }
 {
     let from = gap(low, k, r, 56);
     let to = gap(high, k, r, 120);
-    let mut i = ql.len();
-    let mut at = place(r) + 23 * i;
-    while is_constraint(codec::code(s, at)) {
-        let b = codec::code(s, at);
-        let t = codec::tail(s, at + 1);
-        if !can_meet(b, t, k, from, to, r[i], r[64 + i], ql, qh) {
-            return false;
-        }
-        at += 37;
-        i += 1;
-    }
-    true
-}
-
-// Whether the basic set of row r can hold over the box from low to high; the row follows the box but for axis k.
-pub fn can_hold(s: &[u8], k: usize, low: &[i64], high: &[i64], r: &mut [i64; 129]) -> bool
-    requires { ⌜ Row (now s) (length (now low)) (now r) × Ends (now low) (now high) 1048576 × (k < length (now low)) ⌝ }
-    ensures { λ x. ⌜ Told (now (s .entry)) (now (low .entry)) (now (high .entry)) (now (r .entry)) (now (r .exit)) x ⌝ }
-{
-    settle(s, k, low, high, r);
-    let mut ql = no_values();
-    let mut qh = no_values();
-    let d = bounded(s, k, low, high, r, &mut ql, &mut qh);
-    open(s, k, low, high, r, &ql[..d], &qh[..d])
+    let b = codec::code(s, at);
+    let t = codec::tail(s, at + 1);
+    can_meet(b, t, k, from, to, r[i], r[64 + i], ql, qh)
 }

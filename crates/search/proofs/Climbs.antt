@@ -334,6 +334,16 @@ module _ (s : List ℕ) (n k : ℕ) (low high : List ℤ) (g : Standing s n k lo
       pub climb-below : G ≡ limited limit (t + 1) (orElse (walk S (take (k + 1) (set low k (first +ℤ pos i))) (drop (k + 1) (sidesOf n (set low k (first +ℤ pos i)) (set high k (first +ℤ pos i))))) (from (i + 1)))
       climb-below = sym passed ∙ ap₂ (λ (w v : Walk). limited limit (t + 1) (orElse w v)) (below-is (first +ℤ pos i)) (sym more-is)
 
+  -- m values that fail
+  pub climb-run : (G : Tallied) (limit t i m : ℕ) → Climbing G limit t i → i + m ≤ suc span → t + m ≤ limit → ((j : ℕ) → j < m → okAt S (take k low) rest (first +ℤ pos (i + j)) ≡ false) → Climbing G limit (t + m) (i + m)
+  climb-run G limit t i zero c h l f = let a : t ≡ t + 0 = omega arith in let b : i ≡ i + 0 = omega arith in subst₂ (λ (x y : ℕ). Climbing G limit x y) a b c
+  climb-run G limit t i (suc m) c h l f =
+      let z : i + 0 ≡ i = omega arith in
+      let o : okAt S (take k low) rest (first +ℤ pos i) ≡ false = subst (λ (j : ℕ). okAt S (take k low) rest (first +ℤ pos j) ≡ false) z (f 0 (omega arith)) in
+      let d = climb-fail G limit t i c (omega arith) (omega arith) o in
+      let r = climb-run G limit (t + 1) (i + 1) m d (omega arith) (omega arith) (λ j q. let y : i + suc j ≡ i + 1 + j = omega arith in subst (λ (e : ℕ). okAt S (take k low) rest (first +ℤ pos e) ≡ false) y (f (suc j) (omega arith))) in
+      let a : t + 1 + m ≡ t + suc m = omega arith in let b : i + 1 + m ≡ i + suc m = omega arith in subst₂ (λ (x y : ℕ). Climbing G limit x y) a b r
+
 -- ---- what the level below said
 module _ (s : List ℕ) (p : Prefix) (i t : ℕ) (r : Stop) (g : Goes s p i t r) (x : Stop) (m : ℕ) (e : ended x m ≡ trailOf (levelOf s (r .at) (t + r .tested))) where
   abbrev under : Tallied
@@ -360,9 +370,6 @@ module _ (s : List ℕ) (p : Prefix) (from tested : ℕ) (rows : List (List ℤ)
   stop-ends r q f e =
       let w = c .within in
       record { kept = kept; most = omega arith; ends = λ _. ap (λ (j : ℕ). ended r (tested + j)) q ∙ e; goes = λ y. absurd (f y) }
-
-  pub stop-later : Climbing s (p .n) (p .k) (p .low) (p .high) g (onward s p from tested) (p .limit) (tested + t + 1) (i + 1) → Climbing s (p .n) (p .k) (p .low) (p .high) g (onward s p from tested) (p .limit) (tested + (t + 1)) (i + 1)
-  stop-later k = let z : tested + t + 1 ≡ tested + (t + 1) = omega arith in subst (λ (j : ℕ). Climbing s (p .n) (p .k) (p .low) (p .high) g (onward s p from tested) (p .limit) j (i + 1)) z k
 
   abbrev value : ℤ
   value = getD (p .low) (p .k) (pos 0) +ℤ pos i

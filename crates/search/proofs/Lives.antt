@@ -1,17 +1,17 @@
--- The loops of the search over the rows of the basic sets: whether one can hold, which can, and the rows themselves.
+-- The loops of the search over the rows of the basic sets: which can hold, for how many values none can, and the rows themselves.
 use mathlib.Core.Path.{_≡_, refl, sym, ap, ap₂, _∙_, subst, subst₂}
-use mathlib.Core.Bool.{Bool, true, false, _||_}
+use mathlib.Core.Bool.{Bool, true, false, _||_, or-assoc, or-false}
 use mathlib.Core.List.{List, [], _∷_, _++_, map, append-assoc, append-nil}
 use Prim.Native.Nat.{ℕ, zero, suc, _+_, _-_, _≤_, _<_}
 use native.Mathlib.Numerals.{add-one}
 use native.Mathlib.Omega.{arith}
 use lib.Dec.{ltb, eqb, le→leb}
 use lib.IntN.{ℤ, pos, _+ℤ_, _-ℤ_}
-use lib.Signed.{_≤ℤ_}
+use lib.Signed.{_≤ℤ_, ≤ℤ-refl}
 use lib.ListN.{length, take, drop, getD, set, replicate, length-set, length-take, length-map, drop-of-length-le, List·getD-eq-default}
-use lib.Seq.{drop-cons, getD-set-same, getD-set-other, getD-take, map-set-same, take-suc-set}
+use lib.Seq.{drop-cons, getD-set-same, getD-set-other, getD-take, map-set-same, take-suc-set, set-set}
 use borrow.Author.Tests.{eqb-true, eqb-false, ltb-true, ltb-false}
-use Rattle.integers.specs.Lin.{le, eq, lin, lia-le}
+use Rattle.integers.specs.Lin.{le, eq, abs, lin, lia-le, lia-eq}
 use Rattle.integers.specs.Order.{pos-nonneg}
 use Rattle.integers.specs.Size.{natAbs-nonneg}
 use Rattle.model.specs.Lists.{any}
@@ -23,11 +23,14 @@ use Rattle.codec.proofs.Valid.{decode-valid}
 use Rattle.codec.proofs.Boundaries.{boundary-start, boundary-end, boundary-opened, boundary-next, boundary-set, decode-is}
 use Rattle.bounds.specs.Ends.{AllWithin}
 use Rattle.bounds.specs.Rows.{startOf, Row}
-use Rattle.bounds.proofs.Reading.{by, set-within}
+use Rattle.bounds.proofs.Reading.{by, set-within, take-within}
+use Rattle.runs.specs.Upward.{widened}
+use Rattle.runs.proofs.Upward.{widened-take}
 use Rattle.search.specs.Search.{Interval, canHold, boxOf}
 use Rattle.search.specs.Sides.{sidesOf, Standing}
-use Rattle.search.specs.Live.{rowBasic, Rows, Rowed, Live, Laid}
-use Rattle.search.proofs.Climbs.{span, box-take, value-within}
+use Rattle.search.specs.Live.{rowBasic, Rows, Live, Laid, wideBox, Fails, Tested, Sided}
+use Rattle.search.specs.Levels.{okAt}
+use Rattle.search.proofs.Climbs.{lt-of, span, box-take, value-within, ok-is}
 use Rattle.search.proofs.Parts.{Parts, part-dead, parts-set, parts-take}
 
 -- ---- lists
@@ -61,77 +64,94 @@ module _ (s : List ℕ) (n : ℕ) (rows : List (List ℤ)) (g : Rows s n rows) w
 pub live-told : (s : List ℕ) (n : ℕ) (xs : List Interval) (rows : List (List ℤ)) (live : List Bool) → Rows s n rows → Live s xs live → (b : ℕ) → b < length rows → getD live b false ≡ false → canHold xs (rowBasic s (getD rows b [])) ≡ false
 live-told s n xs rows live g v b h e = sym (rows-can s n rows g xs b h) ∙ v .dead b e
 
--- ---- whether one can hold
-pub record Passing (s : List ℕ) (n : ℕ) (xs : List Interval) (r₀ rows : List (List ℤ)) (b : ℕ) : Type 0 where
-  pub right : Rows s n rows
-  pub same : length rows ≡ length r₀
-  pub inside : b ≤ length rows
-  pub is : any (λ (x : Bool). x) (drop b (map (canHold xs) (setFrom s 0))) ≡ any (canHold xs) (setFrom s 0)
+-- ---- which can hold over the sides, and where none can, for how many values
+any-none : {A : Type 0} (p : A → Bool) (l : List A) → ((i : ℕ) → getD (map p l) i false ≡ false) → any p l ≡ false
+any-none p [] h = refl
+any-none p (x ∷ l) h = ap (λ (b : Bool). b || any p l) (h 0) ∙ any-none p l (λ i. h (suc i))
 
-pub passing-start : (s : List ℕ) (n : ℕ) (xs : List Interval) (rows : List (List ℤ)) → Rows s n rows → Passing s n xs rows rows 0
-passing-start s n xs rows g = record { right = g; same = refl; inside = omega arith; is = sym (any-map (canHold xs) (setFrom s 0)) }
+neither : (a b : Bool) → (a || b) ≡ false → (a ≡ false) × (b ≡ false)
+neither true b e = let z : _≡_ {A = ℕ} 0 1 = cc in absurd (omega arith)
+neither false b e = (refl, e)
 
-module _ (s : List ℕ) (n : ℕ) (xs : List Interval) (r₀ rows : List (List ℤ)) (b : ℕ) (g : Passing s n xs r₀ rows b) where
-  long : length (map (canHold xs) (setFrom s 0)) ≡ length rows
-  long = length-map (setFrom s 0) (canHold xs) ∙ rows-length s n rows (g .right)
-
-  module _ (h : b < length rows) (r : List ℤ) (w : Row s n r) (e : startOf r ≡ startOf (getD rows b [])) (x : Bool) (q : x ≡ canHold xs (rowBasic s (getD rows b []))) where
-    step : any (canHold xs) (setFrom s 0) ≡ (x || any (λ (y : Bool). y) (drop (b + 1) (map (canHold xs) (setFrom s 0))))
-    step =
-        sym (g .is) ∙ ap (any (λ (y : Bool). y)) (drop-cons (map (canHold xs) (setFrom s 0)) b false (omega (arith, long)) ∙ ap (λ (j : ℕ). getD (map (canHold xs) (setFrom s 0)) b false ∷ drop j (map (canHold xs) (setFrom s 0))) (sym (add-one b)))
-        ∙ ap (λ (y : Bool). y || any (λ (y : Bool). y) (drop (b + 1) (map (canHold xs) (setFrom s 0)))) (rows-can s n rows (g .right) xs b h ∙ sym q)
-
-    pub passing-rows : Rows s n (set rows b r)
-    passing-rows = rows-set s n rows (g .right) b r h w e
-
-    pub passing-same : length (set rows b r) ≡ length r₀
-    passing-same = length-set rows b r ∙ g .same
-
-    pub passing-yes : x ≡ true → true ≡ any (canHold xs) (setFrom s 0)
-    passing-yes p = ap (λ (y : Bool). y || any (λ (y : Bool). y) (drop (b + 1) (map (canHold xs) (setFrom s 0)))) (sym p) ∙ sym step
-
-    pub passing-next : x ≡ false → Passing s n xs r₀ (set rows b r) (b + 1)
-    passing-next p =
-        record {
-          right = passing-rows;
-          same = passing-same;
-          inside = omega (arith, length-set rows b r);
-          is = ap (λ (y : Bool). y || any (λ (y : Bool). y) (drop (b + 1) (map (canHold xs) (setFrom s 0)))) (sym p) ∙ sym step;
-        }
-
-  pub passing-end : length rows ≤ b → false ≡ any (canHold xs) (setFrom s 0)
-  passing-end h = ap (any (λ (y : Bool). y)) (sym (drop-of-length-le (map (canHold xs) (setFrom s 0)) (let z : length (map (canHold xs) (setFrom s 0)) ≤ b = omega (arith, long) in z))) ∙ g .is
-
--- ---- which can
-pub record Narrowing (s : List ℕ) (n : ℕ) (xs : List Interval) (r₀ rows : List (List ℤ)) (kept : List Bool) (b : ℕ) : Type 0 where
+-- the first b basic sets are asked: `kept` tells which of them can hold, `found` whether one can
+pub record Opens (s : List ℕ) (n : ℕ) (xs : List Interval) (wide : ℕ → List Interval) (r₀ rows : List (List ℤ)) (kept : List Bool) (found : Bool) (most run b : ℕ) : Type 0 where
   pub right : Rows s n rows
   pub same : length rows ≡ length r₀
   pub inside : b ≤ length rows
   pub places : length kept ≡ 32
   pub is : (i : ℕ) → i < b → getD kept i false ≡ getD (map (canHold xs) (setFrom s 0)) i false
+  pub any-is : (found || any (λ (x : Bool). x) (drop b (map (canHold xs) (setFrom s 0)))) ≡ any (canHold xs) (setFrom s 0)
+  pub some : 0 < run
+  pub few : run ≤ most
+  pub far : found ≡ false → (i : ℕ) → i < b → Fails s wide run i
 
-pub narrowing-start : (s : List ℕ) (n : ℕ) (xs : List Interval) (rows : List (List ℤ)) (kept : List Bool) → Rows s n rows → length kept ≡ 32 → Narrowing s n xs rows rows kept 0
-narrowing-start s n xs rows kept g e = record { right = g; same = refl; inside = omega arith; places = e; is = λ i h. absurd (omega arith) }
+pub opens-start : (s : List ℕ) (n : ℕ) (xs : List Interval) (wide : ℕ → List Interval) (rows : List (List ℤ)) (live : List Bool) (most : ℕ) → Rows s n rows → length live ≡ 32 → 0 < most → Opens s n xs wide rows rows live false most most 0
+opens-start s n xs wide rows live most g e h =
+    record {
+      right = g;
+      same = refl;
+      inside = omega arith;
+      places = e;
+      is = λ i o. absurd (omega arith);
+      any-is = sym (any-map (canHold xs) (setFrom s 0));
+      some = h;
+      few = omega arith;
+      far = λ _ i o. absurd (omega arith);
+    }
 
-module _ (s : List ℕ) (n : ℕ) (xs : List Interval) (r₀ rows : List (List ℤ)) (kept : List Bool) (b : ℕ) (g : Narrowing s n xs r₀ rows kept b) where
-  pub narrowing-next : b < length rows → (r : List ℤ) → Row s n r → startOf r ≡ startOf (getD rows b []) → (x : Bool) → x ≡ canHold xs (rowBasic s (getD rows b [])) → Narrowing s n xs r₀ (set rows b r) (set kept b x) (b + 1)
-  narrowing-next h r w e x q =
-      record {
-        right = rows-set s n rows (g .right) b r h w e;
-        same = length-set rows b r ∙ g .same;
-        inside = omega (arith, length-set rows b r);
-        places = length-set kept b x ∙ g .places;
-        is = λ i l. by (λ (y : Bool). getD (set kept b x) i false ≡ getD (map (canHold xs) (setFrom s 0)) i false) (ltb i b)
-            (λ z. let a = ltb-true i b z in getD-set-other kept b i x false (λ o. omega arith) ∙ g .is i a)
-            (λ z. let a = ltb-false i b z in let o : i ≡ b = omega arith in let f = g .right .few in let p = g .places in
-            ap (λ (j : ℕ). getD (set kept b x) j false) o ∙ getD-set-same kept b x false (omega arith) ∙ q ∙ sym (rows-can s n rows (g .right) xs b h) ∙ ap (λ (j : ℕ). getD (map (canHold xs) (setFrom s 0)) j false) (sym o));
-      }
+module _ (s : List ℕ) (n : ℕ) (xs : List Interval) (wide : ℕ → List Interval) (r₀ rows : List (List ℤ)) (kept : List Bool) (found : Bool) (most run b : ℕ) (g : Opens s n xs wide r₀ rows kept found most run b) where
+  abbrev can : List Bool
+  can = map (canHold xs) (setFrom s 0)
 
-  pub narrowing-end : length rows ≤ b → Live s xs kept
-  narrowing-end h = record {
-    places = g .places;
-    dead = λ i e. by (λ (y : Bool). getD (map (canHold xs) (setFrom s 0)) i false ≡ false) (ltb i b) (λ z. sym (g .is i (ltb-true i b z)) ∙ e)
-        (λ z. let a = ltb-false i b z in List·getD-eq-default (map (canHold xs) (setFrom s 0)) false (let o : length (map (canHold xs) (setFrom s 0)) ≤ i = omega (arith, length-map (setFrom s 0) (canHold xs), rows-length s n rows (g .right)) in o));
+  long : length can ≡ length rows
+  long = length-map (setFrom s 0) (canHold xs) ∙ rows-length s n rows (g .right)
+
+  -- the next fails for m values, or can hold where m is 0
+  module _ (h : b < length rows) (r : List ℤ) (w : Row s n r) (e : startOf r ≡ startOf (getD rows b [])) (m : ℕ) (q : eqb m 0 ≡ canHold xs (rowBasic s (getD rows b []))) (l : m ≤ run) (f : 0 < m → canHold (wide m) (rowBasic s (getD rows b [])) ≡ false) where
+    next-is : getD can b false ≡ eqb m 0
+    next-is = rows-can s n rows (g .right) xs b h ∙ sym q
+
+    kept-is : (i : ℕ) → i < b + 1 → getD (set kept b (eqb m 0)) i false ≡ getD can i false
+    kept-is i o = by (λ (y : Bool). getD (set kept b (eqb m 0)) i false ≡ getD can i false) (ltb i b)
+        (λ z. let a = ltb-true i b z in getD-set-other kept b i (eqb m 0) false (λ o. omega arith) ∙ g .is i a)
+        (λ z. let a = ltb-false i b z in let o : i ≡ b = omega arith in let c = g .right .few in let p = g .places in
+        ap (λ (j : ℕ). getD (set kept b (eqb m 0)) j false) o ∙ getD-set-same kept b (eqb m 0) false (omega arith) ∙ sym next-is ∙ ap (λ (j : ℕ). getD can j false) (sym o))
+
+    any-next : ((found || eqb m 0) || any (λ (y : Bool). y) (drop (b + 1) can)) ≡ any (canHold xs) (setFrom s 0)
+    any-next =
+        or-assoc found (eqb m 0) (any (λ (y : Bool). y) (drop (b + 1) can))
+        ∙ ap (λ (y : Bool). found || (y || any (λ (y : Bool). y) (drop (b + 1) can))) (sym next-is)
+        ∙ ap (λ (y : List Bool). found || any (λ (y : Bool). y) y) (sym (drop-cons can b false (omega (arith, long)) ∙ ap (λ (j : ℕ). getD can b false ∷ drop j can) (sym (add-one b))))
+        ∙ g .any-is
+
+    pub opens-next : (x : Bool) → x ≡ (found || eqb m 0) → (z : ℕ) → 0 < z → (m ≡ 0 → z ≡ 1) → ((m ≡ 0 → ⊥) → z ≡ m) → Opens s n xs wide r₀ (set rows b r) (set kept b (eqb m 0)) x most z (b + 1)
+    opens-next x ex z pz one same =
+        record {
+          right = rows-set s n rows (g .right) b r h w e;
+          same = length-set rows b r ∙ g .same;
+          inside = omega (arith, length-set rows b r);
+          places = length-set kept b (eqb m 0) ∙ g .places;
+          is = kept-is;
+          any-is = ap (λ (y : Bool). y || any (λ (y : Bool). y) (drop (b + 1) can)) ex ∙ any-next;
+          some = pz;
+          few = by (λ (y : Bool). z ≤ most) (eqb m 0) (λ y. let a = one (eqb-true m 0 y) in let c = g .some in let d = g .few in omega arith) (λ y. let a = same (eqb-false m 0 y) in let d = g .few in omega arith);
+          far = λ y i o. let d = neither found (eqb m 0) (sym ex ∙ y) in let v = eqb-false m 0 (d .1) in let a = same v in
+              subst (λ (j : ℕ). Fails s wide j i) (sym a) (by (λ (y : Bool). Fails s wide m i) (ltb i b)
+              (λ y. let c = g .far (d .0) i (ltb-true i b y) in let k = c .enough in record { reach = c .reach; enough = omega arith; is = c .is })
+              (λ y. let c = ltb-false i b y in let k : b ≡ i = omega arith in subst (Fails s wide m) k (record { reach = m; enough = omega arith; is = rows-can s n rows (g .right) (wide m) b h ∙ f (lt-of 0 m (omega arith) (λ u. v (sym u))) })));
+        }
+
+  -- none is left
+  none-left : length rows ≤ b → (ys : List Interval) (i : ℕ) → b ≤ i → getD (map (canHold ys) (setFrom s 0)) i false ≡ false
+  none-left h ys i o = List·getD-eq-default (map (canHold ys) (setFrom s 0)) false (let z : length (map (canHold ys) (setFrom s 0)) ≤ i = omega (arith, length-map (setFrom s 0) (canHold ys), rows-length s n rows (g .right)) in z)
+
+  pub opens-end : length rows ≤ b → Tested s xs wide most (record { any = found; run = run; live = kept })
+  opens-end h = record {
+    any-holds = sym (or-false found) ∙ ap (λ (y : List Bool). found || any (λ (y : Bool). y) y) (sym (drop-of-length-le can (let z : length can ≤ b = omega (arith, long) in z))) ∙ g .any-is;
+    still = record { places = g .places; dead = λ i e. by (λ (y : Bool). getD can i false ≡ false) (ltb i b) (λ z. sym (g .is i (ltb-true i b z)) ∙ e) (λ z. none-left h xs i (ltb-false i b z)) };
+    some = g .some;
+    few = g .few;
+    far = λ y i. by (λ (y : Bool). Fails s wide run i) (ltb i b) (λ z. g .far y i (ltb-true i b z)) (λ z. record { reach = run; enough = omega arith; is = none-left h (wide run) i (ltb-false i b z) });
   }
 
 -- ---- live sets
@@ -159,34 +179,99 @@ module _ (s : List ℕ) (n k : ℕ) (low high : List ℤ) (g : Standing s n k lo
   from-low : getD low k (pos 0) ≤ℤ value
   from-low = lia-le (getD low k (pos 0) ∷ pos i ∷ []) (le (pos-nonneg i) ∷ []) (search lin depth 30) (omega arith)
 
-  to-high : value ≤ℤ getD high k (pos 0)
-  to-high =
+  in-side : i ≤ span s n k low high g
+  in-side = h
+
+  wide-set : (j : ℕ) → widened k j (set high k value) ≡ set high k (value +ℤ pos j)
+  wide-set j =
+      let a = g .axes in let c = g .left in let e = g .highs in
+      set-set high k value _ ∙ ap (λ (z : ℤ). set high k (z +ℤ pos j)) (getD-set-same high k value (pos 0) (omega arith))
+
+  -- numbers up to j further are on the side
+  further : (j : ℕ) → i + j ≤ span s n k low high g → (value +ℤ pos j) ≤ℤ getD high k (pos 0)
+  further j l =
       let d : pos (span s n k low high g) ≡ getD high k (pos 0) -ℤ getD low k (pos 0) = natAbs-nonneg (lia-le (getD low k (pos 0) ∷ getD high k (pos 0) ∷ []) (le (g .ordered k) ∷ []) (search lin depth 30) (omega arith)) in
-      let m : pos i ≤ℤ pos (span s n k low high g) = record { le = le→leb i (span s n k low high g) h } in
-      lia-le (getD low k (pos 0) ∷ getD high k (pos 0) ∷ pos i ∷ pos (span s n k low high g) ∷ []) (eq d ∷ le m ∷ []) (search lin depth 30) (omega arith)
+      let m : pos (i + j) ≤ℤ pos (span s n k low high g) = record { le = le→leb (i + j) (span s n k low high g) l } in
+      lia-le (getD low k (pos 0) ∷ getD high k (pos 0) ∷ pos i ∷ pos j ∷ pos (span s n k low high g) ∷ []) (eq d ∷ le m ∷ []) (search lin depth 30) (omega arith)
 
-  part : Parts (sidesOf n (set low k value) (set high k value)) (sidesOf n low high)
-  part =
-      subst₂ Parts (box-take n (set low k value) (set high k value)) (box-take n low high)
-      (parts-take n (boxOf (set low k value) (set high k value)) (boxOf low high) (parts-set k low high value (g .ordered) from-low to-high))
+  upward-of : (x : ℤ) (j : ℕ) → x ≤ℤ (x +ℤ pos j)
+  upward-of x j = lia-le (x ∷ pos j ∷ []) (le (pos-nonneg j) ∷ []) (search lin depth 30) (omega arith)
 
-  pub live-next : (live : List Bool) → Live s (sidesOf n low high) live → Live s (sidesOf n (set low k value) (set high k value)) live
-  live-next live v = live-part s (sidesOf n low high) (sidesOf n (set low k value) (set high k value)) live (g .accepted) part v
+  part : (j : ℕ) → i + j ≤ span s n k low high g → Parts (sidesOf n (set low k value) (set high k (value +ℤ pos j))) (sidesOf n low high)
+  part j l =
+      subst₂ Parts (box-take n (set low k value) (set high k (value +ℤ pos j))) (box-take n low high)
+      (parts-take n (boxOf (set low k value) (set high k (value +ℤ pos j))) (boxOf low high) (parts-set k low high value (value +ℤ pos j) (g .ordered) from-low (upward-of value j) (further j l)))
+
+  live-wide : (live : List Bool) → Live s (sidesOf n low high) live → (j : ℕ) → i + j ≤ span s n k low high g → Live s (sidesOf n (set low k value) (set high k (value +ℤ pos j))) live
+  live-wide live v j l = live-part s (sidesOf n low high) (sidesOf n (set low k value) (set high k (value +ℤ pos j))) live (g .accepted) (part j l) v
 
   -- the sides at the value, as the code has them
-  pub next-fits : (count : ℕ) (rows : List (List ℤ)) (live : List Bool) → Rowed s n count rows → Live s (sidesOf n low high) live → (l u : List ℤ) → l ≡ set low k value → u ≡ set high k value
-      → Rowed s n count rows × (n ≤ 8) × (k < n) × (length l ≡ 8) × (length u ≡ 8) × AllWithin 1048576 l × AllWithin 1048576 u × Live s (sidesOf n l u) live
-  next-fits count rows live r v l u el eu =
-      let w = value-within s n k low high g i h in let a = g .axes in let c = g .left in let d = g .lows in let e = g .highs in (
-        r,
-        a,
-        c,
-        ap length el ∙ length-set low k value ∙ d,
-        ap length eu ∙ length-set high k value ∙ e,
-        subst (AllWithin 1048576) (sym el) (set-within 1048576 low k value (g .low-size) w (omega arith)),
-        subst (AllWithin 1048576) (sym eu) (set-within 1048576 high k value (g .high-size) w (omega arith)),
-        subst₂ (λ (x y : List ℤ). Live s (sidesOf n x y) live) (sym el) (sym eu) (live-next live v),
-      )
+  module _ (l u : List ℤ) (el : l ≡ set low k value) (eu : u ≡ set high k value) where
+    pub axes-length : (x v : List ℤ) → length x ≡ 8 → v ≡ set x k value → n ≡ length (take n v)
+    axes-length x v e q = let a = g .axes in omega (arith, length-take n v, ap length q, length-set x k value)
+
+    -- m values from it on, over n sides
+    pub wide-at : (m : ℕ) → wideBox k (take n l) (take n u) m ≡ sidesOf n (set low k value) (set high k (value +ℤ pos (m - 1)))
+    wide-at m = ap₂ (λ (x y : List ℤ). boxOf (take n x) y) el (widened-take n k (m - 1) u (g .left) ∙ ap (take n) (ap (widened k (m - 1)) eu ∙ wide-set (m - 1)))
+
+    pub next-fits : (live : List Bool) (most : ℕ) → Live s (sidesOf n low high) live → 0 < most → i + most ≤ suc (span s n k low high g) → Sided s k (take n l) (take n u) live most
+    next-fits live most v o q =
+        let w = value-within s n k low high g i h in let a = g .axes in let c = g .left in let d = g .lows in let e = g .highs in let y = axes-length low l d el in let z = axes-length high u e eu in
+        record {
+          ends = record {
+            few = omega arith;
+            same = omega arith;
+            lows = take-within 1048576 l n (subst (AllWithin 1048576) (sym el) (set-within 1048576 low k value (g .low-size) w (omega arith)));
+            highs = take-within 1048576 u n (subst (AllWithin 1048576) (sym eu) (set-within 1048576 high k value (g .high-size) w (omega arith)));
+          };
+          axis = omega arith;
+          lives = subst (λ (xs : List Interval). Live s xs live) (sym at-value) (live-wide live v 0 (let z = in-side in omega arith));
+          reach = record { far = subst (λ (x : ℤ). (x +ℤ pos most) ≤ℤ pos 1048577) (sym (getD-take n u k (pos 0) c ∙ ap (λ (x : List ℤ). getD x k (pos 0)) eu ∙ getD-set-same high k value (pos 0) (omega arith))) top };
+          some = o;
+          ahead = λ m p. subst (λ (xs : List Interval). Live s xs live) (sym (wide-at m)) (live-wide live v (m - 1) (let z = in-side in omega arith));
+        }
+      where
+        at-value : sidesOf n l u ≡ sidesOf n (set low k value) (set high k (value +ℤ pos 0))
+        at-value = let z : value ≡ value +ℤ pos 0 = lia-eq (value ∷ []) [] (search lin depth 30) (omega arith) in ap₂ (sidesOf n) el (eu ∙ ap (set high k) z)
+
+        top : (value +ℤ pos most) ≤ℤ pos 1048577
+        top =
+            let w = g .high-size .at k in let j : ℕ = most - 1 in let f = further j (omega arith) in let y : pos most ≡ pos j +ℤ pos 1 = ap pos (let x : most ≡ j + 1 = omega arith in x) in
+            lia-le (value ∷ getD high k (pos 0) ∷ pos j ∷ pos most ∷ []) (eq y ∷ le f ∷ abs w ∷ []) (search lin depth 30) (omega arith)
+
+  -- ---- where no basic set can hold over the side of m values, each of them fails
+  module _ (m : ℕ) (l u : List ℤ) (el : l ≡ set low k value) (eu : u ≡ set high k value) (f : (b : ℕ) → Fails s (wideBox k (take n l) (take n u)) m b) (j : ℕ) (o : j < m) where
+    abbrev at-j : ℤ
+    at-j = getD low k (pos 0) +ℤ pos (i + j)
+
+    ordered-set : (x y : ℤ) → x ≤ℤ y → (b : ℕ) → getD (set low k x) b (pos 0) ≤ℤ getD (set high k y) b (pos 0)
+    ordered-set x y q b =
+        let a = g .axes in let c = g .left in let d = g .lows in let e = g .highs in
+        by (λ (t : Bool). getD (set low k x) b (pos 0) ≤ℤ getD (set high k y) b (pos 0)) (eqb b k)
+        (λ t. let z = eqb-true b k t in subst (λ (w : ℕ). getD (set low k x) w (pos 0) ≤ℤ getD (set high k y) w (pos 0)) (sym z)
+        (subst₂ _≤ℤ_ (sym (getD-set-same low k x (pos 0) (omega arith))) (sym (getD-set-same high k y (pos 0) (omega arith))) q))
+        (λ t. let z = eqb-false b k t in subst₂ _≤ℤ_ (sym (getD-set-other low k b x (pos 0) z)) (sym (getD-set-other high k b y (pos 0) z)) (g .ordered b))
+
+    inner : (x : ℕ) → j ≤ x → Parts (sidesOf n (set low k at-j) (set high k at-j)) (sidesOf n (set low k value) (set high k (value +ℤ pos x)))
+    inner x p =
+        let a = g .axes in let c = g .left in let d = g .lows in let e = g .highs in
+        let z : pos j ≤ℤ pos x = record { le = le→leb j x p } in
+        let lo : value ≤ℤ at-j = lia-le (getD low k (pos 0) ∷ pos i ∷ pos j ∷ []) (le (pos-nonneg j) ∷ []) (search lin depth 30) (omega arith) in
+        let hi : at-j ≤ℤ (value +ℤ pos x) = lia-le (getD low k (pos 0) ∷ pos i ∷ pos j ∷ pos x ∷ []) (le z ∷ []) (search lin depth 30) (omega arith) in
+        subst₂ Parts (ap₂ (λ (p q : List ℤ). take n (boxOf p q)) (set-set low k value at-j) (set-set high k (value +ℤ pos x) at-j) ∙ box-take n (set low k at-j) (set high k at-j)) (box-take n (set low k value) (set high k (value +ℤ pos x)))
+        (parts-take n (boxOf (set (set low k value) k at-j) (set (set high k (value +ℤ pos x)) k at-j)) (boxOf (set low k value) (set high k (value +ℤ pos x)))
+        (parts-set k (set low k value) (set high k (value +ℤ pos x)) at-j at-j (ordered-set value (value +ℤ pos x) (upward-of value x))
+        (subst (λ (w : ℤ). w ≤ℤ at-j) (sym (getD-set-same low k value (pos 0) (omega arith))) lo) (≤ℤ-refl at-j)
+        (subst (λ (w : ℤ). at-j ≤ℤ w) (sym (getD-set-same high k (value +ℤ pos x) (pos 0) (omega arith))) hi)))
+
+    each : (b : ℕ) → getD (map (canHold (sidesOf n (set low k at-j) (set high k at-j))) (setFrom s 0)) b false ≡ false
+    each b =
+        let q = f b in let y = q .enough in let ac = g .accepted in
+        part-dead (sidesOf n (set low k at-j) (set high k at-j)) (sidesOf n (set low k value) (set high k (value +ℤ pos (q .reach - 1)))) (setFrom s 0) (decode-formed (ac .n) s (setFrom s 0) (decode-is (ac .n) s (ac .accepted))) (inner (q .reach - 1) (omega arith)) b
+        (ap (λ (xs : List Interval). getD (map (canHold xs) (setFrom s 0)) b false) (sym (wide-at l u el eu (q .reach))) ∙ q .is)
+
+    pub value-fails : okAt (setFrom s 0) (take k low) (drop (suc k) (sidesOf n low high)) at-j ≡ false
+    value-fails = ok-is s n k low high g at-j ∙ any-none (canHold (sidesOf n (set low k at-j) (set high k at-j))) (setFrom s 0) each
 
 -- ---- the rows laid out
 pub record Laying (s : List ℕ) (rows : List (List ℤ)) (at b : ℕ) : Type 0 where

@@ -93,7 +93,7 @@ part-dead ss ts (b ∷ s) ok h zero e = by (canHold ss b) refl
     by true q = absurd (subst T e (part-hold ss ts b (and-left (wellFormed b) (all wellFormed s) ok) h (to-T (canHold ss b) q)))
 part-dead ss ts (b ∷ s) ok h (suc i) e = part-dead ss ts s (and-right (wellFormed b) (all wellFormed s) ok) h i e
 
--- ---- a side of a box fixed at one of its values
+-- ---- a side of a box cut down to some of its values
 part-self : (l h : ℤ) → l ≤ℤ h → Part (side l h) (side l h)
 part-self l h k = record { low-end = record { lo = ≤ℤ-refl l; hi = k }; high-end = record { lo = k; hi = ≤ℤ-refl h } }
 
@@ -102,12 +102,12 @@ parts-self [] v f = tt
 parts-self (x ∷ u) [] f = tt
 parts-self (x ∷ u) (y ∷ v) f = (part-self x y (f 0), parts-self u v (λ i. f (suc i)))
 
-pub parts-set : (k : ℕ) (u v : List ℤ) (z : ℤ) → ((i : ℕ) → getD u i (pos 0) ≤ℤ getD v i (pos 0)) → getD u k (pos 0) ≤ℤ z → z ≤ℤ getD v k (pos 0) → Parts (boxOf (set u k z) (set v k z)) (boxOf u v)
-parts-set k [] v z f l h = tt
-parts-set zero (x ∷ u) [] z f l h = tt
-parts-set (suc k) (x ∷ u) [] z f l h = tt
-parts-set zero (x ∷ u) (y ∷ v) z f l h = (record { low-end = record { lo = l; hi = h }; high-end = record { lo = l; hi = h } }, parts-self u v (λ i. f (suc i)))
-parts-set (suc k) (x ∷ u) (y ∷ v) z f l h = (part-self x y (f 0), parts-set k u v z (λ i. f (suc i)) l h)
+pub parts-set : (k : ℕ) (u v : List ℤ) (x y : ℤ) → ((i : ℕ) → getD u i (pos 0) ≤ℤ getD v i (pos 0)) → getD u k (pos 0) ≤ℤ x → x ≤ℤ y → y ≤ℤ getD v k (pos 0) → Parts (boxOf (set u k x) (set v k y)) (boxOf u v)
+parts-set k [] v x y f l m h = tt
+parts-set zero (a ∷ u) [] x y f l m h = tt
+parts-set (suc k) (a ∷ u) [] x y f l m h = tt
+parts-set zero (a ∷ u) (b ∷ v) x y f l m h = (record { low-end = record { lo = l; hi = ≤ℤ-trans m h }; high-end = record { lo = ≤ℤ-trans l m; hi = h } }, parts-self u v (λ i. f (suc i)))
+parts-set (suc k) (a ∷ u) (b ∷ v) x y f l m h = (part-self a b (f 0), parts-set k u v x y (λ i. f (suc i)) l m h)
 
 pub parts-take : (n : ℕ) (ss ts : List Interval) → Parts ss ts → Parts (take n ss) (take n ts)
 parts-take zero ss ts h = tt

@@ -1,10 +1,11 @@
-// The levels of the first-point search: prefixes in dictionary order, each axis upward, below those only that can still hold.
+// The levels of the first-point search: prefixes in dictionary order, each axis upward, below those only that can still
+// hold.
 ghost use mathlib.Core.Path.{_≡_};
 ghost use mathlib.Core.List.{[]};
 ghost use Prim.Native.Nat.{_≤_, _<_};
 ghost use lib.IntN.{pos, natAbs, _+ℤ_, _-ℤ_};
 ghost use lib.Signed.{_≤ℤ_};
-ghost use lib.ListN.{getD, set};
+ghost use lib.ListN.{getD};
 ghost use Rattle.bounds.specs.Ends.{AllWithin};
 ghost use Rattle.search.specs.Sides.{padded, trailOf};
 ghost use Rattle.search.specs.Live.{Rowed};
@@ -16,8 +17,8 @@ pub struct Tally {
     pub tested: u32,
 }
 
-// A prefix of k numbers, on whose axes low and high are the same, and the basic sets that can hold over the box (`live`);
-// with what all levels share: the number of axes, the limit, and how many rows are in use.
+// A prefix of k numbers, on whose axes low and high are the same, and the basic sets that can hold over the box
+// (`live`); with what all levels share: the number of axes, the limit, and how many rows are in use.
 pub struct Prefix {
     pub n: usize,
     pub k: usize,
@@ -44,12 +45,6 @@ pub struct Trail {
     pub tested: u32,
 }
 
-// Lows and highs of the axes.
-pub struct Sides {
-    pub low: [i64; 8],
-    pub high: [i64; 8],
-}
-
 // How far the side of axis k goes.
 fn span_of(low: [i64; 8], high: [i64; 8], k: usize) -> u64
     requires { ⌜ (k < 8) × AllWithin 1048576 low × AllWithin 1048576 high × (getD low k (pos 0) ≤ℤ getD high k (pos 0)) ⌝ }
@@ -61,18 +56,13 @@ fn span_of(low: [i64; 8], high: [i64; 8], k: usize) -> u64
     (b - a) as u64
 }
 
-// The sides with axis k fixed at value i of its side.
-fn fixed(low: [i64; 8], high: [i64; 8], k: usize, i: u64) -> Sides
+// Value i of the side of axis k.
+fn value_at(low: [i64; 8], k: usize, i: u64) -> i64
     requires { ⌜ (k < 8) × (i ≤ 2097152) × AllWithin 1048576 low ⌝ }
-    ensures is { λ r. ⌜ (r .low ≡ set low k (getD low k (pos 0) +ℤ pos i)) × (r .high ≡ set high k (getD low k (pos 0) +ℤ pos i)) ⌝ }
+    ensures { λ r. ⌜ r ≡ getD low k (pos 0) +ℤ pos i ⌝ }
 {
     let a = low[k];
-    let v = a + i as i64;
-    let mut l = low;
-    let mut h = high;
-    l[k] = v;
-    h[k] = v;
-    Sides { low: l, high: h }
+    a + i as i64
 }
 
 pub fn zeros() -> [i64; 8]
@@ -82,19 +72,24 @@ pub fn zeros() -> [i64; 8]
 }
 
 // The prefix that passed: a point if no axis is left.
-fn passed(p: Prefix, f: Sides, live: [bool; 32], tested: u32, next: u64) -> Stop
+fn passed(
+    p: Prefix,
+    low: [i64; 8],
+    high: [i64; 8],
+    live: [bool; 32],
+    tested: u32,
+    next: u64,
+) -> Stop
     requires { ⌜ p .k < 8 ⌝ }
-    ensures { λ r. ⌜ r ≡ stopAt p (f .low) (f .high) live tested next ⌝ }
+    ensures { λ r. ⌜ r ≡ stopAt p low high live tested next ⌝ }
 {
-    let l = f.low;
-    let h = f.high;
     let q = Prefix {
         n: p.n,
         k: p.k + 1,
         limit: p.limit,
         count: p.count,
-        low: l,
-        high: h,
+        low: low,
+        high: high,
         live: live,
     };
     if p.k + 1 == p.n {
@@ -113,16 +108,31 @@ fn passed(p: Prefix, f: Sides, live: [bool; 32], tested: u32, next: u64) -> Stop
     }
 }
 
-// The values of axis k from number `from` on, up to one that passes; `tested` prefixes were tested before.
+// The lesser of the two.
+fn fewer(a: u64, b: u32) -> u64
+    ensures { λ r. ⌜ (r ≤ a) × (r ≤ b) × (0 < a → 0 < b → 0 < r) ⌝ }
+{
+    let c = b as u64;
+    if a < c {
+        return a;
+    }
+    c
+}
+
+// The values of axis k from number `from` on, up to one that passes; `tested` prefixes were tested before. A run of
+// values that fail is counted as far as the side and the limit go, and only its first is looked at.
 fn climb(s: &[u8], p: Prefix, from: u64, tested: u32, rows: &mut [[i64; 129]; 32]) -> Stop
     requires { ⌜ Ready (now s) p tested × Rowed (now s) (p .n) (p .count) (now rows) ⌝ }
     ensures { λ r. ⌜ Stopped (now (s .entry)) p from tested (now (rows .exit)) r ⌝ }
 {
-    let low = p.low;
-    let high = p.high;
+    let n = p.n;
+    let k = p.k;
+    let side = p.low;
+    let mut low = p.low;
+    let mut high = p.high;
     let live = p.live;
     let limit = p.limit;
-    let span = span_of(low, high, p.k);
+    let span = span_of(low, high, k);
     let mut t = 0;
     let mut i = from;
     while i <= span {
@@ -134,16 +144,18 @@ fn climb(s: &[u8], p: Prefix, from: u64, tested: u32, rows: &mut [[i64; 129]; 32
                 at: p,
             };
         }
-        t += 1;
-        let f = fixed(low, high, p.k, i);
-        let l = f.low;
-        let h = f.high;
-        let o = opened_in(s, p.n, p.k, l, h, live, p.count, rows);
-        i += 1;
+        let v = value_at(side, k, i);
+        low[k] = v;
+        high[k] = v;
+        let most = fewer(span - i + 1, limit - (tested + t));
+        let o = opened_in(s, k, &low[..n], &high[..n], live, p.count, rows, most);
         if o.any {
             let w = o.live;
-            return passed(p, f, w, t, i);
+            return passed(p, low, high, w, t + 1, i + 1);
         }
+        let run = o.run;
+        t += run as u32;
+        i += run;
     }
     Stop {
         way: 0,

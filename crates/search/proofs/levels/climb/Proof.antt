@@ -1,39 +1,48 @@
-use mathlib.Core.Path.{_≡_, refl, sym, ap, _∙_}
+use mathlib.Core.Path.{_≡_, refl, sym, ap, _∙_, subst}
 use mathlib.Core.List.{List}
 use Prim.Native.Nat.{ℕ, suc, _+_, _-_, _≤_, _<_}
 use native.Mathlib.Omega.{arith}
+use borrow.Author.Needs.{needs}
 use lib.IntN.{ℤ, pos, _+ℤ_}
-use lib.ListN.{getD, take, drop}
+use lib.ListN.{length, getD, take, drop, set, length-set}
+use lib.Seq.{set-set}
+use mir.Syntax.{w64}
+use mir.Val.{toZ, ofZ}
+use Rattle.integers.specs.Mach.{result-is}
 use Rattle.codec.specs.Places.{setFrom}
 use Rattle.search.specs.Sides.{Standing, sidesOf}
 use Rattle.search.specs.Live.{Rowed}
 use Rattle.search.specs.Levels.{okAt, onward, spanAt}
 use Rattle.search.specs.declared.levels.Prefix.{Prefix}
-use Rattle.search.proofs.Climbs.{Climbing, lt-of, ok-set, climb-end, climb-spent, climb-fail, stop-ends, stop-later, stop-passed}
-use Rattle.search.proofs.Lives.{next-fits}
+use Rattle.search.proofs.Climbs.{Climbing, lt-of, ok-set, climb-end, climb-spent, climb-run, stop-ends, stop-passed}
+use Rattle.search.proofs.Lives.{axes-length, next-fits, value-fails}
 use Rattle.search.proofs.levels.climb.Statement.{statement}
 use Rattle.search.proofs.levels.climb.Tie as tie
 
+-- a list that differs from another at one place alone
+abbrev Beside : ℕ → List ℤ → List ℤ → Type 0
+Beside k x y = (z : ℤ) → set x k z ≡ set y k z
+
 abbrev Inv-loop : tie.InvT-loop
-Inv-loop s p from tested rows₀ low high live limit span t₀ i₀ rows t i =
-    (g : Standing s (p .n) (p .k) (p .low) (p .high)) × (span ≡ spanAt p) × (t ≤ i) × (from ≤ i) × Climbing s (p .n) (p .k) (p .low) (p .high) g (onward s p from tested) (p .limit) (tested + t) i × Rowed s (p .n) (p .count) rows
+Inv-loop s p from tested rows₀ n k side low₀ high₀ live limit span t₀ i₀ rows low high t i =
+    (g : Standing s (p .n) (p .k) (p .low) (p .high)) × (span ≡ spanAt p) × (t ≤ i) × (from ≤ i) × Climbing s (p .n) (p .k) (p .low) (p .high) g (onward s p from tested) (p .limit) (tested + t) i × Rowed s (p .n) (p .count) rows × Beside (p .k) low (p .low) × Beside (p .k) high (p .high)
 
 abbrev μ-loop : tie.MeasureT-loop
-μ-loop s p from tested rows₀ low high live limit span t₀ i₀ rows t i = suc span - i
+μ-loop s p from tested rows₀ n k side low₀ high₀ live limit span t₀ i₀ rows low high t i = suc span - i
 
 axis-of : {s : List ℕ} {n k : ℕ} {l h : List ℤ} → Standing s n k l h → k < 8
 axis-of g = let y = g .axes in let z = g .left in omega arith
 
 span-of-requires : tie.Need-span-of-requires Inv-loop μ-loop
 span-of-requires c κs =
-    let st = c .before .before .before .before in let g = st .pre .0 .standing in
+    let st = c .before .before .before .before .before in let g = st .pre .0 .standing in
     (axis-of g, g .low-size, g .high-size, g .ordered (st .args .p .k))
 
 loop-holds : tie.Need-loop-holds Inv-loop μ-loop
 loop-holds c =
-    let st = c .before .before .before .before .before in
+    let st = c .before .before .before .before .before .before in
     let w = st .pre .0 .within in let z : st .args .tested ≡ st .args .tested + 0 = omega arith in
-    (st .pre .0 .standing, c .span-of .ensures .0, omega arith, omega arith, record { within = omega arith; is = ap (λ (j : ℕ). onward (st .args .s .now) (st .args .p) (st .args .from) j) (sym z) }, st .pre .1)
+    (st .pre .0 .standing, c .span-of .ensures .0, omega arith, omega arith, record { within = omega arith; is = ap (λ (j : ℕ). onward (st .args .s .now) (st .args .p) (st .args .from) j) (sym z) }, st .pre .1, λ z. refl, λ z. refl)
 
 -- at a value: the start, the loop, and what is known there
 module _ (c : tie.In-loop Inv-loop μ-loop) where
@@ -41,7 +50,7 @@ module _ (c : tie.In-loop Inv-loop μ-loop) where
   m = c .before
 
   abbrev st : tie.Start Inv-loop μ-loop
-  st = m .before .before .before .before .before .before
+  st = m .before .before .before .before .before .before .before
 
   abbrev s : List ℕ
   s = st .args .s .now
@@ -80,51 +89,173 @@ returns c =
     stop-ends (s lp) (p lp) (a .from) (a .tested) (m lp .loop .rows) (st lp .pre .0) (g lp) (m lp .loop .t) (m lp .loop .i) (climbing lp) (v .5) _ refl (λ z. omega arith)
     (climb-spent (s lp) (p lp .n) (p lp .k) (p lp .low) (p lp .high) (g lp) (G lp) (p lp .limit) (a .tested + m lp .loop .t) (m lp .loop .i) (climbing lp) (here lp) (c .if1 .taken))
 
-add-t : tie.Need-add-t Inv-loop μ-loop
-add-t c = let lp = c .before in let l = m lp .loop .inv .2 in let f = far lp in omega arith
+value-at-requires : tie.Need-value-at-requires Inv-loop μ-loop
+value-at-requires c κs = let lp = c .before in (axis-of (g lp), far lp, g lp .low-size)
 
-fixed-requires : tie.Need-fixed-requires Inv-loop μ-loop
-fixed-requires c κs = let lp = c .before in (axis-of (g lp), far lp, g lp .low-size)
+-- ---- the sides at the value
+module _ (y : tie.After-value-at Inv-loop μ-loop) where
+  abbrev lp : tie.In-loop Inv-loop μ-loop
+  lp = y .before .before
+
+  abbrev lows : List ℤ
+  lows = set (m lp .loop .low) (p lp .k) (toZ w64 (ofZ w64 (y .value-at .result)))
+
+  abbrev highs : List ℤ
+  highs = set (m lp .loop .high) (p lp .k) (toZ w64 (ofZ w64 (y .value-at .result)))
+
+  value-is : toZ w64 (ofZ w64 (y .value-at .result)) ≡ value lp
+  value-is = result-is w64 (y .value-at .result) (y .value-at .ok) ∙ y .value-at .ensures
+
+  lows-are : lows ≡ set (p lp .low) (p lp .k) (value lp)
+  lows-are = m lp .loop .inv .6 _ ∙ ap (set (p lp .low) (p lp .k)) value-is
+
+  highs-are : highs ≡ set (p lp .high) (p lp .k) (value lp)
+  highs-are = m lp .loop .inv .7 _ ∙ ap (set (p lp .high) (p lp .k)) value-is
+
+  lows-fit : p lp .n ≤ length lows
+  lows-fit = let a = g lp .axes in let e = g lp .lows in omega (arith, ap length lows-are, length-set (p lp .low) (p lp .k) (value lp))
+
+  highs-fit : p lp .n ≤ length highs
+  highs-fit = let a = g lp .axes in let e = g lp .highs in omega (arith, ap length highs-are, length-set (p lp .high) (p lp .k) (value lp))
+
+  lows-length : p lp .n ≡ length (take (p lp .n) lows)
+  lows-length = axes-length (s lp) (p lp .n) (p lp .k) (p lp .low) (p lp .high) (g lp) (m lp .loop .i) (here lp) lows highs lows-are highs-are (p lp .low) lows (g lp .lows) lows-are
+
+  highs-length : p lp .n ≡ length (take (p lp .n) highs)
+  highs-length = axes-length (s lp) (p lp .n) (p lp .k) (p lp .low) (p lp .high) (g lp) (m lp .loop .i) (here lp) lows highs lows-are highs-are (p lp .high) highs (g lp .highs) highs-are
+
+mul-low : tie.Need-mul-low Inv-loop μ-loop
+mul-low c = let a = axis-of (g (lp c)) in omega arith
+
+array-set-from-low : tie.Need-array-set-from-low Inv-loop μ-loop
+array-set-from-low c = let a = axis-of (g (lp c)) in omega arith
+
+mul-high : tie.Need-mul-high Inv-loop μ-loop
+mul-high c = let a = axis-of (g (lp c)) in omega arith
+
+array-set-from-high : tie.Need-array-set-from-high Inv-loop μ-loop
+array-set-from-high c = let a = axis-of (g (lp c)) in omega arith
+
+add-fewer : tie.Need-add-fewer Inv-loop μ-loop
+add-fewer c = let f = m (lp c) .before .span-of .ensures .1 in omega arith
+
+add-fewer-2 : tie.Need-add-fewer-2 Inv-loop μ-loop
+add-fewer-2 c = let h = room (c .before) in let l = st (lp c) .pre .0 .fits in omega arith
+
+sub-fewer : tie.Need-sub-fewer Inv-loop μ-loop
+sub-fewer c = let h = room (c .before) in omega arith
+
+fewer-requires : tie.Need-fewer-requires Inv-loop μ-loop
+fewer-requires c κs = search needs
+
+-- ---- as many values as the side and the limit leave
+module _ (f : tie.After-fewer Inv-loop μ-loop) where
+  abbrev at-value : tie.In-loop Inv-loop μ-loop
+  at-value = lp (f .before)
+
+  on-side : m at-value .loop .i + f .fewer .result ≤ suc (spanAt (p at-value))
+  on-side = let e = m at-value .loop .inv .1 in let h = here at-value in let a : f .fewer .result ≤ m at-value .before .span-of .result - m at-value .loop .i + 1 = f .fewer .ensures .0 in omega arith
+
+  in-limit : st at-value .args .tested + m at-value .loop .t + f .fewer .result ≤ p at-value .limit
+  in-limit = let r : st at-value .args .tested + m at-value .loop .t < p at-value .limit = room (f .before .before) in let a : f .fewer .result ≤ p at-value .limit - (st at-value .args .tested + m at-value .loop .t) = f .fewer .ensures .1 in omega arith
+
+  some : 0 < f .fewer .result
+  some = let r : st at-value .args .tested + m at-value .loop .t < p at-value .limit = room (f .before .before) in f .fewer .ensures .2 (omega arith) (omega arith)
+
+array-share-prefix-low : tie.Need-array-share-prefix-low Inv-loop μ-loop
+array-share-prefix-low c = lows-fit (c .before)
+
+slice-aggregate-opened-in : tie.Need-slice-aggregate-opened-in Inv-loop μ-loop
+slice-aggregate-opened-in c = lows-length (c .before .before)
+
+array-share-prefix-high : tie.Need-array-share-prefix-high Inv-loop μ-loop
+array-share-prefix-high c = highs-fit (c .before .before)
+
+slice-aggregate-opened-in-2 : tie.Need-slice-aggregate-opened-in-2 Inv-loop μ-loop
+slice-aggregate-opened-in-2 c = highs-length (c .before .before .before)
 
 opened-in-requires : tie.Need-opened-in-requires Inv-loop μ-loop
 opened-in-requires c κs =
-    let f = c .before .before .before in let lp = f .before .before in
-    next-fits (s lp) (p lp .n) (p lp .k) (p lp .low) (p lp .high) (g lp) (m lp .loop .i) (here lp) (p lp .count) (m lp .loop .rows) (p lp .live) (m lp .loop .inv .5) (st lp .pre .0 .lives) (f .fixed .result .low) (f .fixed .result .high) (f .fixed .ensures .0) (f .fixed .ensures .1)
+    let f = c .before .before .before in let y = f .before in let l = lp y in (
+      subst (λ (j : ℕ). Rowed (s l) j (p l .count) (m l .loop .rows)) (lows-length y) (m l .loop .inv .5),
+      next-fits (s l) (p l .n) (p l .k) (p l .low) (p l .high) (g l) (m l .loop .i) (here l) (lows y) (highs y) (lows-are y) (highs-are y) (p l .live) (f .fewer .result) (st l .pre .0 .lives) (some f) (on-side f),
+    )
 
-add-i : tie.Need-add-i Inv-loop μ-loop
-add-i c = let lp = c .before .before .before .before .before .before in let f = far lp in omega arith
+-- ---- what the test of the value says
+module _ (o : tie.After-opened-in Inv-loop μ-loop) where
+  abbrev f : tie.After-fewer Inv-loop μ-loop
+  f = o .before .before .before .before
 
--- what the test of the value says
-tested-is : (c : tie.After-opened-in Inv-loop μ-loop) → let lp = c .before .before .before .before .before .before in
-    okAt (setFrom (s lp) 0) (take (p lp .k) (p lp .low)) (drop (suc (p lp .k)) (sidesOf (p lp .n) (p lp .low) (p lp .high))) (value lp) ≡ c .opened-in .result .any
-tested-is c =
-    let f = c .before .before .before .before in let lp = f .before .before in
-    ok-set (s lp) (p lp .n) (p lp .k) (p lp .low) (p lp .high) (g lp) (value lp) (f .fixed .result .low) (f .fixed .result .high) (f .fixed .ensures .0) (f .fixed .ensures .1) (c .opened-in .result .any) (c .opened-in .ensures .0 .any-holds)
+  abbrev y : tie.After-value-at Inv-loop μ-loop
+  y = f .before
+
+  abbrev l : tie.In-loop Inv-loop μ-loop
+  l = lp y
+
+  tested-is : okAt (setFrom (s l) 0) (take (p l .k) (p l .low)) (drop (suc (p l .k)) (sidesOf (p l .n) (p l .low) (p l .high))) (value l) ≡ o .opened-in .result .any
+  tested-is = ok-set (s l) (p l .n) (p l .k) (p l .low) (p l .high) (g l) (value l) (lows y) (highs y) (lows-are y) (highs-are y) (o .opened-in .result .any) (o .opened-in .ensures .0 .any-holds)
+
+  rowed : Rowed (s l) (p l .n) (p l .count) (o .opened-in .last .1 .1 .1 .1 .1 .1 .0)
+  rowed = subst (λ (j : ℕ). Rowed (s l) j (p l .count) (o .opened-in .last .1 .1 .1 .1 .1 .1 .0)) (sym (lows-length y)) (o .opened-in .ensures .1)
+
+  run-inside : m l .loop .i + o .opened-in .result .run ≤ suc (spanAt (p l))
+  run-inside = let a = on-side f in let b : o .opened-in .result .run ≤ f .fewer .result = o .opened-in .ensures .0 .few in omega arith
+
+  run-room : st l .args .tested + m l .loop .t + o .opened-in .result .run ≤ p l .limit
+  run-room = let a = in-limit f in let b : o .opened-in .result .run ≤ f .fewer .result = o .opened-in .ensures .0 .few in omega arith
+
+add-passed : tie.Need-add-passed Inv-loop μ-loop
+add-passed c = let o = c .before .before in let h = room (y o .before) in let k = st (l o) .pre .0 .fits in omega arith
+
+add-passed-2 : tie.Need-add-passed-2 Inv-loop μ-loop
+add-passed-2 c = let h = far (l (c .before .before)) in omega arith
 
 passed-requires : tie.Need-passed-requires Inv-loop μ-loop
-passed-requires c κs = let lp = c .before .before .before .before .before .before .before .before in axis-of (g lp)
+passed-requires c κs = axis-of (g (l (c .before .before)))
 
 returns-2 : tie.Need-returns-2 Inv-loop μ-loop
 returns-2 c =
-    let th = c .before .before in let o = th .before in let f = o .before .before .before .before in let lp = f .before .before in let a = st lp .args in let v = m lp .loop .inv in
-    stop-passed (s lp) (p lp) (a .from) (a .tested) _ (st lp .pre .0) (g lp) (m lp .loop .t) (m lp .loop .i) (climbing lp) (o .opened-in .ensures .1) (here lp) (v .3) (room (f .before)) (tested-is o ∙ th .if2 .taken)
-    (f .fixed .result .low) (f .fixed .result .high) (f .fixed .ensures .0) (f .fixed .ensures .1) (o .opened-in .result .live) (o .opened-in .ensures .0 .still) (c .passed .result) (c .passed .ensures)
+    let th = c .before .before in let o = th .before in let lp = l o in let a = st lp .args in let v = m lp .loop .inv in
+    stop-passed (s lp) (p lp) (a .from) (a .tested) _ (st lp .pre .0) (g lp) (m lp .loop .t) (m lp .loop .i) (climbing lp) (rowed o) (here lp) (v .3) (room (y o .before)) (tested-is o ∙ th .if2 .taken)
+    (lows (y o)) (highs (y o)) (lows-are (y o)) (highs-are (y o)) (o .opened-in .result .live) (o .opened-in .ensures .0 .still) (c .passed .result) (c .passed .ensures)
+
+cast-t : tie.Need-cast-t Inv-loop μ-loop
+cast-t c = let o = c .before in let h = run-room o in let k = st (l o) .pre .0 .fits in omega arith
+
+add-t : tie.Need-add-t Inv-loop μ-loop
+add-t c = let o = c .before in let h = run-room o in let k = st (l o) .pre .0 .fits in omega arith
+
+add-i : tie.Need-add-i Inv-loop μ-loop
+add-i c = let o = c .before in let h = run-inside o in let e = m (l o) .loop .inv .1 in let z = m (l o) .before .span-of .ensures .1 in omega arith
 
 loop-less : tie.Need-loop-less Inv-loop μ-loop
-loop-less c = let lp = c .before .before .before .before .before .before .before in let h = lp .loop-test .taken in omega arith
+loop-less c = let o = c .before in let h = l o .loop-test .taken in let q = o .opened-in .ensures .0 .some in omega arith
 
 loop-again : tie.Need-loop-again Inv-loop μ-loop
 loop-again c =
-    let o = c .before in let f = o .before .before .before .before in let lp = f .before .before in let a = st lp .args in let v = m lp .loop .inv in let l = v .2 in let j = v .3 in
-    let k = climb-fail (s lp) (p lp .n) (p lp .k) (p lp .low) (p lp .high) (g lp) (G lp) (p lp .limit) (a .tested + m lp .loop .t) (m lp .loop .i) (climbing lp) (here lp) (room (f .before)) (tested-is o ∙ c .if2 .left) in
-    (g lp, v .1, omega arith, omega arith, stop-later (s lp) (p lp) (a .from) (a .tested) (m lp .loop .rows) (st lp .pre .0) (g lp) (m lp .loop .t) (m lp .loop .i) (climbing lp) (v .5) k, o .opened-in .ensures .1)
+    let o = c .before in let lp = l o in let a = st lp .args in let v = m lp .loop .inv in let n = o .opened-in .result .run in
+    let k = climb-run (s lp) (p lp .n) (p lp .k) (p lp .low) (p lp .high) (g lp) (G lp) (p lp .limit) (a .tested + m lp .loop .t) (m lp .loop .i) n (climbing lp) (run-inside o) (run-room o)
+    (value-fails (s lp) (p lp .n) (p lp .k) (p lp .low) (p lp .high) (g lp) (m lp .loop .i) (here lp) n (lows (y o)) (highs (y o)) (lows-are (y o)) (highs-are (y o)) (o .opened-in .ensures .0 .far (c .if2 .left))) in
+    let x : a .tested + m lp .loop .t + n ≡ a .tested + (m lp .loop .t + n) = omega arith in let j = v .2 in let q = v .3 in (
+      g lp,
+      v .1,
+      omega arith,
+      omega arith,
+      subst (λ (x : ℕ). Climbing (s lp) (p lp .n) (p lp .k) (p lp .low) (p lp .high) (g lp) (G lp) (p lp .limit) x (m lp .loop .i + n)) x k,
+      rowed o,
+      λ z. set-set (m lp .loop .low) (p lp .k) _ z ∙ v .6 z,
+      λ z. set-set (m lp .loop .high) (p lp .k) _ z ∙ v .7 z,
+    )
 
 returns-3 : tie.Need-returns-3 Inv-loop μ-loop
 returns-3 c =
-    let m = c .before in let st = m .before .before .before .before .before .before in let a = st .args in let v = m .loop .inv in
+    let m = c .before in let st = m .before .before .before .before .before .before .before in let a = st .args in let v = m .loop .inv in
     let e = v .1 in let q = c .loop-test .left in let h : spanAt (a .p) < m .loop .i = omega arith in
     stop-ends (a .s .now) (a .p) (a .from) (a .tested) (m .loop .rows) (st .pre .0) (v .0) (m .loop .t) (m .loop .i) (v .4) (v .5) _ refl (λ z. omega arith)
     (climb-end (a .s .now) (a .p .n) (a .p .k) (a .p .low) (a .p .high) (v .0) (onward (a .s .now) (a .p) (a .from) (a .tested)) (a .p .limit) (a .tested + m .loop .t) (m .loop .i) (v .4) h)
 
 pub climb-spec : {M : Type 1} → statement M
-climb-spec = tie.close (tie.spec Inv-loop μ-loop span-of-requires loop-holds add-if1 returns add-t fixed-requires opened-in-requires add-i passed-requires returns-2 loop-less loop-again returns-3)
+climb-spec =
+    tie.close
+    (tie.spec Inv-loop μ-loop span-of-requires loop-holds add-if1 returns value-at-requires mul-low array-set-from-low mul-high array-set-from-high add-fewer add-fewer-2 sub-fewer fewer-requires array-share-prefix-low slice-aggregate-opened-in array-share-prefix-high slice-aggregate-opened-in-2 opened-in-requires
+    add-passed add-passed-2 passed-requires returns-2 cast-t add-t add-i loop-less loop-again returns-3)

@@ -24,11 +24,11 @@ same-length c = search needs
 
 returns : tie.Need-returns
 returns c =
-    let o = c .before in let st = o .before .before .before in let n = st .args .count in let r = st .args .rows .now in let ys : List (List ℤ) = o .opened .last .1 .1 .1 .1 .1 .1 .0 in
-    let k : length ys ≡ length (take n r) = o .opened .kept .1 .1 .1 .1 .1 .1 .0 in let i = st .pre .0 .inside in
+    let o = c .before in let st = o .before .before .before in let n = st .args .count in let r = st .args .rows .now in let ys : List (List ℤ) = o .opened .last .1 .1 .1 .1 .1 .0 in
+    let k : length ys ≡ length (take n r) = o .opened .kept .1 .1 .1 .1 .1 .0 in let i = st .pre .0 .inside in
     let l : length ys ≡ n = omega (arith, length-take n r) in
     let e : take n (ys ++ drop n r) ≡ ys = ap (λ (j : ℕ). take j (ys ++ drop n r)) (sym l) ∙ take-append-seam ys (drop n r) in
-    (o .opened .ensures .0, record { inside = omega (arith, length-front r ys n k); used = subst (Rows (st .args .s .now) (st .args .n)) (sym e) (o .opened .ensures .1) })
+    (o .opened .ensures .0, record { inside = omega (arith, length-front r ys n k); used = subst (Rows (st .args .s .now) (length (st .args .low .now))) (sym e) (o .opened .ensures .1) })
 
 pub opened-in-spec : {M : Type 1} → statement M
 opened-in-spec = tie.close (tie.spec slice-relend-prefix-opened slice-aggregate-opened opened-requires same-length returns)
