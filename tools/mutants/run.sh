@@ -2,8 +2,23 @@
 # Builds each deliberately wrong copy of `second` (one .sed file each) and runs the stored scripts on it, and the stored
 # calls where these have nothing against it: a copy that none of them tells apart is a failure.
 # Last line: 'N passed, M failed'.
+#
+#   mutants/run.sh          all of them, in two halves at once
+#   mutants/run.sh 0        every second one, from the first on (1: from the second on)
 set -u
 here=$(cd "$(dirname "$0")" && pwd)
+if [ $# -eq 0 ]; then
+    second_half=$(mktemp)
+    trap 'rm -f "$second_half"' EXIT
+    "$here/run.sh" 1 > "$second_half" 2>&1 &
+    first_half=$("$here/run.sh" 0 2>&1)
+    wait
+    { echo "$first_half"; cat "$second_half"; } |
+        awk '/^[0-9]+ passed, [0-9]+ failed$/ { p += $1; f += $3; n++; next } { print }
+             END { if (n != 2) f++; print p + 0 " passed, " f + 0 " failed"; exit f > 0 }'
+    exit
+fi
+half=$1
 tools=$(dirname "$here")
 hexscript=${HEXSCRIPT:-$tools/target/release/hexscript}
 work=$(mktemp -d)
@@ -47,7 +62,10 @@ else
     fail "the unchanged copy does not pass the stored scripts and calls"
 fi
 
+number=0
 for edit in "$here"/*.sed; do
+    number=$((number + 1))
+    [ $(((number - 1) % 2)) -eq "$half" ] || continue
     name=$(basename "$edit" .sed)
     copy
     file=$work/second/$(sed -n 's/^# file //p' "$edit")

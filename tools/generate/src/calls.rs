@@ -5,6 +5,7 @@ use crate::hard;
 use crate::model::{encode, Set};
 use crate::queries::{any_box, any_limit, any_point, widest_box};
 use crate::rng::Rng;
+use crate::runs;
 use crate::sets::World;
 use crate::wider;
 use hexscript::tokens::hex;
@@ -57,13 +58,21 @@ fn holder(rng: &mut Rng, world: &World) -> String {
     format!("holder {} {a} {b} {}", axes(rng, world.n), point_words(&any_point(rng, world.n)))
 }
 
-/// Half of the limits lie at the tally itself, one before or one behind.
+fn search_line(n: usize, set: &str, limit: u32, low: &[i32; 8], high: &[i32; 8]) -> String {
+    format!("search {n} {set} {limit} {} {}", point_words(low), point_words(high))
+}
+
+/// A third have long runs; of the others, half of the limits lie at the tally itself, one before or one behind.
 fn search(rng: &mut Rng, world: &World) -> String {
+    if rng.chance(33) {
+        let (n, set, sides, limit) = runs::search(rng);
+        return search_line(n, &hex(&encode(&set)), limit, &sides.low, &sides.high);
+    }
     let set = world.any(rng);
     let widest = rng.chance(5);
     let (low, high) = if widest { widest_box(world.n) } else { any_box(rng, world.n) };
     let (n, set) = (axes(rng, world.n), bytes(rng, &set, 5));
-    let line = |limit: u32| format!("search {n} {set} {limit} {} {}", point_words(&low), point_words(&high));
+    let line = |limit: u32| search_line(n, &set, limit, &low, &high);
     if widest {
         return line(rng.range(1, 100) as u32);
     }

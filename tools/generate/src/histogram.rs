@@ -1,8 +1,9 @@
 //! What the generated scripts and calls reach, by `second`.
 
-use crate::{calls, events, scripts};
+use crate::{calls, events, runs, scripts};
 use hexscript::tokens::unhex;
 use second::algebra::{complement, difference, intersection, union, Watch};
+use second::ask::{check_limit, check_sides, Sides};
 use second::test::test;
 use second::{parse, BasicSet, Outcome, Set};
 use std::collections::BTreeMap;
@@ -61,7 +62,7 @@ pub fn wanted() -> Vec<String> {
     let tests = ANSWERS.iter().map(|answer| format!("test {answer}"));
     let others = ["search at", "search none", "search spent"];
     let carried = TESTING.iter().flat_map(|kind| ANSWERS.map(|answer| carried(kind, answer)));
-    let others = others.into_iter().chain(events::EVENTS).map(str::to_string);
+    let others = others.into_iter().chain(events::EVENTS).chain(runs::EVENTS).map(str::to_string);
     refusals.chain(tests).chain(others).chain(carried).chain(built_names()).collect()
 }
 
@@ -145,7 +146,22 @@ fn count_events(kind: &str, a: &Set, b: &Set, counts: &mut Counts) {
     }
 }
 
-/// Counts the answers of the tests that a script's operations make, and what they tighten. Its output shows neither.
+/// Counts the runs of a search, where it is not refused.
+fn count_runs(set: &Set, limit: u32, sides: &Sides, counts: &mut Counts) {
+    if check_sides(set.n, sides).is_ok() && check_limit(limit).is_ok() {
+        runs::count(set, sides, limit, counts);
+    }
+}
+
+/// The limit and the box of a command `47`.
+fn asked(command: &[u8]) -> (u32, Sides) {
+    let number = |at: usize| i32::from_le_bytes([0, 1, 2, 3].map(|i| command[at + i]));
+    let eight = |at: usize| [0, 1, 2, 3, 4, 5, 6, 7].map(|i| number(at + 4 * i));
+    (number(2) as u32, Sides { low: eight(6), high: eight(38) })
+}
+
+/// Counts the answers of the tests that a script's operations make, what they tighten, and the runs of its searches.
+/// Its output shows none of these.
 fn count_tests(script: &[u8], counts: &mut Counts) {
     let Some(&[0x10, n @ 1..=8]) = script.get(..2) else { return };
     let mut sets = vec![Set::empty(usize::from(n)); 4];
@@ -153,6 +169,10 @@ fn count_tests(script: &[u8], counts: &mut Counts) {
         let target = usize::from(command[1]);
         if target > 3 {
             continue;
+        }
+        if command[0] == 0x47 {
+            let (limit, sides) = asked(command);
+            count_runs(&sets[target], limit, &sides, counts);
         }
         let kind = kind_of(command);
         let set = |i: usize| command.get(i).and_then(|&number| sets.get(usize::from(number)));
@@ -211,10 +231,29 @@ fn count_tested(call: &str, counts: &mut Counts) {
     }
 }
 
+/// Counts the runs of a call of the search.
+fn count_searched(call: &str, counts: &mut Counts) {
+    let words: Vec<&str> = call.split(' ').collect();
+    let ["search", n, bytes, limit, coordinates @ ..] = &words[..] else { return };
+    let set = || parse(n.parse().ok()?, &unhex(bytes)?).ok();
+    let numbers: Vec<i32> = coordinates.iter().filter_map(|word| word.parse().ok()).collect();
+    let eight = |at: usize| numbers.get(at..at + 8)?.try_into().ok();
+    if let (Some(set), Ok(limit), Some(low), Some(high)) = (set(), limit.parse(), eight(0), eight(8)) {
+        count_runs(&set, limit, &Sides { low, high }, counts);
+    }
+}
+
 /// The same of so many calls of the test.
 pub fn of_tests(count: u64, seed: u64) -> Counts {
     let mut counts = Counts::new();
     (0..count).for_each(|index| count_tested(&calls::call(seed, index, &["test"]), &mut counts));
+    counts
+}
+
+/// The long runs of so many calls of the search.
+pub fn of_searches(count: u64, seed: u64) -> Counts {
+    let mut counts = Counts::new();
+    (0..count).for_each(|index| count_searched(&calls::call(seed, index, &["search"]), &mut counts));
     counts
 }
 
@@ -224,6 +263,7 @@ pub fn of_calls(count: u64, seed: u64) -> Counts {
         let call = calls::call(seed, index, &calls::KINDS);
         count_operation(&call, &mut counts);
         count_tested(&call, &mut counts);
+        count_searched(&call, &mut counts);
         let answer = second::run_call(&call);
         let kind = call.split(' ').next().unwrap_or("");
         let words: Vec<&str> = answer.split(' ').collect();

@@ -1,5 +1,5 @@
-//! Seeded scripts and calls that reach every refusal, test answer and search outcome, all that tightening does, and
-//! every answer of tests that are carried into 128 bits.
+//! Seeded scripts and calls that reach every refusal, test answer and search outcome, all that tightening does, every
+//! answer of tests that are carried into 128 bits, and long runs of failing prefixes.
 
 pub mod calls;
 pub mod damage;
@@ -9,6 +9,7 @@ pub mod histogram;
 pub mod model;
 pub mod queries;
 pub mod rng;
+pub mod runs;
 pub mod scripts;
 pub mod sets;
 pub mod slots;

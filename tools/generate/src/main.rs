@@ -3,15 +3,17 @@
 //! `generate histogram COUNT SEED`       what COUNT scripts and as many calls reach
 //! `generate tests COUNT SEED`           what COUNT calls of the test reach: how many are wide at 64 bits, how these end,
 //!                                       and which rows their exchanges build
+//! `generate searches COUNT SEED`        what COUNT calls of the search reach: long runs of failing prefixes, by the rules
+//!                                       that fail and by where the limit falls
 
 use generate::histogram::Counts;
-use generate::{calls, histogram, scripts};
+use generate::{calls, histogram, runs, scripts};
 use hexscript::tokens::hex;
 use std::io::Write;
 use std::process::ExitCode;
 
 const USAGE: &str =
-    "generate scripts COUNT SEED DIR|- | calls COUNT SEED [KIND..] | histogram COUNT SEED | tests COUNT SEED";
+    "generate scripts COUNT SEED DIR|- | calls COUNT SEED [KIND..] | histogram|tests|searches COUNT SEED";
 
 /// One test in so many has to be wide at 64 bits.
 const CARRIED_ONE_IN: u64 = 25;
@@ -85,9 +87,8 @@ fn print_carried(counts: &Counts, count: u64) -> Vec<bool> {
     std::iter::once(all as u64 >= least).chain(present).collect()
 }
 
-/// Which rows the tests' exchanges build. Checks: each kind is that of some of them.
-fn print_built(counts: &Counts) -> Vec<bool> {
-    let names = histogram::built_names();
+/// How many there are of each name. Checks: there are some.
+fn print_each(counts: &Counts, names: &[String]) -> Vec<bool> {
     let kinds: Vec<String> = names.iter().map(|name| format!("{name}: {}", count_of(counts, name))).collect();
     println!("{}", kinds.join("; "));
     names.iter().map(|name| count_of(counts, name) > 0).collect()
@@ -95,7 +96,14 @@ fn print_built(counts: &Counts) -> Vec<bool> {
 
 fn print_tests(count: u64, seed: u64) -> ExitCode {
     let counts = histogram::of_tests(count, seed);
-    let checks = [print_carried(&counts, count), print_built(&counts)].concat();
+    closing(&[print_carried(&counts, count), print_each(&counts, &histogram::built_names())].concat())
+}
+
+fn print_searches(count: u64, seed: u64) -> ExitCode {
+    closing(&print_each(&histogram::of_searches(count, seed), &runs::EVENTS.map(str::to_string)))
+}
+
+fn closing(checks: &[bool]) -> ExitCode {
     let passed = checks.iter().filter(|&&good| good).count();
     let failed = checks.len() - passed;
     println!("{passed} passed, {failed} failed");
@@ -109,6 +117,7 @@ fn run(words: &[&str]) -> Result<ExitCode, String> {
         ["calls", count, seed, kinds @ ..] => write_calls(number(count)?, number(seed)?, kinds),
         ["histogram", count, seed] => Ok(print_histogram(number(count)?, number(seed)?)),
         ["tests", count, seed] => Ok(print_tests(number(count)?, number(seed)?)),
+        ["searches", count, seed] => Ok(print_searches(number(count)?, number(seed)?)),
         _ => Err(USAGE.to_string()),
     }
 }

@@ -5,6 +5,7 @@ use crate::hard;
 use crate::model::{encode, Basic, Set};
 use crate::queries::{any_box, any_limit, any_point, widest_box};
 use crate::rng::Rng;
+use crate::runs;
 use crate::sets::World;
 use crate::wider;
 
@@ -51,14 +52,18 @@ impl Script {
         self.numbers(&any_point(rng, self.n));
     }
 
+    fn search_in(&mut self, set: usize, limit: u32, low: &[i32; 8], high: &[i32; 8]) {
+        self.bytes.extend([0x47, set as u8]);
+        self.bytes.extend(limit.to_le_bytes());
+        self.numbers(low);
+        self.numbers(high);
+    }
+
     fn search(&mut self, set: usize, rng: &mut Rng) {
         let widest = rng.chance(5);
         let (low, high) = if widest { widest_box(self.n) } else { any_box(rng, self.n) };
         let limit = if widest { rng.range(1, 100) as u32 } else { any_limit(rng) };
-        self.bytes.extend([0x47, set as u8]);
-        self.bytes.extend(limit.to_le_bytes());
-        self.numbers(&low);
-        self.numbers(&high);
+        self.search_in(set, limit, &low, &high);
     }
 
     fn end(mut self) -> Vec<u8> {
@@ -161,6 +166,16 @@ fn wider_numbers(rng: &mut Rng) -> Vec<u8> {
     script.end()
 }
 
+/// Searches in which many values of one axis fail one after another.
+fn long_runs(rng: &mut Rng) -> Vec<u8> {
+    let (n, set, sides, limit) = runs::search(rng);
+    let mut script = Script::new(n);
+    script.load(0, &encode(&set));
+    script.search_in(0, limit, &sides.low, &sides.high);
+    script.search_in(0, any_limit(rng), &sides.low, &sides.high);
+    script.end()
+}
+
 /// Sets near 32, 8 and 48, and results near them and near 8,000 bytes.
 fn limits(rng: &mut Rng) -> Vec<u8> {
     let world = World::new(rng);
@@ -229,7 +244,8 @@ fn bad_script(rng: &mut Rng) -> Vec<u8> {
 pub fn script(seed: u64, index: u64) -> Vec<u8> {
     let rng = &mut Rng::of(seed, index);
     match rng.below(100) {
-        0..=27 => mixed(rng),
+        0..=23 => mixed(rng),
+        24..=27 => long_runs(rng),
         28..=37 => chain(rng),
         38..=50 => slots(rng),
         51..=55 => pivots(rng),

@@ -1,6 +1,6 @@
 //! The generator: the same from the same seed, well-formed, and its hard sets as hard as they say.
 
-use generate::{calls, events, hard, histogram, model, rng::Rng, scripts, sets::World, slots};
+use generate::{calls, events, hard, histogram, model, rng::Rng, runs, scripts, sets::World, slots};
 use hexscript::tokens::hex;
 
 #[test]
@@ -80,5 +80,5 @@ fn a_multiplied_rule_stays_within_its_ranges() {
 
 #[test]
 fn wanted_names_are_all_there() {
-    assert_eq!(histogram::wanted().len(), 15 + 4 + 3 + events::EVENTS.len() + 4 * 4 + 8);
+    assert_eq!(histogram::wanted().len(), 15 + 4 + 3 + events::EVENTS.len() + runs::EVENTS.len() + 4 * 4 + 8);
 }

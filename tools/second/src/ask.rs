@@ -76,11 +76,12 @@ pub fn member(set: &Set, point: &Point) -> Result<bool, u8> {
 pub fn search(set: &Set, sides: &Sides, limit: u32) -> Result<Search, u8> {
     check_sides(set.n, sides)?;
     check_limit(limit)?;
-    Ok(walk(set, sides, limit))
+    Ok(walk(set, sides, limit, &mut |_, _| ()))
 }
 
-/// Prefixes in dictionary order; the empty one is not tested (reading 13).
-fn walk(set: &Set, sides: &Sides, limit: u32) -> Search {
+/// Prefixes in dictionary order, each shown to `watch` with whether it passes; the empty one is not tested (reading
+/// 13).
+pub fn walk(set: &Set, sides: &Sides, limit: u32, watch: &mut dyn FnMut(&[i32], bool)) -> Search {
     let sparse: Vec<SparseBasic> = set.basics.iter().map(SparseBasic::new).collect();
     let mut open = OpenBox::new(set.n, sides);
     let mut prefix = vec![sides.low[0]];
@@ -92,7 +93,9 @@ fn walk(set: &Set, sides: &Sides, limit: u32) -> Search {
         }
         tested += 1;
         open.close_first(&prefix);
-        if !sparse.iter().any(|basic| basic.can_hold(&mut open)) {
+        let passes = sparse.iter().any(|basic| basic.failing(&mut open).is_none());
+        watch(&prefix, passes);
+        if !passes {
             go_on(&mut prefix, sides);
         } else if prefix.len() == set.n {
             return Search::At(prefix, tested);
@@ -101,6 +104,13 @@ fn walk(set: &Set, sides: &Sides, limit: u32) -> Search {
         }
     }
     Search::None(tested)
+}
+
+/// The place of the first rule of a basic set that cannot hold below a prefix.
+pub fn failing_rule(n: usize, basic: &BasicSet, sides: &Sides, prefix: &[i32]) -> Option<usize> {
+    let mut open = OpenBox::new(n, sides);
+    open.close_first(prefix);
+    SparseBasic::new(basic).failing(&mut open)
 }
 
 /// The next prefix that is not below this one; empty when there is none.
@@ -220,12 +230,13 @@ impl SparseBasic {
         }
     }
 
-    fn can_hold(&self, open: &mut OpenBox) -> bool {
+    /// The place of the first rule that cannot hold.
+    fn failing(&self, open: &mut OpenBox) -> Option<usize> {
         open.divisions.clear();
         for division in &self.divisions {
             open.divisions.push(division.range(&open.axes));
         }
-        self.rules.iter().all(|rule| rule.can_hold(open))
+        self.rules.iter().position(|rule| !rule.can_hold(open))
     }
 }
 
