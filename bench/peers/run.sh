@@ -7,6 +7,8 @@
 #   bench/peers/run.sh quick    fewer cases; within 5 minutes where the crates are proved already
 #   SEED=7 ..                   other workloads (default 1)
 #   FAMILIES="weeks big" ..     some of: tiny dispatch slots weeks limit big
+#   OPERATIONS="union first" .. some of: union intersection difference complement chain empty subset first member prepared
+#   ENGINE=CLONE ..             the engine of another clone of this repository, proved there where it is not yet
 #   STAGES="time table" ..      some of: install build make check time count table
 #
 # It needs rt on the PATH. What it builds and writes is under target/bench/peers; the tables are in its table.md. Exit status 1: the engine was wrong.
@@ -17,11 +19,13 @@ stages=${STAGES:-install build make check time count table}
 families=${FAMILIES:-tiny dispatch slots weeks limit big}
 out=target/bench/peers
 . bench/peers/steps.sh
-operations="union intersection difference complement chain empty subset first member prepared"
-checked="union intersection difference complement chain empty subset first"
+operations=${OPERATIONS:-union intersection difference complement chain empty subset first member prepared}
+checked=${operations/member/}
+checked=${checked/prepared/}
+engine=${ENGINE:-.}
 mkdir -p $out
 case $mode in
-  full) timed="dispatch dispatch dispatch slots weeks limit big" readings=5 seconds=20 counted=12
+  full) timed="dispatch limit big dispatch limit big dispatch limit big slots weeks" readings=5 seconds=20 counted=12
     declare -A cases=([dispatch]=100 [slots]=100 [weeks]=100 [limit]=24 [big]=24)
     declare -A judged=([tiny]=600 [dispatch]=60 [slots]=60 [weeks]=60 [limit]=12 [big]=24);;
   quick) timed="dispatch slots weeks limit big" readings=3 seconds=3 counted=3
@@ -62,7 +66,7 @@ build_isl32() {
 build() {
   local mlir parts="$out/harness.o $out/sets.o"
   build_parts
-  engine pitsets .
+  engine pitsets "$engine"
   column isl gcc $flags $here/column_isl.c $parts -lisl
   build_isl32
   if [ -e $out/isl32-build/.libs/libisl.a ]; then
@@ -73,8 +77,8 @@ build() {
   for c in $(columns); do $out/$c version | grep .; done >$out/versions.txt
 }
 
-# asked FAMILY OPERATION..: the operations, without the first point where the box is too large for every column (big),
-# for a walk over its seconds (weeks) or for a quick run (limit)
+# asked FAMILY OPERATION..: the operations, without the first point where the box is too large for a walk: most searches spend
+# the engine's limit (big), or it is one over seconds (weeks); and for a quick run (limit)
 asked() {
   local family=$1
   shift
@@ -95,7 +99,7 @@ check() {
 time_columns() {
   local f o c
   : >$out/time.csv
-  machine >$out/machine.txt
+  machine "$engine" >$out/machine.txt
   for f in $timed; do
     among $f || continue
     for o in $(asked $f $operations); do
@@ -105,15 +109,27 @@ time_columns() {
   done
 }
 
+# counted_on FAMILY: the operations whose instructions are counted, elsewhere than on dispatch those of asking
+counted_on() {
+  local o
+  for o in $(asked $1 $operations); do
+    case $1-$o in dispatch-*|*-union|*-first|*-member|*-prepared) echo $o;; esac
+  done
+}
+
 count() {
-  local o c chosen
+  local f o c chosen
   : >$out/count.csv
-  for o in $operations; do
-    chosen=$(python3 $here/table.py common $out dispatch $o $counted)
-    say "count $o: dispatch cases $chosen"
-    for c in $(columns); do
-      [ $c-$o = pitsets-prepared ] && continue
-      echo "$c,$o,$(wc -w <<<"${chosen//,/ }"),$(instructions $c dispatch $o $chosen)" >>$out/count.csv
+  for f in dispatch limit big; do
+    among $f || continue
+    for o in $(counted_on $f); do
+      chosen=$(python3 $here/table.py common $out $f $o $counted)
+      [ -n "$chosen" ] || continue
+      say "count $o: $f cases $chosen"
+      for c in $(columns); do
+        [ $c-$o = pitsets-prepared ] && continue
+        echo "$c,$f,$o,$(wc -w <<<"${chosen//,/ }"),$(instructions $c $f $o $chosen)" >>$out/count.csv
+      done
     done
   done
 }
@@ -123,7 +139,7 @@ if has build; then build; fi
 if has make; then make_workloads; fi
 if has check; then check; fi
 if has time; then time_columns; fi
-if has count && among dispatch; then count; fi
+if has count; then count; fi
 if has table; then
   say "done"
   python3 $here/table.py table $out $mode $seed | tee $out/table.md

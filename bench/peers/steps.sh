@@ -47,10 +47,11 @@ make_workloads() {
   $out/workload weeks $((seed + 5)) 100 $out/weeks.work
 }
 
+# machine [CLONE]: what is measured and where; the clone is the engine's
 machine() {
   echo "processor: $(grep -m 1 'model name' /proc/cpuinfo | sed 's/.*: //'), $(getconf _NPROCESSORS_ONLN) of them"
   echo "load average before the timing: $(cut -d ' ' -f 1-3 /proc/loadavg)"
-  echo "repository: $(git rev-parse --short HEAD 2>/dev/null || echo 'no commit'); kit: $(rt version)"
+  echo "repository: $(git -C "${1:-.}" rev-parse --short HEAD 2>/dev/null || echo 'no commit'); kit: $(rt version)"
 }
 
 # instructions COLUMN FAMILY OPERATION CASE,..: callgrind's sum over the cases

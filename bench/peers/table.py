@@ -17,6 +17,12 @@ OPERATIONS = {
     "empty": "is E \\ A empty: difference, then emptiness", "subset": "the same, by the peer's own call for E ⊆ A", "union": "union A ∪ C",
     "member": "member, one question", "prepared": "member, point prepared", "first": "first point of A \\ C in the box"}
 QUESTIONS = 256  # of one case of member
+FAST_PEERS = ["isl32", "mlir19"]
+ASKING_FAMILIES = ["dispatch", "limit", "big"]
+# of asking: the least ratio of medians to the best of these peers that is wanted; union and member on each of the families
+TARGETS = {
+    "union": dict.fromkeys(ASKING_FAMILIES, 1.0), "prepared": dict.fromkeys(ASKING_FAMILIES, 1.8),
+    "first": {"dispatch": 3, "limit": 4}}
 
 Case = collections.namedtuple("Case", "status ns answer basic_sets constraints")
 
@@ -66,13 +72,23 @@ def markdown(head, body):
     print()
 
 
-def ratio(values):
+def ratio(values, peers=PEERS):
     """Best peer over the engine: above 1 the engine is ahead."""
-    peers = {c: v for c, v in values.items() if c != OURS and v}
+    peers = {c: v for c, v in values.items() if c in peers and v}
     if not peers or not values.get(OURS):
         return "-"
     best = min(peers, key=peers.get)
     return f"{peers[best] / values[OURS]:.2f} ({best})"
+
+
+def medians_and_totals(run, family, operation, cases):
+    """Of each column the median of the cases in µs, of one question where a case has many, and their total in ms."""
+    median, total = {}, {}
+    for c in columns(run):
+        ns = [of(run, family, operation, c)[case].ns for case in cases]
+        median[c] = statistics.median(ns) / 1000 / (QUESTIONS if operation in ("member", "prepared") else 1)
+        total[c] = sum(ns) / 1e6
+    return median, total
 
 
 def time_table(run, family):
@@ -81,21 +97,31 @@ def time_table(run, family):
         cases = common(run, family, operation)
         if not cases:
             continue
-        median, total = {}, {}
-        for c in columns(run):
-            ns = [of(run, family, operation, c)[case].ns for case in cases]
-            median[c] = statistics.median(ns) / 1000 / (QUESTIONS if operation in ("member", "prepared") else 1)
-            total[c] = sum(ns) / 1e6
+        median, total = medians_and_totals(run, family, operation, cases)
         body.append([words, len(cases)] + [f"{figure(median[c])}; {figure(total[c])}" for c in columns(run)] + [ratio(median), ratio(total)])
     if body:
         print(f"### {family}: median of the cases in µs; total in ms\n")
         markdown(["operation", "cases"] + columns(run) + ["ratio of medians", "ratio of totals"], body)
 
 
-def count_table(folder):
+def asking_table(run):
+    body = []
+    for operation, targets in TARGETS.items():
+        for family, target in targets.items():
+            if cases := common(run, family, operation):
+                median, _ = medians_and_totals(run, family, operation, cases)
+                shown = [figure(median[c]) for c in FAST_PEERS + [OURS] if c in median]
+                body.append([OPERATIONS[operation], family, len(cases)] + shown + [ratio(median, FAST_PEERS), target])
+    if body:
+        print("### asking: medians of the cases in µs; ratio to the best of isl32 and MLIR\n")
+        shown = [c for c in FAST_PEERS + [OURS] if c in columns(run)]
+        markdown(["question", "workload", "cases"] + shown + ["ratio of medians", "wanted"], body)
+
+
+def count_table(folder, family):
     counts = collections.defaultdict(dict)
-    for column, operation, cases, n in lines(folder, "count.csv"):
-        if n:
+    for column, f, operation, cases, n in lines(folder, "count.csv"):
+        if n and f == family:
             counts[operation][column] = int(n) / int(cases) / (QUESTIONS if operation in ("member", "prepared") else 1) / 1000
     if OURS in counts["member"]:
         counts["prepared"][OURS] = counts["member"][OURS]
@@ -106,7 +132,7 @@ def count_table(folder):
         if by:
             body.append([words] + [figure(by[c]) if c in by else "-" for c in shown] + [ratio(by)])
     if body:
-        print("### dispatch: instructions in thousands (callgrind, mean of a few cases)\n")
+        print(f"### {family}: instructions in thousands (callgrind, mean of a few cases)\n")
         markdown(["operation"] + shown + ["ratio"], body)
 
 
@@ -232,7 +258,9 @@ def table(folder, mode, seed):
     print(f"\nSeed {seed}, mode {mode}. Ratio: the best peer's figure over the engine's, above 1 the engine is ahead.\n")
     for family in FAMILIES:
         time_table(run, family)
-    count_table(folder)
+    asking_table(run)
+    for family in FAMILIES:
+        count_table(folder, family)
     refusals(run)
     for family in FAMILIES:
         sizes(run, family)

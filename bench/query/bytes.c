@@ -1,5 +1,5 @@
-/* What a member costs: the check of a set's bytes, the whole question, which judges the rules where they stand, and a basic set decoded into a
- * struct first. Least of many rounds. */
+/* What member and union cost: the check of a set's bytes, the whole question, which judges the rules where they stand, a
+ * union of the set with itself, and a basic set decoded into a struct first. Least of many rounds. */
 #define _POSIX_C_SOURCE 200809L
 #include <stdint.h>
 #include <stdio.h>
@@ -8,6 +8,7 @@
 
 uint32_t probe_check(size_t, const uint8_t *, size_t);
 uint64_t probe_member(size_t, const uint8_t *, size_t, int32_t, int32_t, int32_t, int32_t, int32_t, int32_t, int32_t, int32_t);
+size_t probe_union(size_t, const uint8_t *, size_t, const uint8_t *, size_t, uint8_t *, size_t);
 size_t probe_tests(size_t, const uint8_t *, size_t, size_t);
 
 enum { AXES = 5, SETS = 5, DIVISIONS = 2, RULES = 13, ROUNDS = 3000, CALLS = 100 };
@@ -46,20 +47,23 @@ static uint8_t *basic_set(uint8_t *s)
 
 int main(void)
 {
-    static uint8_t set[8000];
+    static uint8_t set[8000], result[16000];
     uint8_t *end = basic_set(set);
     size_t one = (size_t)(end - set), all;
     for (int b = 1; b < SETS; b++) end = basic_set(end);
     all = (size_t)(end - set);
-    double check = 1e9, member = 1e9, alone = 1e9, decoded = 1e9;
+    double check = 1e9, member = 1e9, joined = 1e9, alone = 1e9, decoded = 1e9;
     uint64_t sum = 0;
     for (int r = 0; r < ROUNDS; r++) {
         LEAST(check, probe_check(AXES, set, all));
         LEAST(member, probe_member(AXES, set, all, -3, 4, -7, 2, 9, 0, 0, 0));
+        LEAST(joined, probe_union(AXES, set, all, set, all, result, 2 * all));
         LEAST(alone, probe_check(AXES, set, one));
         LEAST(decoded, probe_tests(AXES, set, one, 0));
     }
-    printf("%d basic sets, %zu bytes: check %.0f ns, member %.0f ns (%d basic sets judged from their bytes: %.0f ns)\n", SETS, all, check, member, SETS, member - check);
+    printf("%d basic sets, %zu bytes: check %.0f ns, member %.0f ns (%d basic sets judged from their bytes: %.0f ns)\n",
+           SETS, all, check, member, SETS, member - check);
+    printf("union with itself: %.0f ns (beside the check of both: %.0f ns)\n", joined, joined - 2 * check);
     printf("one basic set, %zu bytes: check %.0f ns; check, decode and a tableau of 9 KB set to 0: %.0f ns\n", one, alone, decoded);
     return sum == 0;
 }
