@@ -9,7 +9,7 @@ use native.Mathlib.Nat.{zero-add, zero-lt-suc, not-suc-le-zero, le-of-suc-le-suc
 use native.Mathlib.Omega.{arith}
 use lib.Dec.{T, leb→le}
 use lib.IntN.{ℤ, pos}
-use lib.ListN.{length, getD, set}
+use lib.ListN.{length, getD, List·getD-map}
 use lib.Seq.{getD-set-other}
 use Rattle.model.specs.Lists.{filter, consIf}
 use Rattle.model.specs.Sets.{Kind, BasicSet, isZero}
@@ -55,14 +55,9 @@ unfolding exchange
 exchange-leaves i j k t n e =
     let r : Row = getD (t .rows) i noRow in
     getD-set-other (map (replaced r j) (t .rows)) i k (solved r j (getD (t .cols) j 0)) noRow n
-    ∙ at r (t .rows) k
+    ∙ List·getD-map (replaced r j) (t .rows) k noRow
     ∙ stays (isZero (entry (getD (t .rows) k noRow) j)) _ _ (ap isZero e)
   where
-    at : (r : Row) (rs : List Row) (k : ℕ) → getD (map (replaced r j) rs) k noRow ≡ replaced r j (getD rs k noRow)
-    at r [] k = refl
-    at r (s ∷ rs) zero = refl
-    at r (s ∷ rs) (suc k) = at r rs k
-
     stays : (b : Bool) (s s′ : Row) → b ≡ true → cond b s s′ ≡ s
     stays b s s′ q = ap (λ (b : Bool). cond b s s′) q
 
