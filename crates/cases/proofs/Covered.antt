@@ -15,7 +15,7 @@ use Rattle.algebra.specs.Cut.{keeps, difference}
 use Rattle.algebra.specs.Operations.{differenceBytes}
 use Rattle.algebra.proofs.Contracts.{Operation, difference-bytes}
 use Rattle.query.proofs.Means.{decoded-means}
-use Rattle.search.specs.Search.{Interval, nothing, spent, Tallied, firstPoint, boxOf, searchBytes}
+use Rattle.search.specs.Search.{Interval, nothing, spent, Tallied, searchBox, boxOf, searchBytes}
 use Rattle.search.proofs.Walks.{In}
 use Rattle.search.proofs.Searched.{Searched, searched, sides, few-axes, none-covered, covered-none}
 
@@ -59,8 +59,8 @@ module _ (n room : ℕ) (a b c : List ℕ) (pa : Bytes a) (pb : Bytes b) (cut : 
       few-take : (n : ℕ) (l : List Interval) → n ≤ 8 → length (take n l) ≤ 8
       few-take n l k = omega (arith, length-take n l)
 
-  answer-is : firstPoint (r .s) (side ∷ others) limit ≡ t
-  answer-is = ap (λ (bs : List Interval). firstPoint (r .s) bs limit) (sym box-is) ∙ r .answer
+  answer-is : searchBox (r .s) (side ∷ others) limit ≡ t
+  answer-is = ap (λ (bs : List Interval). searchBox (r .s) bs limit) (sym box-is) ∙ r .answer
 
   pub none-then-covered : t .found ≡ nothing → (s u : Set) → decode n a ≡ gives s → decode n b ≡ gives u → Covers s u
   none-then-covered e s u p q x i w =

@@ -68,11 +68,33 @@ firstPoint s box limit =
     let w : Walk = walk s [] box in
     cond (leb (w .tested) limit) (record { found = foundOf (w .found); tested = w .tested }) (record { found = spent; tested = limit })
 
+-- ---- of a window that may be shut (02, request 7)
+
+-- no low is over its high
+abbrev pub upright : List Interval → Bool
+upright box = all (λ (s : Interval). leZ (s .low) (s .high)) box
+
+-- "none with a tally of 0"
+abbrev pub shut : Tallied
+shut = record { found = nothing; tested = 0 }
+
+-- "Let the search answer none with a tally of 0 there": no prefix is tested, wherever the low over its high is
+unfoldable pub searchBox : Set → List Interval → ℕ → Tallied
+searchBox s box limit = cond (upright box) (firstPoint s box limit) shut
+
 -- ---- on bytes: 1 to 9 of the set, then 12, then 13
 
--- 12 of a box: the lows, the highs, "low over high"
+-- 12 of a search's lows and highs: "A coordinate out of range or an absent axis not 0 is still 12"
+abbrev pub cornersFit : ℕ → List ℤ → List ℤ → Bool
+cornersFit n ls hs = pointFits n ls && pointFits n hs
+
+-- 12 of a box that may not be shut: "the range question of the scales still refuses such a box"
 abbrev pub boxFits : ℕ → List ℤ → List ℤ → Bool
-boxFits n ls hs = pointFits n ls && (pointFits n hs && all (λ (s : Interval). leZ (s .low) (s .high)) (boxOf ls hs))
+boxFits n ls hs = cornersFit n ls hs && upright (boxOf ls hs)
+
+-- 13
+abbrev pub limitFits : ℕ → Bool
+limitFits limit = ltb 0 limit && leb limit 1000000
 
 unfoldable pub searchBytes : ℕ → List ℕ → List ℤ → List ℤ → ℕ → Answer Tallied
 searchBytes n a ls hs limit = onSet (decode n a)
@@ -80,6 +102,6 @@ searchBytes n a ls hs limit = onSet (decode n a)
     onSet : Answer Set → Answer Tallied
     onSet (refused m) = refused m
     onSet (gives s) =
-        cond (boxFits n ls hs)
-        (cond (ltb 0 limit && leb limit 1000000) (gives (firstPoint s (take n (boxOf ls hs)) limit)) (refused 13))
+        cond (cornersFit n ls hs)
+        (cond (limitFits limit) (gives (searchBox s (take n (boxOf ls hs)) limit)) (refused 13))
         (refused 12)

@@ -1,11 +1,11 @@
 -- What the first-point search's code computes: ends of sums over the sides of a box, and the walk with what is left of the limit.
 use mathlib.Core.Path.{_≡_}
-use mathlib.Core.Bool.{Bool, true, cond}
+use mathlib.Core.Bool.{true, cond}
 use mathlib.Core.List.{List, [], _++_}
 use Prim.Native.Nat.{ℕ, _+_, _-_, _≤_, _<_}
 use lib.Dec.{leb}
 use lib.IntN.{ℤ, pos}
-use lib.Signed.{leZ, _≤ℤ_}
+use lib.Signed.{_≤ℤ_}
 use lib.ListN.{length, take, drop, getD, replicate}
 use Rattle.codec.specs.Bytes.{Answer, refused, gives, decode, number}
 use Rattle.codec.specs.Places.{Accepted}
@@ -39,11 +39,7 @@ pub record Standing (s : List ℕ) (n k : ℕ) (low high : List ℤ) : Type 0 wh
   pub fixed : take k low ≡ take k high
   pub absent : drop n low ≡ replicate (8 - n) (pos 0)
 
--- "low over high" is refused
-abbrev pub ordered : Interval → Bool
-ordered s = leZ (s .low) (s .high)
-
--- checked bytes, and a box that fits their axes
+-- checked bytes, and a box that fits their axes and is not shut
 pub record Boxed (n : ℕ) (s : List ℕ) (low high : List ℤ) : Type 0 where
   pub accepted : number (decode n s) ≡ 0
   pub box : boxFits n low high ≡ true

@@ -2,11 +2,11 @@
 ghost use mathlib.Core.Path.{_≡_};
 ghost use mathlib.Core.List.{[]};
 ghost use lib.ListN.{length, take};
-ghost use Rattle.model.specs.Lists.{all};
 ghost use Rattle.codec.specs.Bytes as B;
 ghost use Rattle.codec.specs.Places.{Accepted, setFrom};
-ghost use Rattle.search.specs.Search.{boxOf, walk, boxFits, searchBytes, Tallied};
-ghost use Rattle.search.specs.Sides.{limited, trailOf, ordered, Boxed, answerOf};
+ghost use Rattle.search.specs.Search.{boxOf, walk, cornersFit, searchBytes, Tallied};
+ghost use Rattle.search.specs.Search as S;
+ghost use Rattle.search.specs.Sides.{limited, padded, trailOf, Boxed, answerOf};
 ghost use Rattle.search.specs.Live.{Laid};
 use crate::levels::Prefix;
 use crate::levels::Trail;
@@ -28,8 +28,8 @@ pub struct FirstPoint {
 }
 
 // Whether no low is over its high.
-fn sides_fit(low: [i32; 8], high: [i32; 8]) -> bool
-    ensures { λ r. ⌜ r ≡ all ordered (boxOf low high) ⌝ }
+fn upright(low: [i32; 8], high: [i32; 8]) -> bool
+    ensures { λ r. ⌜ r ≡ S.upright (boxOf low high) ⌝ }
 {
     let mut i = 0;
     while i < 8 {
@@ -43,16 +43,13 @@ fn sides_fit(low: [i32; 8], high: [i32; 8]) -> bool
     true
 }
 
-fn box_fits(n: usize, low: [i32; 8], high: [i32; 8]) -> bool
-    ensures { λ r. ⌜ r ≡ boxFits n low high ⌝ }
+fn corners_fit(n: usize, low: [i32; 8], high: [i32; 8]) -> bool
+    ensures { λ r. ⌜ r ≡ cornersFit n low high ⌝ }
 {
     if !query::point_fits(n, low) {
         return false;
     }
-    if !query::point_fits(n, high) {
-        return false;
-    }
-    sides_fit(low, high)
+    query::point_fits(n, high)
 }
 
 // The rows of the basic sets, and how many they are.
@@ -70,7 +67,7 @@ fn laid(s: &[u8], rows: &mut [[i64; 129]]) -> usize
     b
 }
 
-// The walk of checked bytes over a box that fits.
+// The walk of checked bytes over a box that fits and is not shut.
 fn walked(n: usize, s: &[u8], low: [i32; 8], high: [i32; 8], limit: u32) -> Trail
     requires { ⌜ Boxed n (now s) low high ⌝ }
     ensures { λ r. ⌜ r ≡ trailOf (limited limit 0 (walk (setFrom (now (s .entry)) 0) [] (take n (boxOf low high)))) ⌝ }
@@ -91,12 +88,13 @@ fn walked(n: usize, s: &[u8], low: [i32; 8], high: [i32; 8], limit: u32) -> Trai
     tallied(s, all, &mut rows)
 }
 
-fn refused(m: u32) -> FirstPoint
-    ensures { λ r. ⌜ r ≡ answerOf (B.refused m) ⌝ }
+// An answer for which no prefix is tested.
+fn untested(answer: Outcome) -> FirstPoint
+    ensures { λ r. ⌜ r ≡ record { outcome = answer; point = padded []; tested = 0 } ⌝ }
 {
     let z = zeros();
     FirstPoint {
-        outcome: Outcome::Refused(m),
+        outcome: answer,
         point: z,
         tested: 0,
     }
@@ -133,16 +131,19 @@ pub fn first_point(n: usize, set: &[u8], lows: [i32; 8], highs: [i32; 8], limit:
 {
     let c = codec::check(n, set);
     if c != 0 {
-        return refused(c);
+        return untested(Outcome::Refused(c));
     }
-    if !box_fits(n, lows, highs) {
-        return refused(12);
+    if !corners_fit(n, lows, highs) {
+        return untested(Outcome::Refused(12));
     }
     if limit == 0 {
-        return refused(13);
+        return untested(Outcome::Refused(13));
     }
     if 1000000 < limit {
-        return refused(13);
+        return untested(Outcome::Refused(13));
+    }
+    if !upright(lows, highs) {
+        return untested(Outcome::Nothing);
     }
     answered(walked(n, set, lows, highs, limit))
 }

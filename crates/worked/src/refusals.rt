@@ -100,6 +100,7 @@ fn searched(words: &[u8], low: i32, high: i32, limit: u32) {
     ));
 }
 
+// A window that shuts before it opens is not refused (document 02, request 7).
 pub fn asking() {
     searched(b"low 5, high 4: ", 5, 4, 1);
     searched(b"coordinate 1048577: ", 0, 1048577, 1);

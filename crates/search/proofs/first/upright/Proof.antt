@@ -7,16 +7,14 @@ use lib.ListN.{length, drop, getD}
 use mir.Syntax.{w32}
 use mir.Val.{SFits}
 use Rattle.integers.specs.Mach.{b-of, is-lt, is-ge}
-use Rattle.model.specs.Lists.{all}
-use Rattle.search.specs.Search.{boxOf}
-use Rattle.search.specs.Sides.{ordered}
+use Rattle.search.specs.Search.{boxOf, upright}
 use Rattle.query.proofs.Points.{le-yes, le-no}
 use Rattle.search.proofs.Searching.{sides-next, sides-stop, sides-end}
-use Rattle.search.proofs.first.sides_fit.Statement.{statement}
-use Rattle.search.proofs.first.sides_fit.Tie as tie
+use Rattle.search.proofs.first.upright.Statement.{statement}
+use Rattle.search.proofs.first.upright.Tie as tie
 
 abbrev Inv-loop : tie.InvT-loop
-Inv-loop low high i₀ i = (i ≤ 8) × (length low ≡ 8) × (length high ≡ 8) × (all ordered (boxOf (drop i low) (drop i high)) ≡ all ordered (boxOf low high))
+Inv-loop low high i₀ i = (i ≤ 8) × (length low ≡ 8) × (length high ≡ 8) × (upright (boxOf (drop i low) (drop i high)) ≡ upright (boxOf low high))
 
 abbrev μ-loop : tie.MeasureT-loop
 μ-loop low high i₀ i = 8 - i
@@ -57,8 +55,8 @@ loop-again c =
 returns-2 : tie.Need-returns-2 Inv-loop μ-loop
 returns-2 c = let m = c .before in let st = m .before in let v = m .loop .inv in sides-end (st .args .t1) (st .args .t2) (m .loop .i) (v .3) (omega arith)
 
-pub sides-fit-spec : {M : Type 1} → statement M
-sides-fit-spec =
+pub upright-spec : {M : Type 1} → statement M
+upright-spec =
     tie.close
     (tie.spec
     Inv-loop
