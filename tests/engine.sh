@@ -37,7 +37,7 @@ counted "stored calls" tools/target/release/hexscript calls target/tests/probe -
 held 5 "$calls" check part
 held 6 $((2 * calls)) member holder
 held 10 "$calls" search
-counted "runs of failing prefixes among these" tools/target/release/generate searches "$calls" 10
+counted "shut windows and runs of failing prefixes among these" tools/target/release/generate searches "$calls" 10
 held 7 $((5 * calls)) test
 counted "wide at 64 bits and rows built among these" tools/target/release/generate tests $((5 * calls)) 7
 held 8 "$calls" union intersection difference complement

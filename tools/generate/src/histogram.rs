@@ -3,7 +3,7 @@
 use crate::{calls, events, runs, scripts};
 use hexscript::tokens::unhex;
 use second::algebra::{complement, difference, intersection, union, Watch};
-use second::ask::{check_limit, check_sides, Sides};
+use second::ask::{check_corners, check_limit, Sides};
 use second::test::test;
 use second::{parse, BasicSet, Outcome, Set};
 use std::collections::BTreeMap;
@@ -62,7 +62,7 @@ pub fn wanted() -> Vec<String> {
     let tests = ANSWERS.iter().map(|answer| format!("test {answer}"));
     let others = ["search at", "search none", "search spent"];
     let carried = TESTING.iter().flat_map(|kind| ANSWERS.map(|answer| carried(kind, answer)));
-    let others = others.into_iter().chain(events::EVENTS).chain(runs::EVENTS).map(str::to_string);
+    let others = others.into_iter().chain(SHUT).chain(events::EVENTS).chain(runs::EVENTS).map(str::to_string);
     refusals.chain(tests).chain(others).chain(carried).chain(built_names()).collect()
 }
 
@@ -146,9 +146,17 @@ fn count_events(kind: &str, a: &Set, b: &Set, counts: &mut Counts) {
     }
 }
 
-/// Counts the runs of a search, where it is not refused.
-fn count_runs(set: &Set, limit: u32, sides: &Sides, counts: &mut Counts) {
-    if check_sides(set.n, sides).is_ok() && check_limit(limit).is_ok() {
+/// Windows that shut before they open.
+pub const SHUT: [&str; 2] = ["shut on the first axis", "shut on a later axis only"];
+
+/// Counts a search that is not refused: a shut window, or else its runs.
+fn count_search(set: &Set, limit: u32, sides: &Sides, counts: &mut Counts) {
+    if check_corners(set.n, sides).is_err() || check_limit(limit).is_err() {
+        return;
+    }
+    if sides.is_shut() {
+        bump(counts, SHUT[usize::from(sides.low[0] <= sides.high[0])]);
+    } else {
         runs::count(set, sides, limit, counts);
     }
 }
@@ -160,7 +168,8 @@ fn asked(command: &[u8]) -> (u32, Sides) {
     (number(2) as u32, Sides { low: eight(6), high: eight(38) })
 }
 
-/// Counts the answers of the tests that a script's operations make, what they tighten, and the runs of its searches.
+/// Counts the answers of the tests that a script's operations make, what they tighten, its shut windows, and the runs of
+/// its other searches.
 /// Its output shows none of these.
 fn count_tests(script: &[u8], counts: &mut Counts) {
     let Some(&[0x10, n @ 1..=8]) = script.get(..2) else { return };
@@ -172,7 +181,7 @@ fn count_tests(script: &[u8], counts: &mut Counts) {
         }
         if command[0] == 0x47 {
             let (limit, sides) = asked(command);
-            count_runs(&sets[target], limit, &sides, counts);
+            count_search(&sets[target], limit, &sides, counts);
         }
         let kind = kind_of(command);
         let set = |i: usize| command.get(i).and_then(|&number| sets.get(usize::from(number)));
@@ -231,7 +240,7 @@ fn count_tested(call: &str, counts: &mut Counts) {
     }
 }
 
-/// Counts the runs of a call of the search.
+/// Counts a call of the search.
 fn count_searched(call: &str, counts: &mut Counts) {
     let words: Vec<&str> = call.split(' ').collect();
     let ["search", n, bytes, limit, coordinates @ ..] = &words[..] else { return };
@@ -239,7 +248,7 @@ fn count_searched(call: &str, counts: &mut Counts) {
     let numbers: Vec<i32> = coordinates.iter().filter_map(|word| word.parse().ok()).collect();
     let eight = |at: usize| numbers.get(at..at + 8)?.try_into().ok();
     if let (Some(set), Ok(limit), Some(low), Some(high)) = (set(), limit.parse(), eight(0), eight(8)) {
-        count_runs(&set, limit, &Sides { low, high }, counts);
+        count_search(&set, limit, &Sides { low, high }, counts);
     }
 }
 
@@ -250,7 +259,7 @@ pub fn of_tests(count: u64, seed: u64) -> Counts {
     counts
 }
 
-/// The long runs of so many calls of the search.
+/// The shut windows and the long runs of so many calls of the search.
 pub fn of_searches(count: u64, seed: u64) -> Counts {
     let mut counts = Counts::new();
     (0..count).for_each(|index| count_searched(&calls::call(seed, index, &["search"]), &mut counts));

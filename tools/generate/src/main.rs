@@ -100,7 +100,8 @@ fn print_tests(count: u64, seed: u64) -> ExitCode {
 }
 
 fn print_searches(count: u64, seed: u64) -> ExitCode {
-    closing(&print_each(&histogram::of_searches(count, seed), &runs::EVENTS.map(str::to_string)))
+    let names: Vec<String> = histogram::SHUT.into_iter().chain(runs::EVENTS).map(str::to_string).collect();
+    closing(&print_each(&histogram::of_searches(count, seed), &names))
 }
 
 fn closing(checks: &[bool]) -> ExitCode {

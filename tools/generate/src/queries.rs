@@ -25,6 +25,16 @@ pub fn any_point(rng: &mut Rng, n: usize) -> [i32; 8] {
     out
 }
 
+/// Puts a low over its high: on every side that has two values or more, or on one axis only that is not the first.
+fn shut(rng: &mut Rng, n: usize, low: &mut [i32; 8], high: &mut [i32; 8]) {
+    if n == 1 || rng.chance(30) {
+        std::mem::swap(low, high);
+    } else {
+        let axis = 1 + rng.below(n - 1);
+        low[axis] = high[axis] + rng.range(1, 3) as i32;
+    }
+}
+
 /// A box of at most a few thousand prefixes, so that walking it all takes no time.
 pub fn any_box(rng: &mut Rng, n: usize) -> ([i32; 8], [i32; 8]) {
     let widest = match n {
@@ -47,7 +57,7 @@ pub fn any_box(rng: &mut Rng, n: usize) -> ([i32; 8], [i32; 8]) {
         }
         0 => spoil(rng, n, &mut low),
         1 => spoil(rng, n, &mut high),
-        2 => std::mem::swap(&mut low, &mut high),
+        2 | 5 | 6 => shut(rng, n, &mut low, &mut high),
         _ => {}
     }
     (low, high)

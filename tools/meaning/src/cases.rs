@@ -188,6 +188,11 @@ impl Case {
         }
     }
 
+    fn search_call(&self, limit: u32, low: &[i32; 8]) -> String {
+        let words = |p: &[i32; 8]| p.map(|x| x.to_string()).join(" ");
+        format!("search {} {} {limit} {} {}", self.n, hex(&encode(&self.a)), words(low), words(&self.high))
+    }
+
     /// The tally of the whole walk decides which limits are worth asking for.
     fn search(self: &Rc<Case>, rng: &mut Rng) -> Check {
         let set = meaning(&self.a);
@@ -200,11 +205,19 @@ impl Case {
             _ => (whole.tally + rng.below(3) as u32).max(2) - 1,
         };
         let expected = walk(limit).answer();
-        let words = |p: &[i32; 8]| p.map(|x| x.to_string()).join(" ");
-        let (low, high) = (words(&self.low), words(&self.high));
-        let call = format!("search {} {} {limit} {low} {high}", self.n, hex(&encode(&self.a)));
+        let call = self.search_call(limit, &self.low);
         let first = self.points.iter().find(|p| holds(&set, *p)).map(|p| p[..self.n].to_vec());
         Check { call, judge: Box::new(move |answer| judge_search(answer, &expected, &first)) }
+    }
+
+    /// The box with a low over its high on one axis: it has no point, and no prefix is tested.
+    fn shut_search(self: &Rc<Case>, rng: &mut Rng) -> Check {
+        let axis = rng.below(self.n);
+        let mut low = self.low;
+        low[axis] = self.high[axis] + rng.range(1, 3) as i32;
+        assert!(points(self.n, &low, &self.high).is_empty());
+        let call = self.search_call(rng.range(1, 9) as u32, &low);
+        Check { call, judge: Box::new(|answer| judge_search(answer, "none 0", &None)) }
     }
 
     /// A basic set intersected with the rule-less set: kept with its rules tightened, or dropped.
@@ -332,5 +345,6 @@ pub fn checks(seed: u64, index: u64) -> Vec<Check> {
         }
     }
     out.push(test_wider(rng));
+    out.push(case.shut_search(rng));
     out
 }

@@ -47,14 +47,17 @@ pub fn check_point(n: usize, point: &Point) -> Result<(), u8> {
     }
 }
 
-/// Refusal 12 for a box.
-pub fn check_sides(n: usize, sides: &Sides) -> Result<(), u8> {
-    check_point(n, &sides.low)?;
-    check_point(n, &sides.high)?;
-    if (0..MAX_AXES).any(|i| sides.low[i] > sides.high[i]) {
-        return Err(refusal::COORDINATE);
+impl Sides {
+    /// "whose low is over its high" (document 02, request 7), on whichever axis.
+    pub fn is_shut(&self) -> bool {
+        (0..MAX_AXES).any(|i| self.low[i] > self.high[i])
     }
-    Ok(())
+}
+
+/// Refusal 12 for a search's lows and highs, which may be the wrong way round.
+pub fn check_corners(n: usize, sides: &Sides) -> Result<(), u8> {
+    check_point(n, &sides.low)?;
+    check_point(n, &sides.high)
 }
 
 /// Refusal 13.
@@ -74,13 +77,16 @@ pub fn member(set: &Set, point: &Point) -> Result<bool, u8> {
 
 /// The first point of the set in the box, or 12 or 13.
 pub fn search(set: &Set, sides: &Sides, limit: u32) -> Result<Search, u8> {
-    check_sides(set.n, sides)?;
+    check_corners(set.n, sides)?;
     check_limit(limit)?;
+    if sides.is_shut() {
+        return Ok(Search::None(0));
+    }
     Ok(walk(set, sides, limit, &mut |_, _| ()))
 }
 
-/// Prefixes in dictionary order, each shown to `watch` with whether it passes; the empty one is not tested (reading
-/// 13).
+/// Prefixes of a box that is not shut, in dictionary order, each shown to `watch` with whether it passes; the empty one
+/// is not tested (reading 13).
 pub fn walk(set: &Set, sides: &Sides, limit: u32, watch: &mut dyn FnMut(&[i32], bool)) -> Search {
     let sparse: Vec<SparseBasic> = set.basics.iter().map(SparseBasic::new).collect();
     let mut open = OpenBox::new(set.n, sides);

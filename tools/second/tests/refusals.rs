@@ -125,7 +125,7 @@ fn questions_1_then_set_then_12_then_13() {
     assert_eq!(member(1, &[], &[0, 1]), "refused 12");
     assert_eq!(search(0, &[0x99], 0, &[5], &[4]), "refused 1");
     assert_eq!(search(1, &[0x99], 0, &[5], &[4]), "refused 2");
-    assert_eq!(search(1, &[], 0, &[5], &[4]), "refused 12");
+    assert_eq!(search(1, &[], 0, &[5], &[4]), "refused 13");
     assert_eq!(search(1, &[], 0, &[0, -1], &[0, 0]), "refused 12");
     assert_eq!(search(1, &[], 0, &[0], &[0, 1]), "refused 12");
     assert_eq!(search(1, &[], 0, &[0], &[1_048_577]), "refused 12");

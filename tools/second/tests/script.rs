@@ -130,12 +130,14 @@ fn questions_refused_in_a_script() {
         .member(0, &[-1_048_577])
         .member(0, &[1_048_576])
         .member(0, &[0, 1])
+        .search(0, 0, &[5, 1], &[4])
         .search(0, 0, &[5], &[4])
+        .search(0, 1, &[5], &[4])
         .search(0, 0, &[4], &[5])
         .search(0, 1_000_001, &[4], &[5])
         .search(0, 1_000_000, &[4], &[5])
         .end();
-    let want = "axes 1\nrefused 12\nrefused 12\nout\nrefused 12\nrefused 12\n\
+    let want = "axes 1\nrefused 12\nrefused 12\nout\nrefused 12\nrefused 12\nrefused 13\nnone 0\n\
                 refused 13\nrefused 13\nnone 2\nend\n";
     assert_eq!(output, want);
 }
