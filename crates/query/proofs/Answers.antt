@@ -2,7 +2,7 @@
 use mathlib.Core.Path.{_≡_, refl, sym, ap, _∙_}
 use mathlib.Core.Bool.{Bool, true, false, _||_, cond}
 use mathlib.Core.List.{List, [], _∷_}
-use Prim.Native.Nat.{ℕ, suc, _≤_}
+use Prim.Native.Nat.{ℕ, suc, _≤_, _<_}
 use native.Mathlib.Omega.{arith}
 use lib.Dec.{ltb}
 use lib.IntN.{ℤ}
@@ -11,7 +11,7 @@ use borrow.Author.Tests.{ltb-true, ltb-false}
 use Rattle.model.specs.Sets.{Set, inBasic, inSet}
 use Rattle.codec.specs.Bytes.{Answer, refused, gives, decode, number}
 use Rattle.codec.specs.Places.{setFrom}
-use Rattle.codec.proofs.Parsing.{decode-bad, axes-over}
+use Rattle.codec.proofs.Parsing.{decode-bad, axes-zero, axes-over}
 use Rattle.codec.proofs.Boundaries.{decode-is}
 use Rattle.query.specs.Member.{memberBytes, pointFits}
 use Rattle.query.specs.Holder.{firstHolding}
@@ -24,13 +24,20 @@ module _ (n : ℕ) (s : List ℕ) where
   pub bad : (m : ℕ) → m ≡ number (decode n s) → (m ≡ 0 → ⊥) → decode n s ≡ refused m
   bad m e h = refused-of (decode n s) m e h
 
-  -- checked bytes have as many axes as there can be
+  -- checked bytes have as many axes as there can be, and at least one
   pub axes-most : number (decode n s) ≡ 0 → n ≤ 8
   axes-most z = go (ltb 8 n) refl
     where
       go : (x : Bool) → ltb 8 n ≡ x → n ≤ 8
       go false e = ltb-false 8 n e
       go true e = absurd (omega (arith, decode-bad n s (axes-over n (ltb-true 8 n e))))
+
+  pub axes-some : number (decode n s) ≡ 0 → 0 < n
+  axes-some z = go (ltb 0 n) refl
+    where
+      go : (x : Bool) → ltb 0 n ≡ x → 0 < n
+      go true e = ltb-true 0 n e
+      go false e = let k = ltb-false 0 n e in absurd (omega (arith, decode-bad n s (axes-zero n (omega arith))))
 
   pub member-refused : (x : List ℤ) (m : ℕ) → decode n s ≡ refused m → refused m ≡ memberBytes n s x
   unfolding memberBytes

@@ -11,7 +11,7 @@ use lib.IntN.{ℤ, pos, natAbs, _+ℤ_, _-ℤ_}
 use lib.Signed.{_≤ℤ_}
 use lib.ListN.{length, take, drop, getD, set, replicate, length-set, length-take, take-append-drop, drop-of-length-le}
 use lib.Seq.{take-suc-set, take-take, drop-set-lt, drop-cons, getD-take, getD-set-same, getD-set-other, take-set-lt}
-use borrow.Author.Tests.{le-leb, lt-leb, eqb-true, eqb-false}
+use borrow.Author.Tests.{le-leb, lt-leb, eqb-true, eqb-false, ltb-true, ltb-false}
 use Rattle.integers.specs.Z.{Within}
 use Rattle.integers.specs.Lin.{le, eq, abs, lin, lia-le, lia-eq, lia-abs}
 use Rattle.integers.specs.Order.{pos-nonneg}
@@ -21,20 +21,21 @@ use Rattle.model.specs.Sets.{Set}
 use Rattle.codec.specs.Places.{setFrom}
 use Rattle.search.specs.Search.{Interval, only, canHold, Walk, orElse, oneMore, upward, width, walk, Found, at, nothing, spent, Tallied, foundOf, boxOf}
 use Rattle.search.specs.Sides.{side, limited, sidesOf, Standing, padded, trailOf}
-use Rattle.search.specs.Levels.{okAt, below, Ready, ended, nextOf, stopAt, levelOf, onward, walkAt, valuesFrom, spanAt, Goes, Stopped}
+use Rattle.search.specs.Levels.{okAt, walkAt, levelOf, spanAt, valueAt, restAt, passesAt, Ready, ended, nextOf, stopAt, lowsAt, highsAt, Failed, Climbed, past, exhausted, passing}
 use Rattle.search.specs.declared.levels.Trail.{Trail}
 use Rattle.search.specs.declared.levels.Prefix.{Prefix}
 use Rattle.search.specs.declared.levels.Stop.{Stop}
 use Rattle.query.proofs.Points.{le-yes}
-use Rattle.search.specs.Live.{Rowed, Live}
+use Rattle.search.specs.Live.{Live}
+use Rattle.bounds.specs.Ends.{AllWithin}
 use Rattle.bounds.proofs.Reading.{set-within}
 
 pub lt-of : (a b : ℕ) → a ≤ b → (a ≡ b → ⊥) → a < b
 lt-of a b h f = go (ltb a b) refl
   where
     go : (x : Bool) → ltb a b ≡ x → a < b
-    go true e = borrow.Author.Tests.ltb-true a b e
-    go false e = let l = borrow.Author.Tests.ltb-false a b e in absurd (f (omega arith))
+    go true e = ltb-true a b e
+    go false e = let l = ltb-false a b e in absurd (f (omega arith))
 
 -- ---- the limit
 pub limited-in : (limit t : ℕ) (w : Walk) → t + w .tested ≤ limit → limited limit t w ≡ record { found = foundOf (w .found); tested = t + w .tested }
@@ -158,7 +159,17 @@ prefix-sides n k low high h e =
     (sym (box-take k (take n low) (take n high) ∙ ap₂ boxOf (take-take k n low h) (take-take k n high h ∙ sym e) ∙ box-only (take k low)))
     ∙ take-append-drop k (sidesOf n low high)
 
--- ---- one level
+-- ---- one level: below a value x, and its values from number i on
+abbrev below : Set → List ℤ → List Interval → ℤ → Walk
+below s p bs x = walk s (p ++ (x ∷ [])) bs
+
+abbrev valuesFrom : List ℕ → Prefix → ℕ → Walk
+valuesFrom s p i =
+    upward (okAt (setFrom s 0) (take (p .k) (p .low)) (restAt p)) (below (setFrom s 0) (take (p .k) (p .low)) (restAt p)) (suc (spanAt p) - i) (valueAt p i)
+
+abbrev pub onward : List ℕ → Prefix → ℕ → ℕ → Tallied
+onward s p i t = limited (p .limit) t (valuesFrom s p i)
+
 limited-most : (limit t : ℕ) (w : Walk) → limited limit t w .tested ≤ limit
 limited-most limit t w = go (leb (t + w .tested) limit) refl
   where
@@ -187,19 +198,27 @@ module _ (s : List ℕ) (n k : ℕ) (low high : List ℤ) (g : Standing s n k lo
   abbrev pub span : ℕ
   span = natAbs (getD high k (pos 0) -ℤ getD low k (pos 0))
 
-  abbrev pub goal : ℕ → ℕ → Tallied
+  abbrev goal : ℕ → ℕ → Tallied
   goal limit tested = limited limit tested (walk S (take k low) (drop k (sidesOf n low high)))
 
-  here : drop k (sidesOf n low high) ≡ side (getD low k (pos 0)) (getD high k (pos 0)) ∷ rest
-  here =
+  -- the level's own side and those below it; how many values it has
+  pub own-side : drop k (sidesOf n low high) ≡ side (getD low k (pos 0)) (getD high k (pos 0)) ∷ rest
+  own-side =
       let a = g .axes in let b = g .left in let c = g .lows in let d = g .highs in
       box-cons (take n low) (take n high) k (omega (arith, length-take n low)) (omega (arith, length-take n high))
       ∙ ap₂ (λ (x y : ℤ). side x y ∷ rest) (getD-take n low k (pos 0) b) (getD-take n high k (pos 0) b)
 
+  pub own-width : width (side (getD low k (pos 0)) (getD high k (pos 0))) ≡ suc span
+  own-width = ap (λ (b : Bool). cond b (suc span) 0) (le-yes first (getD high k (pos 0)) (g .ordered k))
+
   up-all : walk S (take k low) (drop k (sidesOf n low high)) ≡ upward (okAt S (take k low) rest) (below S (take k low) rest) (suc span) first
   up-all =
-      ap (walk S (take k low)) here ∙ walk-more S (take k low) (side first (getD high k (pos 0))) rest
-      ∙ ap (λ (b : Bool). upward (okAt S (take k low) rest) (below S (take k low) rest) (cond b (suc span) 0) first) (le-yes first (getD high k (pos 0)) (g .ordered k))
+      ap (walk S (take k low)) own-side ∙ walk-more S (take k low) (side first (getD high k (pos 0))) rest
+      ∙ ap (λ (c : ℕ). upward (okAt S (take k low) rest) (below S (take k low) rest) c first) own-width
+
+  -- none is below the last
+  pub rest-none : k + 1 ≡ n → rest ≡ []
+  rest-none e = box-drop (suc k) (take n low) (take n high) ∙ ap (λ (u : List ℤ). boxOf u (drop (suc k) (take n high))) (drop-of-length-le (take n low) {i = suc k} (omega (arith, length-take n low)))
 
   module _ (v : ℤ) where
     abbrev low′ : List ℤ
@@ -230,13 +249,12 @@ module _ (s : List ℕ) (n k : ℕ) (low high : List ℤ) (g : Standing s n k lo
     pub ok-set : (l h : List ℤ) → l ≡ low′ → h ≡ high′ → (x : Bool) → x ≡ any (canHold (sidesOf n l h)) S → okAt S (take k low) rest v ≡ x
     ok-set l h el eh x e = ok-is ∙ ap₂ (λ (u w : List ℤ). any (canHold (sidesOf n u w)) S) (sym el) (sym eh) ∙ sym e
 
-    pub below-is : below S (take k low) rest v ≡ walk S (take (k + 1) low′) (drop (k + 1) (sidesOf n low′ high′))
-    below-is = ap₂ (λ (p : List ℤ) (r : List Interval). walk S p r) (sym taken) (sym same-rest) ∙ ap (λ (j : ℕ). walk S (take j low′) (drop j (sidesOf n low′ high′))) (sym (add-one k))
+    -- the prefix with v and the sides below it, as the sides with v fixed have them
+    pub fixed-is : {A : Type 0} (f : List ℤ → List Interval → A) → f (take k low ++ (v ∷ [])) rest ≡ f (take (k + 1) low′) (drop (k + 1) (sidesOf n low′ high′))
+    fixed-is f = ap₂ f (sym taken) (sym same-rest) ∙ ap (λ (j : ℕ). f (take j low′) (drop j (sidesOf n low′ high′))) (sym (add-one k))
 
-    pub below-end : k + 1 ≡ n → below S (take k low) rest v ≡ record { found = some (take k low ++ (v ∷ [])); tested = 0 }
-    below-end e =
-        let z : rest ≡ [] = box-drop (suc k) (take n low) (take n high) ∙ ap (λ (u : List ℤ). boxOf u (drop (suc k) (take n high))) (drop-of-length-le (take n low) {i = suc k} (omega (arith, length-take n low))) in
-        ap (walk S (take k low ++ (v ∷ []))) z ∙ walk-done S (take k low ++ (v ∷ []))
+    below-end : k + 1 ≡ n → below S (take k low) rest v ≡ record { found = some (take k low ++ (v ∷ [])); tested = 0 }
+    below-end e = ap (walk S (take k low ++ (v ∷ []))) (rest-none e) ∙ walk-done S (take k low ++ (v ∷ []))
 
     pub padded-is : k + 1 ≡ n → padded (take k low ++ (v ∷ [])) ≡ low′
     padded-is e =
@@ -288,11 +306,11 @@ module _ (s : List ℕ) (n k : ℕ) (low high : List ℤ) (g : Standing s n k lo
       let z : first +ℤ pos 0 ≡ first = lia-eq (first ∷ []) [] (search lin depth 30) (omega arith) in let e : suc span - 0 ≡ suc span = omega arith in
       ap₂ (λ (c : ℕ) (x : ℤ). limited limit tested (upward (okAt S (take k low) rest) (below S (take k low) rest) c x)) e z ∙ ap (limited limit tested) (sym up-all)
 
-  pub record Climbing (G : Tallied) (limit t i : ℕ) : Type 0 where
-    pub within : t ≤ limit
-    pub is : limited limit t (from i) ≡ G
+  record Climbing (G : Tallied) (limit t i : ℕ) : Type 0 where
+    within : t ≤ limit
+    is : limited limit t (from i) ≡ G
 
-  pub climb-end : (G : Tallied) (limit t i : ℕ) → Climbing G limit t i → span < i → record { way = 0; point = padded []; tested = t } ≡ trailOf G
+  climb-end : (G : Tallied) (limit t i : ℕ) → Climbing G limit t i → span < i → record { way = 0; point = padded []; tested = t } ≡ trailOf G
   climb-end G limit t i c h =
       let w = c .within in
       let e : suc span - i ≡ 0 = omega arith in
@@ -313,10 +331,10 @@ module _ (s : List ℕ) (n k : ℕ) (low high : List ℤ) (g : Standing s n k lo
         let j : suc span - (i + 1) ≡ span - i = omega arith in
         ap₂ (λ (d : ℕ) (y : ℤ). upward (okAt S (take k low) rest) (below S (take k low) rest) d y) j x
 
-    pub climb-spent : t ≡ limit → record { way = 2; point = padded []; tested = t } ≡ trailOf G
+    climb-spent : t ≡ limit → record { way = 2; point = padded []; tested = t } ≡ trailOf G
     climb-spent e = sym (ap trailOf (sym now-is ∙ limited-spent (okAt S (take k low) rest) (below S (take k low) rest) (span - i) (first +ℤ pos i) limit t e))
 
-    pub climb-fail : t < limit → okAt S (take k low) rest (first +ℤ pos i) ≡ false → Climbing G limit (t + 1) (i + 1)
+    climb-fail : t < limit → okAt S (take k low) rest (first +ℤ pos i) ≡ false → Climbing G limit (t + 1) (i + 1)
     climb-fail l e =
         record { within = omega arith; is = ap (limited limit (t + 1)) more-is ∙ sym (limited-fail (okAt S (take k low) rest) (below S (take k low) rest) (span - i) (first +ℤ pos i) limit t e) ∙ now-is }
 
@@ -324,18 +342,18 @@ module _ (s : List ℕ) (n k : ℕ) (low high : List ℤ) (g : Standing s n k lo
       passed : limited limit (t + 1) (orElse (below S (take k low) rest (first +ℤ pos i)) more) ≡ G
       passed = sym (limited-pass (okAt S (take k low) rest) (below S (take k low) rest) (span - i) (first +ℤ pos i) limit t e) ∙ now-is
 
-      pub climb-at : k + 1 ≡ n → record { way = 1; point = set low k (first +ℤ pos i); tested = t + 1 } ≡ trailOf G
+      climb-at : k + 1 ≡ n → record { way = 1; point = set low k (first +ℤ pos i); tested = t + 1 } ≡ trailOf G
       climb-at q =
           let w : Walk = record { found = some (take k low ++ ((first +ℤ pos i) ∷ [])); tested = 0 } in
           let z : t + 1 + 0 ≡ t + 1 = omega arith in
           sym (ap trailOf (sym passed ∙ ap (λ (x : Walk). limited limit (t + 1) (orElse x more)) (below-end (first +ℤ pos i) q) ∙ limited-in limit (t + 1) w (omega arith) ∙ ap (λ (j : ℕ). record { found = at (take k low ++ ((first +ℤ pos i) ∷ [])); tested = j }) z)
           ∙ ap (λ (p : List ℤ). record { way = 1; point = p; tested = t + 1 }) (padded-is (first +ℤ pos i) q))
 
-      pub climb-below : G ≡ limited limit (t + 1) (orElse (walk S (take (k + 1) (set low k (first +ℤ pos i))) (drop (k + 1) (sidesOf n (set low k (first +ℤ pos i)) (set high k (first +ℤ pos i))))) (from (i + 1)))
-      climb-below = sym passed ∙ ap₂ (λ (w v : Walk). limited limit (t + 1) (orElse w v)) (below-is (first +ℤ pos i)) (sym more-is)
+      climb-below : G ≡ limited limit (t + 1) (orElse (walk S (take (k + 1) (set low k (first +ℤ pos i))) (drop (k + 1) (sidesOf n (set low k (first +ℤ pos i)) (set high k (first +ℤ pos i))))) (from (i + 1)))
+      climb-below = sym passed ∙ ap₂ (λ (w v : Walk). limited limit (t + 1) (orElse w v)) (fixed-is (first +ℤ pos i) (walk S)) (sym more-is)
 
   -- m values that fail
-  pub climb-run : (G : Tallied) (limit t i m : ℕ) → Climbing G limit t i → i + m ≤ suc span → t + m ≤ limit → ((j : ℕ) → j < m → okAt S (take k low) rest (first +ℤ pos (i + j)) ≡ false) → Climbing G limit (t + m) (i + m)
+  climb-run : (G : Tallied) (limit t i m : ℕ) → Climbing G limit t i → m ≤ suc span - i → t + m ≤ limit → ((j : ℕ) → j < m → okAt S (take k low) rest (first +ℤ pos (i + j)) ≡ false) → Climbing G limit (t + m) (i + m)
   climb-run G limit t i zero c h l f = let a : t ≡ t + 0 = omega arith in let b : i ≡ i + 0 = omega arith in subst₂ (λ (x y : ℕ). Climbing G limit x y) a b c
   climb-run G limit t i (suc m) c h l f =
       let z : i + 0 ≡ i = omega arith in
@@ -344,17 +362,132 @@ module _ (s : List ℕ) (n k : ℕ) (low high : List ℤ) (g : Standing s n k lo
       let r = climb-run G limit (t + 1) (i + 1) m d (omega arith) (omega arith) (λ j q. let y : i + suc j ≡ i + 1 + j = omega arith in subst (λ (e : ℕ). okAt S (take k low) rest (first +ℤ pos e) ≡ false) y (f (suc j) (omega arith))) in
       let a : t + 1 + m ≡ t + suc m = omega arith in let b : i + 1 + m ≡ i + suc m = omega arith in subst₂ (λ (x y : ℕ). Climbing G limit x y) a b r
 
+-- ---- the values from number `from` on, t of them failed
+module _ (s : List ℕ) (p : Prefix) (from t : ℕ) (f : Failed s p from t) (i : ℕ) (e : i ≡ from + t) where
+  -- n more
+  pub failed-more : (n : ℕ) → Failed s p i n → Failed s p from (t + n)
+  failed-more n h j l = go (ltb j t) refl
+    where
+      go : (x : Bool) → ltb j t ≡ x → passesAt s p (from + j) ≡ false
+      go true q = f j (ltb-true j t q)
+      go false q = let k = ltb-false j t q in let z : i + (j - t) ≡ from + j = omega arith in subst (λ (w : ℕ). passesAt s p w ≡ false) z (h (j - t) (omega arith))
+
+  -- the next one passes, with the sides as the code has them
+  pub climbed-passing : (tested : ℕ) → i ≤ spanAt p → tested + t < p .limit → passesAt s p i ≡ true → (l h : List ℤ) → l ≡ lowsAt p i → h ≡ highsAt p i → (live : List Bool) → Live s (sidesOf (p .n) l h) live → (r : Stop) → r ≡ stopAt p l h live (t + 1) (i + 1)
+      → Climbed s p from tested r
+  climbed-passing tested here room ok l h el eh live still r q =
+      subst (Climbed s p from tested) (sym (q ∙ ap₂ (λ (u v : List ℤ). stopAt p u v live (t + 1) (i + 1)) el eh ∙ ap (λ (j : ℕ). stopAt p (lowsAt p j) (highsAt p j) live (t + 1) (j + 1)) e))
+      (passing t f (omega arith) room (subst (λ (j : ℕ). passesAt s p j ≡ true) e ok) live
+      (subst (λ (j : ℕ). Live s (sidesOf (p .n) (lowsAt p j) (highsAt p j)) live) e (subst₂ (λ (u v : List ℤ). Live s (sidesOf (p .n) u v) live) el eh still)))
+
+-- ---- where a climb stops, whatever is walked
+
+-- a prefix of all axes is a point, and one with an axis left is gone below
+pub way-last : (a b : ℕ) → _≡_ {A = ℕ} (cond (eqb a b) 1 3) 1 → a ≡ b
+way-last a b w = go (eqb a b) refl w
+  where
+    go : (x : Bool) → eqb a b ≡ x → _≡_ {A = ℕ} (cond x 1 3) 1 → a ≡ b
+    go true e w = eqb-true a b e
+    go false e w = absurd (omega arith)
+
+way-more : (a b : ℕ) → _≡_ {A = ℕ} (cond (eqb a b) 1 3) 3 → a ≡ b → ⊥
+way-more a b w = go (eqb a b) refl w
+  where
+    go : (x : Bool) → eqb a b ≡ x → _≡_ {A = ℕ} (cond x 1 3) 3 → a ≡ b → ⊥
+    go true e w = absurd (omega arith)
+    go false e w = eqb-false a b e
+
+pub record Descends (s : List ℕ) (p : Prefix) (t : ℕ) (r : Stop) : Type 0 where
+  pub axes : r .at .n ≡ p .n
+  pub limit : r .at .limit ≡ p .limit
+  pub count : r .at .count ≡ p .count
+  pub deeper : r .at .n - r .at .k < p .n - p .k
+  pub ready : Ready s (r .at) (t + r .tested)
+
+module _ (s : List ℕ) (p : Prefix) (i t : ℕ) where
+  pub climbed-most : (r : Stop) → Climbed s p i t r → t + r .tested ≤ p .limit
+  climbed-most _ (past m f e l j) = l
+  climbed-most _ (exhausted m f h e j) = omega arith
+  climbed-most _ (passing m f h l e live v) = omega arith
+
+  -- past a value that passes fewer are left
+  pub climbed-fewer : (r : Stop) → Climbed s p i t r → (r .way ≡ 0 → ⊥) → (r .way ≡ 2 → ⊥) → suc (spanAt p) - r .next < suc (spanAt p) - i
+  climbed-fewer _ (past m f e l j) a b = absurd (a refl)
+  climbed-fewer _ (exhausted m f h e j) a b = absurd (b refl)
+  climbed-fewer _ (passing m f h l e live v) a b = omega arith
+
+  pub climbed-size : Ready s p t → (r : Stop) → Climbed s p i t r → AllWithin 1048576 (r .at .low)
+  climbed-size d _ (past m f e l j) = d .standing .low-size
+  climbed-size d _ (exhausted m f h e j) = d .standing .low-size
+  climbed-size d _ (passing m f h l e live v) =
+      let g = d .standing in let a = g .axes in let b = g .left in let c = g .lows in
+      set-within 1048576 (p .low) (p .k) (valueAt p (i + m)) (g .low-size) (value-within s (p .n) (p .k) (p .low) (p .high) g (i + m) h) (omega arith)
+
+  pub climbed-below : Ready s p t → (r : Stop) → Climbed s p i t r → r .way ≡ 3 → Descends s p t r
+  climbed-below d _ (past m f e l j) w = absurd (omega arith)
+  climbed-below d _ (exhausted m f h e j) w = absurd (omega arith)
+  climbed-below d _ (passing m f h l e live v) w =
+      let b = d .standing .left in let o : p .k + 1 < p .n = lt-of (p .k + 1) (p .n) (omega arith) (way-more (p .k + 1) (p .n) w) in
+      record {
+        axes = refl;
+        limit = refl;
+        count = refl;
+        deeper = omega arith;
+        ready = record {
+          standing = standing-next s (p .n) (p .k) (p .low) (p .high) (d .standing) (valueAt p (i + m)) o (value-within s (p .n) (p .k) (p .low) (p .high) (d .standing) (i + m) h);
+          within = omega arith;
+          fits = d .fits;
+          lives = v;
+        };
+      }
+
+-- ---- what it says of the first-point walk
+
+-- the level goes below a prefix, and then on with its next values
+abbrev pub Goes : List ℕ → Prefix → ℕ → ℕ → Stop → Type 0
+Goes s p i t r = onward s p i t ≡ limited (p .limit) (t + r .tested) (orElse (walkAt s (r .at)) (valuesFrom s p (r .next)))
+
+module _ (s : List ℕ) (p : Prefix) (i t : ℕ) (d : Ready s p t) where
+  -- m values failed
+  after : (m : ℕ) → Failed s p i m → m ≤ suc (spanAt p) - i → t + m ≤ p .limit
+      → Climbing s (p .n) (p .k) (p .low) (p .high) (d .standing) (onward s p i t) (p .limit) (t + m) (i + m)
+  after m f h l = climb-run s (p .n) (p .k) (p .low) (p .high) (d .standing) (onward s p i t) (p .limit) t i m (record { within = d .within; is = refl }) h l f
+
+  and-one : (m : ℕ) → t + (m + 1) ≡ t + m + 1
+  and-one m = omega arith
+
+  pub climbed-ends : (r : Stop) → Climbed s p i t r → (r .way ≡ 3 → ⊥) → ended r (t + r .tested) ≡ trailOf (onward s p i t)
+  climbed-ends _ (past m f e l j) n = climb-end s (p .n) (p .k) (p .low) (p .high) (d .standing) (onward s p i t) (p .limit) (t + m) (i + m) (after m f (omega arith) l) (omega arith)
+  climbed-ends _ (exhausted m f h e j) n = climb-spent s (p .n) (p .k) (p .low) (p .high) (d .standing) (onward s p i t) (p .limit) (t + m) (i + m) (after m f (omega arith) (omega arith)) h e
+  climbed-ends _ (passing m f h l e live v) n = go (eqb (p .k + 1) (p .n)) refl n
+    where
+      at : Bool → Stop
+      at b = record { way = cond b 1 3; tested = m + 1; next = i + m + 1; at = nextOf p (lowsAt p (i + m)) (highsAt p (i + m)) live }
+
+      go : (b : Bool) → eqb (p .k + 1) (p .n) ≡ b → (at b .way ≡ 3 → ⊥) → ended (at b) (t + (m + 1)) ≡ trailOf (onward s p i t)
+      go true q n =
+          ap (λ (j : ℕ). record { way = 1; point = lowsAt p (i + m); tested = j }) (and-one m)
+          ∙ climb-at s (p .n) (p .k) (p .low) (p .high) (d .standing) (onward s p i t) (p .limit) (t + m) (i + m) (after m f (omega arith) (omega arith)) h l e (eqb-true (p .k + 1) (p .n) q)
+      go false q n = absurd (n refl)
+
+  pub climbed-goes : (r : Stop) → Climbed s p i t r → r .way ≡ 3 → Goes s p i t r
+  climbed-goes _ (past m f e l j) w = absurd (omega arith)
+  climbed-goes _ (exhausted m f h e j) w = absurd (omega arith)
+  climbed-goes _ (passing m f h l e live v) w =
+      let c = after m f (omega arith) (omega arith) in climb-below s (p .n) (p .k) (p .low) (p .high) (d .standing) (onward s p i t) (p .limit) (t + m) (i + m) c h l e
+      ∙ ap (λ (j : ℕ). limited (p .limit) j (orElse (walkAt s (nextOf p (lowsAt p (i + m)) (highsAt p (i + m)) live)) (valuesFrom s p (i + m + 1)))) (sym (and-one m))
+
 -- ---- what the level below said
-module _ (s : List ℕ) (p : Prefix) (i t : ℕ) (r : Stop) (g : Goes s p i t r) (x : Stop) (m : ℕ) (e : ended x m ≡ trailOf (levelOf s (r .at) (t + r .tested))) where
+module _ (s : List ℕ) (p : Prefix) (i t : ℕ) (r : Stop) (same : r .at .limit ≡ p .limit) (g : Goes s p i t r) (x : Stop) (m : ℕ) (e : ended x m ≡ trailOf (levelOf s (r .at) (t + r .tested))) where
   abbrev under : Tallied
   under = limited (p .limit) (t + r .tested) (walkAt s (r .at))
 
   said : ended x m ≡ trailOf under
-  said = e ∙ ap (λ (j : ℕ). trailOf (limited j (t + r .tested) (walkAt s (r .at)))) (g .limit)
+  said = e ∙ ap (λ (j : ℕ). trailOf (limited j (t + r .tested) (walkAt s (r .at)))) same
 
   -- a point, or the limit: so it is of this level
   pub level-found : (x .way ≡ 0 → ⊥) → ended x m ≡ trailOf (onward s p i t)
-  level-found f = said ∙ sym (ap trailOf (g .is ∙ limited-some (p .limit) (t + r .tested) (walkAt s (r .at)) (valuesFrom s p (r .next)) (way-some under (λ z. f (ap (λ (y : Trail). y .way) said ∙ z)))))
+  level-found f = said ∙ sym (ap trailOf (g ∙ limited-some (p .limit) (t + r .tested) (walkAt s (r .at)) (valuesFrom s p (r .next)) (way-some under (λ z. f (ap (λ (y : Trail). y .way) said ∙ z)))))
 
   -- nothing: the next values
   pub level-none : x .way ≡ 0 → (m ≤ p .limit) × (onward s p (r .next) m ≡ onward s p i t)
@@ -362,57 +495,4 @@ module _ (s : List ℕ) (p : Prefix) (i t : ℕ) (r : Stop) (g : Goes s p i t r)
       let u = way-none under (sym (ap (λ (y : Trail). y .way) said) ∙ z) in
       let d : m ≡ trailOf under .tested = ap (λ (y : Trail). y .tested) said in
       let l = limited-most (p .limit) (t + r .tested) (walkAt s (r .at)) in let y = ap (λ (q : Tallied). q .tested) u in
-      (omega arith, ap (λ (j : ℕ). onward s p (r .next) j) d ∙ sym (g .is ∙ limited-none (p .limit) (t + r .tested) (walkAt s (r .at)) (valuesFrom s p (r .next)) (trailOf under .tested) u))
-
--- ---- where the code stops: t tested since value `from`, at value i
-module _ (s : List ℕ) (p : Prefix) (from tested : ℕ) (rows : List (List ℤ)) (d : Ready s p tested) (g : Standing s (p .n) (p .k) (p .low) (p .high)) (t i : ℕ) (c : Climbing s (p .n) (p .k) (p .low) (p .high) g (onward s p from tested) (p .limit) (tested + t) i) (kept : Rowed s (p .n) (p .count) rows) where
-  pub stop-ends : (r : Stop) → r .tested ≡ t → (r .way ≡ 3 → ⊥) → ended r (tested + t) ≡ trailOf (onward s p from tested) → Stopped s p from tested rows r
-  stop-ends r q f e =
-      let w = c .within in
-      record { kept = kept; most = omega arith; ends = λ _. ap (λ (j : ℕ). ended r (tested + j)) q ∙ e; goes = λ y. absurd (f y) }
-
-  abbrev value : ℤ
-  value = getD (p .low) (p .k) (pos 0) +ℤ pos i
-
-  module _ (here : i ≤ spanAt p) (later : from ≤ i) (room : tested + t < p .limit) (ok : okAt (setFrom s 0) (take (p .k) (p .low)) (drop (suc (p .k)) (sidesOf (p .n) (p .low) (p .high))) value ≡ true) (l h : List ℤ) (el : l ≡ set (p .low) (p .k) value) (eh : h ≡ set (p .high) (p .k) value) (live : List Bool) (still : Live s (sidesOf (p .n) l h) live) where
-    abbrev sum : tested + (t + 1) ≡ tested + t + 1
-    sum = omega arith
-
-    abbrev passing : Bool → Stop
-    passing b = record { way = cond b 1 3; tested = t + 1; next = i + 1; at = nextOf p l h live }
-
-    pub stop-passed : (r : Stop) → r ≡ stopAt p l h live (t + 1) (i + 1) → Stopped s p from tested rows r
-    stop-passed r q = subst (Stopped s p from tested rows) (sym q) (go (eqb (p .k + 1) (p .n)) refl)
-      where
-        go : (b : Bool) → eqb (p .k + 1) (p .n) ≡ b → Stopped s p from tested rows (passing b)
-        go true e =
-            record {
-              kept = kept;
-              most = omega arith;
-              ends = λ _. ap₂ (λ (q : List ℤ) (j : ℕ). record { way = 1; point = q; tested = j }) el sum ∙ climb-at s (p .n) (p .k) (p .low) (p .high) g (onward s p from tested) (p .limit) (tested + t) i c here room ok (eqb-true (p .k + 1) (p .n) e);
-              goes = λ y. absurd (omega arith);
-            }
-        go false e =
-            let n = eqb-false (p .k + 1) (p .n) e in let b = g .left in let o : p .k + 1 < p .n = lt-of (p .k + 1) (p .n) (omega arith) n in
-            record {
-              kept = kept;
-              most = omega arith;
-              ends = λ f. absurd (f refl);
-              goes = λ _. record {
-                axes = refl;
-                limit = refl;
-                count = refl;
-                deeper = omega arith;
-                ready = record {
-                  standing = subst₂ (λ (u v : List ℤ). Standing s (p .n) (p .k + 1) u v) (sym el) (sym eh) (standing-next s (p .n) (p .k) (p .low) (p .high) g value o (value-within s (p .n) (p .k) (p .low) (p .high) g i here));
-                  within = omega arith;
-                  fits = d .fits;
-                  lives = still;
-                };
-                fewer = omega arith;
-                is =
-                    climb-below s (p .n) (p .k) (p .low) (p .high) g (onward s p from tested) (p .limit) (tested + t) i c here room ok
-                    ∙ ap₂ (λ (u v : List ℤ). limited (p .limit) (tested + t + 1) (orElse (walk (setFrom s 0) (take (p .k + 1) u) (drop (p .k + 1) (sidesOf (p .n) u v))) (valuesFrom s p (i + 1)))) (sym el) (sym eh)
-                    ∙ ap (λ (j : ℕ). limited (p .limit) j (orElse (walkAt s (nextOf p l h live)) (valuesFrom s p (i + 1)))) (sym sum);
-              };
-            }
+      (omega arith, ap (λ (j : ℕ). onward s p (r .next) j) d ∙ sym (g ∙ limited-none (p .limit) (t + r .tested) (walkAt s (r .at)) (valuesFrom s p (r .next)) (trailOf under .tested) u))

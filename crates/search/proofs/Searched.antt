@@ -7,18 +7,18 @@ use mathlib.Core.Option.{Option, none, some}
 use Prim.Native.Nat.{ℕ, zero, suc, _≤_, _<_, zero-le}
 use native.Mathlib.Omega.{arith}
 use native.Mathlib.Nat.{not-suc-le-zero}
-use lib.Dec.{T, leb, ltb, leb→le, ltb→lt, nleb→lt}
+use lib.Dec.{T, leb, leb→le, nleb→lt}
 use lib.IntN.{ℤ}
 use lib.Signed.{leZ}
 use lib.ListN.{length, take}
 use Rattle.integers.specs.Order.{≤ℤ-trans}
 use Rattle.model.specs.Lists.{all}
 use Rattle.model.specs.Sets.{Set, inSet, wellFormed}
-use Rattle.codec.specs.Bytes.{Answer, refused, gives, number, decode, axesFit}
+use Rattle.codec.specs.Bytes.{Answer, refused, gives, number, decode}
 use Rattle.codec.proofs.Decoded.{decode-formed, no-way}
-use Rattle.codec.proofs.Parsing.{decode-bad}
+use Rattle.query.proofs.Answers.{axes-some, axes-most}
 use Rattle.search.specs.Search.{Interval, only, passes, walk, Found, at, nothing, spent, Tallied, foundOf, firstPoint, boxOf, upright, shut, searchBox, cornersFit, limitFits, searchBytes}
-use Rattle.model.proofs.Count.{and-left, and-right, from-T, to-T}
+use Rattle.model.proofs.Count.{from-T, to-T}
 use Rattle.search.proofs.Walks.{In, Says, can-pass, in-prefix, search-right}
 
 -- ---- prefixes
@@ -189,15 +189,8 @@ first-side (suc n) (x ∷ ls) [] k l h = absurd (not-suc-le-zero h)
 first-side (suc n) (x ∷ ls) (y ∷ hs) k l h = (record { low = x; high = y }, take n (boxOf ls hs), refl)
 
 module _ {n : ℕ} {a : List ℕ} {ls hs : List ℤ} {limit : ℕ} {t : Tallied} (r : Searched n a ls hs limit t) (l : 0 < length ls) (h : 0 < length hs) where
-  axes-fit : T (axesFit n)
-  axes-fit = by (axesFit n) refl
-    where
-      by : (c : Bool) → axesFit n ≡ c → T c
-      by true e = tt
-      by false e = let z : number (gives (r .s)) ≡ 1 = ap number (sym (r .decoded)) ∙ decode-bad n a e in no-way z
-
   pub few-axes : (0 < n) × (n ≤ 8)
-  few-axes = (ltb→lt 0 n (and-left (ltb 0 n) (leb n 8) axes-fit), leb→le n 8 (and-right (ltb 0 n) (leb n 8) axes-fit))
+  few-axes = let z : number (decode n a) ≡ 0 = ap number (r .decoded) in (axes-some n a z, axes-most n a z)
 
   pub sides : (b : Interval) × (bs : List Interval) × (take n (boxOf ls hs) ≡ b ∷ bs)
   sides = first-side n ls hs (few-axes .0) l h

@@ -5,28 +5,27 @@ use mathlib.Core.List.{List, [], _∷_}
 use Prim.Native.Nat.{ℕ, zero, suc, _+_, _-_, _≤_, _<_}
 use native.Mathlib.Numerals.{add-one}
 use native.Mathlib.Omega.{arith}
-use lib.Dec.{T, ltb, leb}
+use lib.Dec.{T, leb}
 use lib.IntN.{ℤ, pos}
 use lib.Signed.{leZ, _≤ℤ_, _<ℤ_, clashℤ}
 use lib.ListN.{length, take, drop, getD, replicate, length-drop, drop-of-length-le}
 use lib.Seq.{drop-cons}
-use borrow.Author.Tests.{ltb-true, ltb-false}
 use Rattle.model.specs.Lists.{all}
 use Rattle.model.specs.Sets.{Set, isZero, absent}
 use Rattle.model.proofs.Count.{and-left, and-right, from-T, to-T}
 use Rattle.model.proofs.Values.{isZero→}
 use Rattle.codec.specs.Bytes.{Answer, refused, gives, decode, number}
 use Rattle.codec.specs.Places.{setFrom}
-use Rattle.codec.proofs.Parsing.{decode-bad, axes-zero}
 use Rattle.codec.proofs.Boundaries.{decode-is}
 use Rattle.query.specs.Member.{coordinate, pointFits}
 use Rattle.search.specs.Search.{Interval, walk, Walk, Found, at, nothing, spent, Tallied, foundOf, firstPoint, boxOf, upright, shut, searchBox, cornersFit, boxFits, limitFits, searchBytes}
 use Rattle.search.specs.Sides.{limited, sidesOf, Standing, Boxed, trailOf, answerOf}
+use Rattle.search.specs.Levels.{Begun}
+use Rattle.search.specs.declared.levels.Prefix.{Prefix}
 use Rattle.search.specs.declared.levels.Trail.{Trail}
 use Rattle.search.specs.declared.first.Outcome.the-variants.{At, Nothing, Spent}
 use Rattle.query.proofs.Points.{point-within}
-use Rattle.query.proofs.Answers.{axes-most}
-use Rattle.search.proofs.Climbs.{box-take}
+use Rattle.query.proofs.Answers.{axes-some, axes-most}
 
 -- ---- the loop over the sides
 module _ (low high : List ℤ) (i : ℕ) (g : upright (boxOf (drop i low) (drop i high)) ≡ upright (boxOf low high)) where
@@ -98,7 +97,7 @@ standing-first n s low high b l h =
     record {
       accepted = record { n = n; accepted = b .accepted };
       axes = axes-most n s (b .accepted);
-      left = some (ltb 0 n) refl;
+      left = axes-some n s (b .accepted);
       lows = l;
       highs = h;
       low-size = point-within n low p;
@@ -107,15 +106,11 @@ standing-first n s low high b l h =
       fixed = refl;
       absent = zeros-of (drop n low) (and-right (all coordinate low) (absent n low) (to-T (pointFits n low) p)) ∙ ap (λ (m : ℕ). replicate m (pos 0)) (sym z);
     }
-  where
-    some : (x : Bool) → ltb 0 n ≡ x → 0 < n
-    some true e = ltb-true 0 n e
-    some false e = let k = ltb-false 0 n e in absurd (omega (arith, b .accepted, decode-bad n s (axes-zero n (omega arith))))
 
-pub walk-sides : (n : ℕ) (s : List ℕ) (low high l h : List ℤ) (limit : ℕ) (r : Trail) → l ≡ low → h ≡ high → r ≡ trailOf (limited limit 0 (walk (setFrom s 0) [] (sidesOf n l h)))
-    → r ≡ trailOf (limited limit 0 (walk (setFrom s 0) [] (take n (boxOf low high))))
-walk-sides n s low high l h limit r el eh e =
-    e ∙ ap₂ (λ (u v : List ℤ). trailOf (limited limit 0 (walk (setFrom s 0) [] (sidesOf n u v)))) el eh ∙ ap (λ (b : List Interval). trailOf (limited limit 0 (walk (setFrom s 0) [] b))) (sym (box-take n low high))
+-- where a walk begins no number is fixed, and all sides are open
+pub begun-is : {A : Type 0} {s : List ℕ} {n : ℕ} {low high : List ℤ} {limit : ℕ} {rows : List (List ℤ)} {p : Prefix} → Begun s n low high limit rows p → (f : List ℤ → List Interval → A)
+    → f (take (p .k) (p .low)) (drop (p .k) (sidesOf (p .n) (p .low) (p .high))) ≡ f [] (take n (boxOf low high))
+begun-is {p = p} b f = ap (λ (k : ℕ). f (take k (p .low)) (drop k (sidesOf (p .n) (p .low) (p .high)))) (b .whole) ∙ ap (f []) (b .sides)
 
 -- ---- the answers
 first-limited : (s : Set) (box : List Interval) (limit : ℕ) → firstPoint s box limit ≡ limited limit 0 (walk s [] box)

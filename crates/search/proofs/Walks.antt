@@ -208,10 +208,11 @@ or-some w v p e = by (w .found) refl
     by none q = let d : v .found ≡ some p = rw (q, orElse) at e in ((λ n. absurd (n q)), λ z. d)
     by (some r) q = let d : w .found ≡ some p = rw (q, orElse) at e in ((λ n. d), λ z. some-none (sym q ∙ z))
 
-abbrev up : ℤ → ℕ → ℤ
+-- the value i above x
+abbrev pub up : ℤ → ℕ → ℤ
 up x i = x +ℤ pos i
 
-up-suc : (x : ℤ) (i : ℕ) → up (x +ℤ pos 1) i ≡ up x (suc i)
+pub up-suc : (x : ℤ) (i : ℕ) → up (x +ℤ pos 1) i ≡ up x (suc i)
 up-suc x i = +ℤ-assoc x (pos 1) (pos i) ∙ ap (λ (n : ℕ). x +ℤ pos n) (native.Mathlib.Numerals.one-add i)
 
 module _ (ok : ℤ → Bool) (inside : ℤ → Walk) where
@@ -287,7 +288,7 @@ module _ (ok : ℤ → Bool) (inside : ℤ → Walk) where
 
 -- ---- the values of a side
 
-side-index : (b : Interval) (v : ℤ) → Inside v b → (i : ℕ) × (i < width b) × (v ≡ up (b .low) i)
+pub side-index : (b : Interval) (v : ℤ) → Inside v b → (i : ℕ) × (i < width b) × (v ≡ up (b .low) i)
 side-index b v h =
     let i : ℕ = natAbs (v -ℤ b .low) in
     let p : pos i ≡ v -ℤ b .low = natAbs-nonneg (sub-nonneg (h .lo)) in
@@ -298,7 +299,7 @@ side-index b v h =
       lia-eq (pos i ∷ v ∷ b .low ∷ []) (eq p ∷ []) (search lin depth 30) (omega arith),
     )
 
-index-side : (b : Interval) (i : ℕ) → i < width b → Inside (up (b .low) i) b
+pub index-side : (b : Interval) (i : ℕ) → i < width b → Inside (up (b .low) i) b
 index-side b i h = by (leZ (b .low) (b .high)) refl h
   where
     by : (c : Bool) → leZ (b .low) (b .high) ≡ c → i < cond c (suc (natAbs (b .high -ℤ b .low))) 0 → Inside (up (b .low) i) b
@@ -325,15 +326,16 @@ abbrev pub Right : Set → List ℤ → List Interval → Option (List ℤ) → 
 Right s p bs none = (zs : List ℤ) → In zs bs → T (inSet (p ++ zs) s) → ⊥
 Right s p bs (some q) = (zs : List ℤ) × (q ≡ p ++ zs) × In zs bs × T (inSet q s) × ((ys : List ℤ) → In ys bs → Before ys zs → T (inSet (p ++ ys) s) → ⊥)
 
-abbrev Ready : Set → List ℤ → List Interval → Type 0
+-- a prefix of all axes is a member
+abbrev pub Ready : Set → List ℤ → List Interval → Type 0
 Ready s p [] = T (inSet p s)
 Ready s p (b ∷ bs) = Unit {0}
 
-module _ (s : Set) (formed : T (all wellFormed s)) where
-  ready : (p : List ℤ) (bs : List Interval) → T (passes s p bs) → Ready s p bs
-  ready p [] t = to-T (inSet p s) (sym (passes-whole s p) ∙ from-T (passes s p []) t)
-  ready p (b ∷ bs) t = tt
+pub ready : (s : Set) (p : List ℤ) (bs : List Interval) → T (passes s p bs) → Ready s p bs
+ready s p [] t = subst T (passes-whole s p) t
+ready s p (b ∷ bs) t = tt
 
+module _ (s : Set) (formed : T (all wellFormed s)) where
   -- a point below a value: the value passes, so something is below it
   not-passed : (p : List ℤ) (bs : List Interval) (v : ℤ) (vs : List ℤ) → In vs bs → T (inSet (p ++ (v ∷ vs)) s)
       → (T (passes s (p ++ (v ∷ [])) bs) → walk s (p ++ (v ∷ [])) bs .found ≡ none)
@@ -350,7 +352,7 @@ module _ (s : Set) (formed : T (all wellFormed s)) where
   walk-right : (bs : List Interval) (p : List ℤ) → Ready s p bs → Right s p bs (walk s p bs .found)
   unfolding firstPoint walk
   walk-right [] p r = ([], sym (append-nil p), tt, r, λ ys h b t. none-before ys b)
-  walk-right (b ∷ bs) p r = by (walk s p (b ∷ bs) .found) refl (λ v t. walk-right bs (p ++ (v ∷ [])) (ready (p ++ (v ∷ [])) bs t))
+  walk-right (b ∷ bs) p r = by (walk s p (b ∷ bs) .found) refl (λ v t. walk-right bs (p ++ (v ∷ [])) (ready s (p ++ (v ∷ [])) bs t))
     where
       ok : ℤ → Bool
       ok v = passes s (p ++ (v ∷ [])) bs

@@ -1,17 +1,18 @@
 // The first point of a set in a box: the call, its refusals, and its walk from the whole box.
 ghost use mathlib.Core.Path.{_≡_};
 ghost use mathlib.Core.List.{[]};
-ghost use lib.ListN.{length, take};
+ghost use lib.ListN.{take};
 ghost use Rattle.codec.specs.Bytes as B;
-ghost use Rattle.codec.specs.Places.{Accepted, setFrom};
-ghost use Rattle.search.specs.Search.{boxOf, walk, cornersFit, searchBytes, Tallied};
-ghost use Rattle.search.specs.Search as S;
+ghost use Rattle.codec.specs.Places.{setFrom};
+ghost use Rattle.search.specs.Search.{boxOf, walk, searchBytes, Tallied};
 ghost use Rattle.search.specs.Sides.{limited, padded, trailOf, Boxed, answerOf};
-ghost use Rattle.search.specs.Live.{Laid};
-use crate::levels::Prefix;
 use crate::levels::Trail;
 use crate::levels::tallied;
 use crate::levels::zeros;
+use crate::windows::begin;
+use crate::windows::corners_fit;
+use crate::windows::limit_fits;
+use crate::windows::upright;
 
 pub enum Outcome {
     At,
@@ -27,64 +28,13 @@ pub struct FirstPoint {
     pub tested: u32,
 }
 
-// Whether no low is over its high.
-fn upright(low: [i32; 8], high: [i32; 8]) -> bool
-    ensures { λ r. ⌜ r ≡ S.upright (boxOf low high) ⌝ }
-{
-    let mut i = 0;
-    while i < 8 {
-        let a = low[i];
-        let b = high[i];
-        if b < a {
-            return false;
-        }
-        i += 1;
-    }
-    true
-}
-
-fn corners_fit(n: usize, low: [i32; 8], high: [i32; 8]) -> bool
-    ensures { λ r. ⌜ r ≡ cornersFit n low high ⌝ }
-{
-    if !query::point_fits(n, low) {
-        return false;
-    }
-    query::point_fits(n, high)
-}
-
-// The rows of the basic sets, and how many they are.
-fn laid(s: &[u8], rows: &mut [[i64; 129]]) -> usize
-    requires { ⌜ Accepted (now s) × (length (now rows) ≡ 32) ⌝ }
-    ensures { λ count. ⌜ Laid (now (s .entry)) (now (rows .exit)) count ⌝ }
-{
-    let mut at = 0;
-    let mut b = 0;
-    while at < s.len() {
-        rows[b] = bounds::fresh(at + 1);
-        at = codec::end_of(s, at + 1);
-        b += 1;
-    }
-    b
-}
-
 // The walk of checked bytes over a box that fits and is not shut.
 fn walked(n: usize, s: &[u8], low: [i32; 8], high: [i32; 8], limit: u32) -> Trail
     requires { ⌜ Boxed n (now s) low high ⌝ }
     ensures { λ r. ⌜ r ≡ trailOf (limited limit 0 (walk (setFrom (now (s .entry)) 0) [] (take n (boxOf low high)))) ⌝ }
 {
-    let l = query::widened(low);
-    let h = query::widened(high);
     let mut rows = [[0i64; 129]; 32];
-    let count = laid(s, &mut rows);
-    let all = Prefix {
-        n: n,
-        k: 0,
-        limit: limit,
-        count: count,
-        low: l,
-        high: h,
-        live: [true; 32],
-    };
+    let all = begin(n, s, low, high, limit, &mut rows);
     tallied(s, all, &mut rows)
 }
 
@@ -136,10 +86,7 @@ pub fn first_point(n: usize, set: &[u8], lows: [i32; 8], highs: [i32; 8], limit:
     if !corners_fit(n, lows, highs) {
         return untested(Outcome::Refused(12));
     }
-    if limit == 0 {
-        return untested(Outcome::Refused(13));
-    }
-    if 1000000 < limit {
+    if !limit_fits(limit) {
         return untested(Outcome::Refused(13));
     }
     if !upright(lows, highs) {

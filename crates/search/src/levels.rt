@@ -9,7 +9,7 @@ ghost use lib.ListN.{getD};
 ghost use Rattle.bounds.specs.Ends.{AllWithin};
 ghost use Rattle.search.specs.Sides.{padded, trailOf};
 ghost use Rattle.search.specs.Live.{Rowed};
-ghost use Rattle.search.specs.Levels.{Ready, Stopped, ended, stopAt, levelOf};
+ghost use Rattle.search.specs.Levels.{Ready, Climbed, ended, stopAt, levelOf};
 use crate::opening::opened_in;
 
 // How many prefixes were tested: one record lent to each level, which adds to it there.
@@ -121,9 +121,10 @@ fn fewer(a: u64, b: u32) -> u64
 
 // The values of axis k from number `from` on, up to one that passes; `tested` prefixes were tested before. A run of
 // values that fail is counted as far as the side and the limit go, and only its first is looked at.
-fn climb(s: &[u8], p: Prefix, from: u64, tested: u32, rows: &mut [[i64; 129]; 32]) -> Stop
+pub fn climb(s: &[u8], p: Prefix, from: u64, tested: u32, rows: &mut [[i64; 129]; 32]) -> Stop
     requires { ⌜ Ready (now s) p tested × Rowed (now s) (p .n) (p .count) (now rows) ⌝ }
-    ensures { λ r. ⌜ Stopped (now (s .entry)) p from tested (now (rows .exit)) r ⌝ }
+    ensures is { λ r. ⌜ Climbed (now (s .entry)) p from tested r ⌝ }
+    ensures rows { λ _. ⌜ Rowed (now (s .entry)) (p .n) (p .count) (now (rows .exit)) ⌝ }
 {
     let n = p.n;
     let k = p.k;

@@ -1,38 +1,23 @@
-use mathlib.Core.Path.{sym, subst₂}
-use mathlib.Core.List.{List}
-use native.Mathlib.Omega.{arith}
+use mathlib.Core.Path.{ap₂, _∙_}
+use Prim.Native.Nat.{ℕ}
 use borrow.Author.Needs.{needs}
-use lib.IntN.{ℤ}
-use Rattle.search.specs.Sides.{Boxed, sidesOf, Standing}
-use Rattle.search.proofs.Lives.{live-first}
-use Rattle.search.proofs.Searching.{standing-first, walk-sides}
+use Rattle.codec.specs.Places.{setFrom}
+use Rattle.search.specs.Search.{Walk, walk}
+use Rattle.search.specs.Sides.{limited, trailOf}
+use Rattle.search.proofs.Searching.{begun-is}
 use Rattle.search.proofs.first.walked.Statement.{statement}
 use Rattle.search.proofs.first.walked.Tie as tie
 
-widened-requires : tie.Need-widened-requires
-widened-requires c κs = search needs
-
-widened-requires-2 : tie.Need-widened-requires-2
-widened-requires-2 c κs = search needs
-
-slice-aggregate-laid : tie.Need-slice-aggregate-laid
-slice-aggregate-laid c = search needs
-
-laid-requires : tie.Need-laid-requires
-laid-requires c κs = search needs
+begin-requires : tie.Need-begin-requires
+begin-requires c κs = search needs
 
 tallied-requires : tie.Need-tallied-requires
-tallied-requires c κs =
-    let x = c .before .before in let w2 = x .before .before in let w = w2 .before in let st = w .before .before in let a = st .args in
-    let b = subst₂ (λ (u v : List ℤ). Boxed (a .n) (a .s .now) u v) (sym (w .widened .ensures .0)) (sym (w2 .widened2 .ensures .0)) (st .pre) in
-    let g : Standing (a .s .now) (a .n) 0 (w .widened .result) (w2 .widened2 .result) = standing-first (a .n) (a .s .now) (w .widened .result) (w2 .widened2 .result) b (w .widened .ensures .1) (w2 .widened2 .ensures .1) in
-    let r = x .laid .ensures .laid (a .n) (g .axes) in
-    (record { standing = g; within = omega arith; fits = st .fits .limit .fits; lives = live-first (a .s .now) (a .n) (sidesOf (a .n) (w .widened .result) (w2 .widened2 .result)) _ (r .used) }, r)
+tallied-requires c κs = let b = c .before .begin .ensures in (b .ready, b .rowed)
 
 returns : tie.Need-returns
 returns c =
-    let w2 = c .before .before .before .before .before in let w = w2 .before in let st = w .before .before in let a = st .args in
-    walk-sides (a .n) (a .s .now) (a .low) (a .high) (w .widened .result) (w2 .widened2 .result) (a .limit) (c .tallied .result) (w .widened .ensures .0) (w2 .widened2 .ensures .0) (c .tallied .ensures)
+    let x = c .before .before in let b = x .begin .ensures in
+    c .tallied .ensures ∙ ap₂ (λ (l : ℕ) (w : Walk). trailOf (limited l 0 w)) (b .limit-is) (begun-is b (walk (setFrom (x .before .before .before .args .s .now) 0)))
 
 pub walked-spec : {M : Type 1} → statement M
-walked-spec = tie.close (tie.spec widened-requires widened-requires-2 slice-aggregate-laid laid-requires tallied-requires returns)
+walked-spec = tie.close (tie.spec begin-requires tallied-requires returns)

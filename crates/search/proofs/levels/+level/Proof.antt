@@ -54,8 +54,8 @@ use Rattle.search.specs.declared.levels.Prefix.{Prefix}
 use Rattle.search.specs.declared.levels.Stop.{Stop}
 use Rattle.search.specs.Sides.{trailOf}
 use Rattle.search.specs.Live.{Rowed}
-use Rattle.search.specs.Levels.{Ready, Stopped, Goes, ended, levelOf, onward, spanAt}
-use Rattle.search.proofs.Climbs.{level-start, level-found, level-none}
+use Rattle.search.specs.Levels.{Ready, Climbed, ended, levelOf, spanAt}
+use Rattle.search.proofs.Climbs.{onward, level-start, Descends, climbed-most, climbed-fewer, climbed-below, Goes, climbed-ends, climbed-goes, level-found, level-none}
 use Rattle.search.proofs.Lent.{Rs, Rw, mach, made, Ok, Said, stop-is, stop-low, slice-at, own-slice, ref, own-tally, own-rows, Lv, binds, stop-typed, goes, told}
 use Rattle.search.proofs.levels.Tally as R
 use Rattle.search.proofs.levels.Tally.Laws as R′
@@ -135,6 +135,10 @@ guards k o held left = first k $ branches k o held (λ n. skips k $ record { prf
 at-low : (r : Stop) (u : Val) → Is Sd.the-row r (u ∷ []) → Is P.the-row (r .at) (P′.lowered (r .at) ∷ [])
 at-low r u is = subst (Is P.the-row (r .at)) (P′.lowers .val-is (r .at) (is .0 .1 .1 .1 .0) (is .1 .1 .1 .1 .1 .0)) (is .1 .1 .1 .1 .1 .0)
 
+-- what a climb says
+abbrev Rose : List ℕ → Prefix → ℕ → ℕ → Rs → Stop → Type 0
+Rose s p i t w r = Climbed s p i t r × Rowed s (p .n) (p .count) w
+
 module _ {M : Type 1} (𝓤 : URA M) (H : Heap 𝓤) (A : Atoms 𝓤) (mem : Memory → SProp 𝓤) (run : Routine → Fun 𝓤) where
   abbrev Cl : Contract 𝓤
   Cl = tripleOf 𝓤 H A climb.signature (climb.spec 𝓤 H A mem run)
@@ -151,12 +155,12 @@ module _ {M : Type 1} (𝓤 : URA M) (H : Heap 𝓤) (A : Atoms 𝓤) (mem : Mem
 module _ {M : Type 1} (𝓤 : URA M) (H : Heap 𝓤) (A : Atoms 𝓤) (W : Given 𝓤 H A) (mem : Memory → SProp 𝓤) (run : Routine → Fun 𝓤) where
   -- what is known after a call of `climb`: the rows' last value, and the facts of it
   told-climb : (κs : Lfts 2) (s : RefT (List ℕ)) (p : Prefix) (i t : ℕ) (w : RefT Rs) (r : Stop) → ent 𝓤 (ensured 𝓤 H A climb.ended (climb.clauses 𝓤 H A mem run) κs (s, (p, (i, (t, (w, tt))))) tt r)
-      (ex 𝓤 (λ (w′ : Rs). guard 𝓤 (Stopped (now s) p i t w′ r) (A .res (name w) (Rw .coded .code w′))))
+      (ex 𝓤 (λ (w′ : Rs). guard 𝓤 (Rose (now s) p i t w′ r) (A .res (name w) (Rw .coded .code w′))))
   told-climb κs s p i t w r = exE 𝓤 _ (λ ws.
-      via 𝓤 (guard 𝓤 (Stopped (now s) p i t (ws .1 .1 .1 .1 .0) r) (A .res (name w) (Rw .coded .code (ws .1 .1 .1 .1 .0))))
-      (qed W (‵ (fsep ftrue (fsep ftrue (fsep ftrue (fsep ftrue (fsep (fres (name w) (Rw .coded .code (ws .1 .1 .1 .1 .0))) ftrue))))) ∷ raw (fact 𝓤 (Stopped (now s) p i t (ws .1 .1 .1 .1 .0) r)) ∷ []) ∵
-      move ! (1 ∷ []) $ heard ! (Stopped (now s) p i t (ws .1 .1 .1 .1 .0) r) (λ e. check ! e $ fsplit ! $ drop ! $ fsplit ! $ drop ! $ fsplit ! $ drop ! $ fsplit ! $ drop ! $ fsplit ! $ keep ! (0 ∷ []) $ done !))
-      (exI 𝓤 (λ (w′ : Rs). guard 𝓤 (Stopped (now s) p i t w′ r) (A .res (name w) (Rw .coded .code w′))) (ws .1 .1 .1 .1 .0)))
+      via 𝓤 (guard 𝓤 (Rose (now s) p i t (ws .1 .1 .1 .1 .0) r) (A .res (name w) (Rw .coded .code (ws .1 .1 .1 .1 .0))))
+      (qed W (‵ (fsep ftrue (fsep ftrue (fsep ftrue (fsep ftrue (fsep (fres (name w) (Rw .coded .code (ws .1 .1 .1 .1 .0))) ftrue))))) ∷ (raw (fact 𝓤 (Climbed (now s) p i t r)) ⊛ raw (fact 𝓤 (Rowed (now s) (p .n) (p .count) (ws .1 .1 .1 .1 .0)))) ∷ []) ∵
+      move ! (1 ∷ []) $ split ! $ heard ! (Climbed (now s) p i t r) (λ e. heard ! (Rowed (now s) (p .n) (p .count) (ws .1 .1 .1 .1 .0)) (λ k. check ! (e, k) $ fsplit ! $ drop ! $ fsplit ! $ drop ! $ fsplit ! $ drop ! $ fsplit ! $ drop ! $ fsplit ! $ keep ! (0 ∷ []) $ done !)))
+      (exI 𝓤 (λ (w′ : Rs). guard 𝓤 (Rose (now s) p i t w′ r) (A .res (name w) (Rw .coded .code w′))) (ws .1 .1 .1 .1 .0)))
 
 module _ {M : Type 1} (𝓤 : URA M) (H : Heap 𝓤) (A : Atoms 𝓤) (W : Given 𝓤 H A) (mem : Memory → SProp 𝓤) (run : Routine → Fun 𝓤) (κ κ₁ κ₂ : Lft) (q q₁ q₂ : Share) (s : RefT (List ℕ)) (p : Prefix) (pv : Val) (b o : ℕ) (γ : GName) (b₂ o₂ : ℕ) (γ₂ : GName) where
   abbrev Gh : Type 0
@@ -234,6 +238,12 @@ module _ {M : Type 1} (𝓤 : URA M) (H : Heap 𝓤) (A : Atoms 𝓤) (W : Given
           move ! (18 ∷ 19 ∷ []) $ free1 ! $ move ! (16 ∷ 17 ∷ []) $ free1 ! $ move ! (14 ∷ 15 ∷ []) $ free1 ! $ move ! (12 ∷ 13 ∷ []) $ free1 ! $ move ! (10 ∷ 11 ∷ []) $ free1 ! $ move ! (8 ∷ 9 ∷ []) $ free1 ! $ move ! (6 ∷ 7 ∷ []) $ free1 ! $ free0 ! $
           by ! (exits h₀ w₀ r h′ w′ ps is said)
 
+    here : (x : Turn (now s) p (h₀ .tested)) → Ready (now s) p (x .h .tested)
+    here x = record { standing = rd .standing; within = x .within; fits = rd .fits; lives = rd .lives }
+
+    fewer : (i t : ℕ) (r : Stop) → Climbed (now s) p i t r → r .way ≡ 3 → suc (spanAt p) - r .next < suc (spanAt p) - i
+    fewer i t r c w = climbed-fewer (now s) p i t r c (λ z. omega arith) (λ z. omega arith)
+
     walk : Rowed (now s) (p .n) (p .count) w₀ → Is (ShrSlice (named 0) κ u8) s (sv ∷ []) → Self
         → ent 𝓤 (onEntry 𝓤 H A level.signature (κ, (κ₁, (κ₂, tt))) (q, (q₁, (q₂, tt))) (s, (p, (ref b o γ h₀, (ref b₂ o₂ γ₂ w₀, tt)))) (sv ∷ [], (pv ∷ [], (vptr b o ∷ [], (vptr b₂ o₂ ∷ [], tt)))))
         (WpFn 𝓤 H C Λ code.level-function (sv ∷ pv ∷ vptr b o ∷ vptr b₂ o₂ ∷ []) (Out h₀ w₀))
@@ -257,15 +267,15 @@ module _ {M : Type 1} (𝓤 : URA M) (H : Heap 𝓤) (A : Atoms 𝓤) (W : Given
         lft-new ! tt (λ α. move ! (6 ∷ 7 ∷ []) $
         use2 W (later (some (λ (δ : GName). ‵ (own-w (α ∷ []) δ (x .rows)) ⊛ ‵ (LentAgain Rw κ₂ (α ∷ []) q₂ γ₂ b₂ o₂ δ (x .rows))))) (lends-again 𝓤 H A W Rw (named 2) κ₂ (α ∷ []) q₂ γ₂ b₂ o₂ (named 2) (x .rows)) $ await ! tt $ pick ! (λ δ. split ! $
         move ! (9 ∷ []) $ use1 W (‵ Own ⊛ ‵ Own) (shr-slice-copy 𝓤 H A W (named 0) κ u8 .twice s (sv ∷ [])) $ split ! $ move ! (0 ∷ 2 ∷ 4 ∷ 10 ∷ []) $
-        nothing ! $ move ! (3 ∷ 0 ∷ []) $ join ! $ move ! (3 ∷ 0 ∷ []) $ join ! $ use3 W (raw (Cl 𝓤 H A mem run .pre (to-climb α (x .i) (x .h .tested) δ (x .rows)))) (goes-climb α (x .i) (x .h .tested) δ (x .rows) ps (x .small) tf (record { standing = rd .standing; within = x .within; fits = rd .fits; lives = rd .lives }, x .kept)) $
+        nothing ! $ move ! (3 ∷ 0 ∷ []) $ join ! $ move ! (3 ∷ 0 ∷ []) $ join ! $ use3 W (raw (Cl 𝓤 H A mem run .pre (to-climb α (x .i) (x .h .tested) δ (x .rows)))) (goes-climb α (x .i) (x .h .tested) δ (x .rows) ps (x .small) tf (here x, x .kept)) $
         -- [what the call asks; s; the rows' loan; the tally's cell; what it owns; the open borrow; obs; auth; _13; …]
         calls-at ! (fmOf 𝓤 H (W .laws) 𝓣) (Cl 𝓤 H A mem run) known (to-climb α (x .i) (x .h .tested) δ (x .rows))
         (and-then ! (load ! (from ! (stop !)) (look ! 32 refl)) (and-then ! (load ! (from ! (stop !)) (look ! 30 refl)) (and-then ! (load ! (from ! (stop !)) (look ! 24 refl)) (and-then ! (load ! (from ! (stop !)) (look ! 18 refl)) (and-then ! (load ! (from ! (stop !)) (look ! 16 refl)) (no-more !)))))) (λ u.
         use1 W (later (some (λ (r : Stop). ((‵ (flft κ q) ⊛ (‵ (flft (α ∷ []) fullShare) ⊛ ‵ ftrue)) ⊛ ‵ (Sd.the-row .own r (u ∷ []))) ⊛ raw (ensured 𝓤 H A climb.ended (climb.clauses 𝓤 H A mem run) (κ, (α ∷ [], tt)) (s, (p, (x .i, (x .h .tested, (ref b₂ o₂ δ (x .rows), tt))))) tt r)))) (id⊢ 𝓤 _) $ await ! tt $ pick ! (λ r. split ! $ move ! (1 ∷ []) $
-        use1 W (some (λ (w′ : Rs). given (Stopped (now s) p (x .i) (x .h .tested) w′ r) (‵ (fres δ (Rw .coded .code w′))))) (told-climb 𝓤 H A W mem run (κ, (α ∷ [], tt)) s p (x .i) (x .h .tested) (ref b₂ o₂ δ (x .rows)) r) $ pick ! (λ w₁. learn ! (λ st.
+        use1 W (some (λ (w′ : Rs). given (Rose (now s) p (x .i) (x .h .tested) w′ r) (‵ (fres δ (Rw .coded .code w′))))) (told-climb 𝓤 H A W mem run (κ, (α ∷ [], tt)) s p (x .i) (x .h .tested) (ref b₂ o₂ δ (x .rows)) r) $ pick ! (λ w₁. learn ! (λ ro.
         move ! (1 ∷ []) $ split ! $ move ! (1 ∷ []) $ facts ! Sd.the-row (Is Sd.the-row) (shows 𝓤 H A Sd.the-row) r (u ∷ []) (λ is.
         let h₁ : Tally = record { tested = x .h .tested + r .tested } in
-        let sf : x .h .tested + r .tested < 2 ^ 32 = let a = st .most in let c = rd .fits in omega arith in
+        let sf : x .h .tested + r .tested < 2 ^ 32 = let a = climbed-most (now s) p (x .i) (x .h .tested) r (ro .0) in let c = rd .fits in omega arith in
         split ! $ move ! (1 ∷ []) $ split ! $ move ! (1 ∷ []) $ drop ! $
         -- [the rows' new token; s's token; the rows' last value; s; the loan; the tally's cell; …; _13; …]
         land ! (from ! (stop !)) (init ! 24 refl (LL.lawful Sd.the-type Sd′.the-laws 𝓤 H A W .typed r _ is .0)) $ rewrite ! 24 (λ (y : Val). ‵ (fat fullShare Sd′.mir l6 0 y)) (stop-is r u is) refl $
@@ -279,9 +289,10 @@ module _ {M : Type 1} (𝓤 : URA M) (H : Heap 𝓤) (A : Atoms 𝓤) (W : Given
         guards ! (load ! (from ! (stop !)) (look ! 10 refl))
         (λ y.
         assigns ! (of-opd ! (load ! (from ! (stop !)) (look ! 20 refl))) (from ! (stop !)) (init ! 32 refl (stop-typed 𝓤 H A W mem run r u is)) $ forget ! 10 refl $ forget ! 12 refl $ forget ! 14 refl $ forget ! 16 refl $ forget ! 20 refl $
-        leaves l0 l1 l2 l3 l4 l5 l6 l7 l8 l9 l10 l11 l12 l13 (x .i) r h₁ w₁ refl (stop-low r u is) (st .kept, st .ends (differ (r .way) 3 y) ∙ ap trailOf (x .is)))
+        leaves l0 l1 l2 l3 l4 l5 l6 l7 l8 l9 l10 l11 l12 l13 (x .i) r h₁ w₁ refl (stop-low r u is) (ro .1, climbed-ends (now s) p (x .i) (x .h .tested) (here x) r (ro .0) (differ (r .way) 3 y) ∙ ap trailOf (x .is)))
         (λ n.
-        let g : Goes (now s) p (x .i) (x .h .tested) r = st .goes (agree (r .way) 3 n) in
+        let d : Descends (now s) p (x .h .tested) r = climbed-below (now s) p (x .i) (x .h .tested) (here x) r (ro .0) (agree (r .way) 3 n) in
+        let g : Goes (now s) p (x .i) (x .h .tested) r = climbed-goes (now s) p (x .i) (x .h .tested) (here x) r (ro .0) (agree (r .way) 3 n) in
         assigns ! (addr ! (from ! (hop ! (look ! 26 refl) (stop !)))) (from ! (stop !)) (init ! 8 refl (tt, tt)) $
         assigns ! (addr ! (from ! (hop ! (look ! 24 refl) (stop !)))) (from ! (stop !)) (init ! 6 refl (tt, tt)) $
         lft-new ! tt (λ α₁. move ! (1 ∷ 2 ∷ []) $
@@ -292,14 +303,14 @@ module _ {M : Type 1} (𝓤 : URA M) (H : Heap 𝓤) (A : Atoms 𝓤) (W : Given
         let y₁ : Gh = binds 𝓤 H A mem run κ q s (r .at) (P′.lowered (r .at)) b o (α₁ ∷ []) fullShare δ₁ h₁ b₂ o₂ (α₂ ∷ []) fullShare δ₂ w₁ in
         move ! (7 ∷ []) $ use1 W (‵ Own ⊛ ‵ Own) (shr-slice-copy 𝓤 H A W (named 0) κ u8 .twice s (sv ∷ [])) $ split ! $
         nothing ! $ move ! (5 ∷ 0 ∷ []) $ join ! $ move ! (7 ∷ 0 ∷ []) $ join ! $ move ! (7 ∷ 0 ∷ []) $ join ! $ move ! (5 ∷ 3 ∷ []) $ join ! $ move ! (1 ∷ 2 ∷ 0 ∷ []) $
-        use3 W (raw (Lv 𝓤 H A mem run .pre y₁)) (goes 𝓤 H A W mem run κ q s (r .at) (P′.lowered (r .at)) b o α₁ δ₁ h₁ b₂ o₂ α₂ δ₂ w₁ (at-low r u is) (g .ready, subst₂ (λ (a c : ℕ). Rowed (now s) a c w₁) (sym (g .axes)) (sym (g .count)) (st .kept))) $
+        use3 W (raw (Lv 𝓤 H A mem run .pre y₁)) (goes 𝓤 H A W mem run κ q s (r .at) (P′.lowered (r .at)) b o α₁ δ₁ h₁ b₂ o₂ α₂ δ₂ w₁ (at-low r u is) (d .ready, subst₂ (λ (a c : ℕ). Rowed (now s) a c w₁) (sym (d .axes)) (sym (d .count)) (ro .1))) $
         -- [what the call asks; s; the rows' loan; the tally's loan; _13; …]
-        calls-from ! (fmOf 𝓤 H (W .laws) 𝓣) (raw (Lv 𝓤 H A mem run .pre y₁)) (sv ∷ P′.lowered (r .at) ∷ vptr b o ∷ vptr b₂ o₂ ∷ []) (Lv 𝓤 H A mem run .post y₁) (self y₁ (g .deeper))
+        calls-from ! (fmOf 𝓤 H (W .laws) 𝓣) (raw (Lv 𝓤 H A mem run .pre y₁)) (sv ∷ P′.lowered (r .at) ∷ vptr b o ∷ vptr b₂ o₂ ∷ []) (Lv 𝓤 H A mem run .post y₁) (self y₁ (d .deeper))
         (and-then ! (load ! (from ! (stop !)) (look ! 28 refl)) (and-then ! (load ! (from ! (fld ! refl (stop !))) (look-in ! 18 (sub ! 3 refl (whole !)))) (and-then ! (load ! (from ! (stop !)) (look ! 6 refl)) (and-then ! (load ! (from ! (stop !)) (look ! 4 refl)) (no-more !))))) (λ v.
         use1 W (later (some (λ (z : Stop). ((‵ (flft κ q) ⊛ (‵ (flft (α₁ ∷ []) fullShare) ⊛ (‵ (flft (α₂ ∷ []) fullShare) ⊛ ‵ ftrue))) ⊛ ‵ (Sd.the-row .own z (v ∷ []))) ⊛ raw (ensured 𝓤 H A level.ended (level.clauses 𝓤 H A mem run) (κ, (α₁ ∷ [], (α₂ ∷ [], tt))) (s, (r .at, (ref b o δ₁ h₁, (ref b₂ o₂ δ₂ w₁, tt)))) tt z)))) (id⊢ 𝓤 _) $ await ! tt $ pick ! (λ z. split ! $ move ! (1 ∷ []) $
         use1 W (some (λ (h′ : Tally). some (λ (w′ : Rs). given (Said (now s) (r .at) h₁ z h′ w′) (‵ (fres δ₁ (R.the-row .coded .code h′)) ⊛ ‵ (fres δ₂ (Rw .coded .code w′)))))) (told 𝓤 H A W mem run (κ, (α₁ ∷ [], (α₂ ∷ [], tt))) s (r .at) (ref b o δ₁ h₁) (ref b₂ o₂ δ₂ w₁) z) $ pick ! (λ h₂. pick ! (λ w₂. learn ! (λ sd.
         split ! $ move ! (2 ∷ []) $ split ! $ move ! (1 ∷ []) $ facts ! Sd.the-row (Is Sd.the-row) (shows 𝓤 H A Sd.the-row) z (v ∷ []) (λ is₂.
-        let kept₂ : Rowed (now s) (p .n) (p .count) w₂ = subst₂ (λ (a c : ℕ). Rowed (now s) a c w₂) (g .axes) (g .count) (sd .0) in
+        let kept₂ : Rowed (now s) (p .n) (p .count) w₂ = subst₂ (λ (a c : ℕ). Rowed (now s) a c w₂) (d .axes) (d .count) (sd .0) in
         split ! $ move ! (1 ∷ []) $ split ! $ move ! (1 ∷ []) $ split ! $ move ! (1 ∷ []) $ drop ! $
         -- [the rows' token; the tally's; s's; the tally's last value; the rows'; s; the rows' loan; the tally's loan; _13; …]
         land ! (from ! (stop !)) (init ! 20 refl (LL.lawful Sd.the-type Sd′.the-laws 𝓤 H A W .typed z _ is₂ .0)) $ rewrite ! 20 (λ (y : Val). ‵ (fat fullShare Sd′.mir l7 0 y)) (stop-is z v is₂) refl $
@@ -310,12 +321,12 @@ module _ {M : Type 1} (𝓤 : URA M) (H : Heap 𝓤) (A : Atoms 𝓤) (W : Given
         guards ! (load ! (from ! (stop !)) (look ! 10 refl))
         (λ y.
         assigns ! (of-opd ! (load ! (from ! (stop !)) (look ! 18 refl))) (from ! (stop !)) (init ! 32 refl (stop-typed 𝓤 H A W mem run z v is₂)) $ forget ! 6 refl $ forget ! 8 refl $ forget ! 10 refl $ forget ! 12 refl $ forget ! 14 refl $ forget ! 16 refl $ forget ! 18 refl $ forget ! 20 refl $
-        leaves l0 l1 l2 l3 l4 l5 l6 l7 l8 l9 l10 l11 l12 l13 (x .i) z h₂ w₂ refl (stop-low z v is₂) (kept₂, level-found (now s) p (x .i) (x .h .tested) r g z (h₂ .tested) (sd .1) (differ (z .way) 0 y) ∙ ap trailOf (x .is)))
+        leaves l0 l1 l2 l3 l4 l5 l6 l7 l8 l9 l10 l11 l12 l13 (x .i) z h₂ w₂ refl (stop-low z v is₂) (kept₂, level-found (now s) p (x .i) (x .h .tested) r (d .limit) g z (h₂ .tested) (sd .1) (differ (z .way) 0 y) ∙ ap trailOf (x .is)))
         (λ m.
         let nf : r .next < 2 ^ 64 = stop-typed 𝓤 H A W mem run r u is .1 .1 .1 .0 .fits in
-        let e : (h₂ .tested ≤ p .limit) × (onward (now s) p (r .next) (h₂ .tested) ≡ onward (now s) p (x .i) (x .h .tested)) = level-none (now s) p (x .i) (x .h .tested) r g z (h₂ .tested) (sd .1) (agree (z .way) 0 m) in
+        let e : (h₂ .tested ≤ p .limit) × (onward (now s) p (r .next) (h₂ .tested) ≡ onward (now s) p (x .i) (x .h .tested)) = level-none (now s) p (x .i) (x .h .tested) r (d .limit) g z (h₂ .tested) (sd .1) (agree (z .way) 0 m) in
         assigns-last ! (of-opd ! (load ! (from ! (fld ! refl (stop !))) (look-in ! 20 (sub ! 2 refl (whole !))))) (from ! (stop !)) (store ! 22 refl (tt, record { fits = nf })) $ forget ! 6 refl $ forget ! 8 refl $ forget ! 10 refl $ forget ! 12 refl $ forget ! 14 refl $ forget ! 16 refl $ forget ! 18 refl $ forget ! 20 refl $
-        again ! (sooner (now s) p (h₀ .tested)) (I l0 l1 l2 l3 l4 l5 l6 l7 l8 l9 l10 l11 l12 l13) x (record { i = r .next; h = h₂; rows = w₂; small = nf; kept = kept₂; within = e .0; is = e .1 ∙ x .is }) (g .fewer))))))))))))))))))))))
+        again ! (sooner (now s) p (h₀ .tested)) (I l0 l1 l2 l3 l4 l5 l6 l7 l8 l9 l10 l11 l12 l13) x (record { i = r .next; h = h₂; rows = w₂; small = nf; kept = kept₂; within = e .0; is = e .1 ∙ x .is }) (fewer (x .i) (x .h .tested) r (ro .0) (agree (r .way) 3 n)))))))))))))))))))))))
         (record { i = 0; h = h₀; rows = w₀; small = lit< tt; kept = kept₀; within = rd .within; is = level-start (now s) (p .n) (p .k) (p .low) (p .high) (rd .standing) (p .limit) (h₀ .tested) })))))))))))))))
 
 module _ {M : Type 1} (𝓤 : URA M) (H : Heap 𝓤) (A : Atoms 𝓤) (W : Given 𝓤 H A) (mem : Memory → SProp 𝓤) (run : Routine → Fun 𝓤) (𝓣 : Tables 𝓤 H) (known : Triple 𝓤 (𝓣 .C #climb) (Cl 𝓤 H A mem run)) where

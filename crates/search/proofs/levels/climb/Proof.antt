@@ -3,18 +3,17 @@ use mathlib.Core.List.{List}
 use Prim.Native.Nat.{ℕ, suc, _+_, _-_, _≤_, _<_}
 use native.Mathlib.Omega.{arith}
 use borrow.Author.Needs.{needs}
-use lib.IntN.{ℤ, pos, _+ℤ_}
-use lib.ListN.{length, getD, take, drop, set, length-set}
+use lib.IntN.{ℤ}
+use lib.ListN.{length, take, set, length-set}
 use lib.Seq.{set-set}
 use mir.Syntax.{w64}
 use mir.Val.{toZ, ofZ}
 use Rattle.integers.specs.Mach.{result-is}
-use Rattle.codec.specs.Places.{setFrom}
-use Rattle.search.specs.Sides.{Standing, sidesOf}
+use Rattle.search.specs.Sides.{Standing}
 use Rattle.search.specs.Live.{Rowed}
-use Rattle.search.specs.Levels.{okAt, onward, spanAt}
+use Rattle.search.specs.Levels.{spanAt, valueAt, passesAt, lowsAt, highsAt, Failed, past, exhausted}
 use Rattle.search.specs.declared.levels.Prefix.{Prefix}
-use Rattle.search.proofs.Climbs.{Climbing, lt-of, ok-set, climb-end, climb-spent, climb-run, stop-ends, stop-passed}
+use Rattle.search.proofs.Climbs.{lt-of, ok-set, failed-more, climbed-passing}
 use Rattle.search.proofs.Lives.{axes-length, next-fits, value-fails}
 use Rattle.search.proofs.levels.climb.Statement.{statement}
 use Rattle.search.proofs.levels.climb.Tie as tie
@@ -25,7 +24,7 @@ Beside k x y = (z : ℤ) → set x k z ≡ set y k z
 
 abbrev Inv-loop : tie.InvT-loop
 Inv-loop s p from tested rows₀ n k side low₀ high₀ live limit span t₀ i₀ rows low high t i =
-    (g : Standing s (p .n) (p .k) (p .low) (p .high)) × (span ≡ spanAt p) × (t ≤ i) × (from ≤ i) × Climbing s (p .n) (p .k) (p .low) (p .high) g (onward s p from tested) (p .limit) (tested + t) i × Rowed s (p .n) (p .count) rows × Beside (p .k) low (p .low) × Beside (p .k) high (p .high)
+    (span ≡ spanAt p) × (i ≡ from + t) × (t ≤ suc span - from) × (tested + t ≤ p .limit) × Failed s p from t × Rowed s (p .n) (p .count) rows × Beside (p .k) low (p .low) × Beside (p .k) high (p .high)
 
 abbrev μ-loop : tie.MeasureT-loop
 μ-loop s p from tested rows₀ n k side low₀ high₀ live limit span t₀ i₀ rows low high t i = suc span - i
@@ -41,8 +40,7 @@ span-of-requires c κs =
 loop-holds : tie.Need-loop-holds Inv-loop μ-loop
 loop-holds c =
     let st = c .before .before .before .before .before .before in
-    let w = st .pre .0 .within in let z : st .args .tested ≡ st .args .tested + 0 = omega arith in
-    (st .pre .0 .standing, c .span-of .ensures .0, omega arith, omega arith, record { within = omega arith; is = ap (λ (j : ℕ). onward (st .args .s .now) (st .args .p) (st .args .from) j) (sym z) }, st .pre .1, λ z. refl, λ z. refl)
+    let w = st .pre .0 .within in (c .span-of .ensures .0, omega arith, omega arith, omega arith, λ j h. absurd (omega arith), st .pre .1, λ z. refl, λ z. refl)
 
 -- at a value: the start, the loop, and what is known there
 module _ (c : tie.In-loop Inv-loop μ-loop) where
@@ -59,35 +57,26 @@ module _ (c : tie.In-loop Inv-loop μ-loop) where
   p = st .args .p
 
   abbrev g : Standing s (p .n) (p .k) (p .low) (p .high)
-  g = m .loop .inv .0
-
-  abbrev G : Rattle.search.specs.Search.Tallied
-  G = onward s p (st .args .from) (st .args .tested)
-
-  abbrev climbing : Climbing s (p .n) (p .k) (p .low) (p .high) g G (p .limit) (st .args .tested + m .loop .t) (m .loop .i)
-  climbing = m .loop .inv .4
+  g = st .pre .0 .standing
 
   abbrev value : ℤ
-  value = getD (p .low) (p .k) (pos 0) +ℤ pos (m .loop .i)
+  value = valueAt p (m .loop .i)
 
   here : m .loop .i ≤ spanAt p
-  here = let e = m .loop .inv .1 in let q = c .loop-test .taken in omega arith
+  here = let e = m .loop .inv .0 in let q = c .loop-test .taken in omega arith
 
   far : m .loop .i ≤ 2097152
-  far = let h = here in let e = m .loop .inv .1 in let o = m .before .span-of .ensures .1 in omega arith
+  far = let h = here in let e = m .loop .inv .0 in let o = m .before .span-of .ensures .1 in omega arith
 
 -- below the limit
 room : (c : tie.Else1 Inv-loop μ-loop) → st (c .before) .args .tested + m (c .before) .loop .t < p (c .before) .limit
-room c = let lp = c .before in lt-of (st lp .args .tested + m lp .loop .t) (p lp .limit) (climbing lp .within) (c .if1 .left)
+room c = let lp = c .before in lt-of (st lp .args .tested + m lp .loop .t) (p lp .limit) (m lp .loop .inv .3) (c .if1 .left)
 
 add-if1 : tie.Need-add-if1 Inv-loop μ-loop
-add-if1 c = let w = climbing c .within in let l = st c .pre .0 .fits in omega arith
+add-if1 c = let w = m c .loop .inv .3 in let l = st c .pre .0 .fits in omega arith
 
 returns : tie.Need-returns Inv-loop μ-loop
-returns c =
-    let lp = c .before in let a = st lp .args in let v = m lp .loop .inv in
-    stop-ends (s lp) (p lp) (a .from) (a .tested) (m lp .loop .rows) (st lp .pre .0) (g lp) (m lp .loop .t) (m lp .loop .i) (climbing lp) (v .5) _ refl (λ z. omega arith)
-    (climb-spent (s lp) (p lp .n) (p lp .k) (p lp .low) (p lp .high) (g lp) (G lp) (p lp .limit) (a .tested + m lp .loop .t) (m lp .loop .i) (climbing lp) (here lp) (c .if1 .taken))
+returns c = let lp = c .before in let v = m lp .loop .inv in let h = here lp in let e = v .1 in (exhausted (m lp .loop .t) (v .4) (omega arith) (c .if1 .taken) (m lp .loop .i), v .5)
 
 value-at-requires : tie.Need-value-at-requires Inv-loop μ-loop
 value-at-requires c κs = let lp = c .before in (axis-of (g lp), far lp, g lp .low-size)
@@ -106,10 +95,10 @@ module _ (y : tie.After-value-at Inv-loop μ-loop) where
   value-is : toZ w64 (ofZ w64 (y .value-at .result)) ≡ value lp
   value-is = result-is w64 (y .value-at .result) (y .value-at .ok) ∙ y .value-at .ensures
 
-  lows-are : lows ≡ set (p lp .low) (p lp .k) (value lp)
+  lows-are : lows ≡ lowsAt (p lp) (m lp .loop .i)
   lows-are = m lp .loop .inv .6 _ ∙ ap (set (p lp .low) (p lp .k)) value-is
 
-  highs-are : highs ≡ set (p lp .high) (p lp .k) (value lp)
+  highs-are : highs ≡ highsAt (p lp) (m lp .loop .i)
   highs-are = m lp .loop .inv .7 _ ∙ ap (set (p lp .high) (p lp .k)) value-is
 
   lows-fit : p lp .n ≤ length lows
@@ -154,7 +143,7 @@ module _ (f : tie.After-fewer Inv-loop μ-loop) where
   at-value = lp (f .before)
 
   on-side : m at-value .loop .i + f .fewer .result ≤ suc (spanAt (p at-value))
-  on-side = let e = m at-value .loop .inv .1 in let h = here at-value in let a : f .fewer .result ≤ m at-value .before .span-of .result - m at-value .loop .i + 1 = f .fewer .ensures .0 in omega arith
+  on-side = let e = m at-value .loop .inv .0 in let h = here at-value in let a : f .fewer .result ≤ m at-value .before .span-of .result - m at-value .loop .i + 1 = f .fewer .ensures .0 in omega arith
 
   in-limit : st at-value .args .tested + m at-value .loop .t + f .fewer .result ≤ p at-value .limit
   in-limit = let r : st at-value .args .tested + m at-value .loop .t < p at-value .limit = room (f .before .before) in let a : f .fewer .result ≤ p at-value .limit - (st at-value .args .tested + m at-value .loop .t) = f .fewer .ensures .1 in omega arith
@@ -192,7 +181,7 @@ module _ (o : tie.After-opened-in Inv-loop μ-loop) where
   abbrev l : tie.In-loop Inv-loop μ-loop
   l = lp y
 
-  tested-is : okAt (setFrom (s l) 0) (take (p l .k) (p l .low)) (drop (suc (p l .k)) (sidesOf (p l .n) (p l .low) (p l .high))) (value l) ≡ o .opened-in .result .any
+  tested-is : passesAt (s l) (p l) (m l .loop .i) ≡ o .opened-in .result .any
   tested-is = ok-set (s l) (p l .n) (p l .k) (p l .low) (p l .high) (g l) (value l) (lows y) (highs y) (lows-are y) (highs-are y) (o .opened-in .result .any) (o .opened-in .ensures .0 .any-holds)
 
   rowed : Rowed (s l) (p l .n) (p l .count) (o .opened-in .last .1 .1 .1 .1 .1 .1 .0)
@@ -215,9 +204,11 @@ passed-requires c κs = axis-of (g (l (c .before .before)))
 
 returns-2 : tie.Need-returns-2 Inv-loop μ-loop
 returns-2 c =
-    let th = c .before .before in let o = th .before in let lp = l o in let a = st lp .args in let v = m lp .loop .inv in
-    stop-passed (s lp) (p lp) (a .from) (a .tested) _ (st lp .pre .0) (g lp) (m lp .loop .t) (m lp .loop .i) (climbing lp) (rowed o) (here lp) (v .3) (room (y o .before)) (tested-is o ∙ th .if2 .taken)
-    (lows (y o)) (highs (y o)) (lows-are (y o)) (highs-are (y o)) (o .opened-in .result .live) (o .opened-in .ensures .0 .still) (c .passed .result) (c .passed .ensures)
+    let th = c .before .before in let o = th .before in let lp = l o in let a = st lp .args in let v = m lp .loop .inv in (
+      climbed-passing (s lp) (p lp) (a .from) (m lp .loop .t) (v .4) (m lp .loop .i) (v .1) (a .tested) (here lp) (room (y o .before)) (tested-is o ∙ th .if2 .taken) (lows (y o)) (highs (y o)) (lows-are (y o)) (highs-are (y o))
+          (o .opened-in .result .live) (o .opened-in .ensures .0 .still) (c .passed .result) (c .passed .ensures),
+      rowed o,
+    )
 
 cast-t : tie.Need-cast-t Inv-loop μ-loop
 cast-t c = let o = c .before in let h = run-room o in let k = st (l o) .pre .0 .fits in omega arith
@@ -226,7 +217,7 @@ add-t : tie.Need-add-t Inv-loop μ-loop
 add-t c = let o = c .before in let h = run-room o in let k = st (l o) .pre .0 .fits in omega arith
 
 add-i : tie.Need-add-i Inv-loop μ-loop
-add-i c = let o = c .before in let h = run-inside o in let e = m (l o) .loop .inv .1 in let z = m (l o) .before .span-of .ensures .1 in omega arith
+add-i c = let o = c .before in let h = run-inside o in let e = m (l o) .loop .inv .0 in let z = m (l o) .before .span-of .ensures .1 in omega arith
 
 loop-less : tie.Need-loop-less Inv-loop μ-loop
 loop-less c = let o = c .before in let h = l o .loop-test .taken in let q = o .opened-in .ensures .0 .some in omega arith
@@ -234,25 +225,20 @@ loop-less c = let o = c .before in let h = l o .loop-test .taken in let q = o .o
 loop-again : tie.Need-loop-again Inv-loop μ-loop
 loop-again c =
     let o = c .before in let lp = l o in let a = st lp .args in let v = m lp .loop .inv in let n = o .opened-in .result .run in
-    let k = climb-run (s lp) (p lp .n) (p lp .k) (p lp .low) (p lp .high) (g lp) (G lp) (p lp .limit) (a .tested + m lp .loop .t) (m lp .loop .i) n (climbing lp) (run-inside o) (run-room o)
-    (value-fails (s lp) (p lp .n) (p lp .k) (p lp .low) (p lp .high) (g lp) (m lp .loop .i) (here lp) n (lows (y o)) (highs (y o)) (lows-are (y o)) (highs-are (y o)) (o .opened-in .ensures .0 .far (c .if2 .left))) in
-    let x : a .tested + m lp .loop .t + n ≡ a .tested + (m lp .loop .t + n) = omega arith in let j = v .2 in let q = v .3 in (
-      g lp,
-      v .1,
+    let e = v .0 in let q = v .1 in let h = run-inside o in let r = run-room o in (
+      v .0,
       omega arith,
       omega arith,
-      subst (λ (x : ℕ). Climbing (s lp) (p lp .n) (p lp .k) (p lp .low) (p lp .high) (g lp) (G lp) (p lp .limit) x (m lp .loop .i + n)) x k,
+      omega arith,
+      failed-more (s lp) (p lp) (a .from) (m lp .loop .t) (v .4) (m lp .loop .i) (v .1) n
+          (value-fails (s lp) (p lp .n) (p lp .k) (p lp .low) (p lp .high) (g lp) (m lp .loop .i) (here lp) n (lows (y o)) (highs (y o)) (lows-are (y o)) (highs-are (y o)) (o .opened-in .ensures .0 .far (c .if2 .left))),
       rowed o,
       λ z. set-set (m lp .loop .low) (p lp .k) _ z ∙ v .6 z,
       λ z. set-set (m lp .loop .high) (p lp .k) _ z ∙ v .7 z,
     )
 
 returns-3 : tie.Need-returns-3 Inv-loop μ-loop
-returns-3 c =
-    let m = c .before in let st = m .before .before .before .before .before .before .before in let a = st .args in let v = m .loop .inv in
-    let e = v .1 in let q = c .loop-test .left in let h : spanAt (a .p) < m .loop .i = omega arith in
-    stop-ends (a .s .now) (a .p) (a .from) (a .tested) (m .loop .rows) (st .pre .0) (v .0) (m .loop .t) (m .loop .i) (v .4) (v .5) _ refl (λ z. omega arith)
-    (climb-end (a .s .now) (a .p .n) (a .p .k) (a .p .low) (a .p .high) (v .0) (onward (a .s .now) (a .p) (a .from) (a .tested)) (a .p .limit) (a .tested + m .loop .t) (m .loop .i) (v .4) h)
+returns-3 c = let m = c .before in let v = m .loop .inv in let e = v .0 in let i = v .1 in let h = v .2 in let q = c .loop-test .left in (past (m .loop .t) (v .4) (omega arith) (v .3) (m .loop .i), v .5)
 
 pub climb-spec : {M : Type 1} → statement M
 climb-spec =

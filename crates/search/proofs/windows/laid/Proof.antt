@@ -4,8 +4,8 @@ use Prim.Native.Nat.{_-_, _<_}
 use lib.ListN.{length}
 use Rattle.codec.proofs.Valid.{bytes-of}
 use Rattle.search.proofs.Lives.{Laying, laying-start, laying-opened, laying-free, laying-next, laying-end}
-use Rattle.search.proofs.first.laid.Statement.{statement}
-use Rattle.search.proofs.first.laid.Tie as tie
+use Rattle.search.proofs.windows.laid.Statement.{statement}
+use Rattle.search.proofs.windows.laid.Tie as tie
 
 abbrev Inv-loop : tie.InvT-loop
 Inv-loop s rows₀ at₀ b₀ rows at b = Laying s rows at b

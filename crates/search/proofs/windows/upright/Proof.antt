@@ -10,8 +10,8 @@ use Rattle.integers.specs.Mach.{b-of, is-lt, is-ge}
 use Rattle.search.specs.Search.{boxOf, upright}
 use Rattle.query.proofs.Points.{le-yes, le-no}
 use Rattle.search.proofs.Searching.{sides-next, sides-stop, sides-end}
-use Rattle.search.proofs.first.upright.Statement.{statement}
-use Rattle.search.proofs.first.upright.Tie as tie
+use Rattle.search.proofs.windows.upright.Statement.{statement}
+use Rattle.search.proofs.windows.upright.Tie as tie
 
 abbrev Inv-loop : tie.InvT-loop
 Inv-loop low high i₀ i = (i ≤ 8) × (length low ≡ 8) × (length high ≡ 8) × (upright (boxOf (drop i low) (drop i high)) ≡ upright (boxOf low high))

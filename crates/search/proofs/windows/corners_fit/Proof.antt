@@ -3,8 +3,8 @@ use mathlib.Core.Bool.{Bool, _&&_}
 use borrow.Author.Needs.{needs}
 use borrow.Author.Tests.{not-true, not-false}
 use Rattle.query.specs.Member.{pointFits}
-use Rattle.search.proofs.first.corners_fit.Statement.{statement}
-use Rattle.search.proofs.first.corners_fit.Tie as tie
+use Rattle.search.proofs.windows.corners_fit.Statement.{statement}
+use Rattle.search.proofs.windows.corners_fit.Tie as tie
 
 point-fits-requires : tie.Need-point-fits-requires
 point-fits-requires c κs = search needs
