@@ -53,6 +53,7 @@ step "stored calls" $bin/hexscript calls $bin/second calls -- ../tests/calls/*.t
 step "histogram of 5,000 scripts and calls" $bin/generate histogram 5000 1
 step "meaning, library" $bin/meaning 2000 1
 step "meaning, program" $bin/meaning 100 2 $bin/second calls
+step "meaning, counts" $bin/meaning counts 6000 1
 step "compare, scripts" $bin/compare $bin/second 100 1
 step "compare, calls" $bin/compare calls "$bin/second calls" 500 1
 step "examples with second" ../examples/run.sh $bin/second

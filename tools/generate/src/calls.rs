@@ -1,5 +1,6 @@
 //! Seeded calls for the line mode.
 
+use crate::counting;
 use crate::damage::damaged;
 use crate::hard;
 use crate::model::{encode, Set};
@@ -10,12 +11,13 @@ use crate::sets::World;
 use crate::wider;
 use hexscript::tokens::hex;
 
-pub const KINDS: [&str; 10] = [
-    "check", "part", "member", "holder", "search", "test", "union", "intersection", "difference", "complement",
+pub const KINDS: [&str; 12] = [
+    "check", "part", "member", "holder", "search", "count", "counts", "test", "union", "intersection", "difference",
+    "complement",
 ];
 
 /// Bytes of the set, damaged for a part of the calls.
-fn bytes(rng: &mut Rng, set: &Set, bad_percent: usize) -> String {
+pub(crate) fn bytes(rng: &mut Rng, set: &Set, bad_percent: usize) -> String {
     if rng.chance(bad_percent) {
         hex(&damaged(rng, set))
     } else {
@@ -24,7 +26,7 @@ fn bytes(rng: &mut Rng, set: &Set, bad_percent: usize) -> String {
 }
 
 /// The number of axes that the call names: seldom another than the set's.
-fn axes(rng: &mut Rng, n: usize) -> usize {
+pub(crate) fn axes(rng: &mut Rng, n: usize) -> usize {
     match rng.below(50) {
         0 => rng.pick(&[0, 9, 255]),
         1 => 1 + rng.below(8),
@@ -32,7 +34,7 @@ fn axes(rng: &mut Rng, n: usize) -> usize {
     }
 }
 
-fn point_words(point: &[i32; 8]) -> String {
+pub(crate) fn point_words(point: &[i32; 8]) -> String {
     point.iter().map(i32::to_string).collect::<Vec<_>>().join(" ")
 }
 
@@ -58,6 +60,11 @@ fn holder(rng: &mut Rng, world: &World) -> String {
     format!("holder {} {a} {b} {}", axes(rng, world.n), point_words(&any_point(rng, world.n)))
 }
 
+/// The number that ends the answer: the tally, where the call is not refused.
+pub(crate) fn tally(call: &str) -> i64 {
+    second::run_call(call).rsplit(' ').next().and_then(|word| word.parse().ok()).unwrap_or(1)
+}
+
 fn search_line(n: usize, set: &str, limit: u32, low: &[i32; 8], high: &[i32; 8]) -> String {
     format!("search {n} {set} {limit} {} {}", point_words(low), point_words(high))
 }
@@ -79,9 +86,7 @@ fn search(rng: &mut Rng, world: &World) -> String {
     if rng.chance(50) {
         return line(any_limit(rng));
     }
-    let answer = second::run_call(&line(1_000_000));
-    let tally: i64 = answer.rsplit(' ').next().and_then(|t| t.parse().ok()).unwrap_or(1);
-    line((tally + rng.range(-1, 1)).max(0) as u32)
+    line((tally(&line(1_000_000)) + rng.range(-1, 1)).max(0) as u32)
 }
 
 fn test(rng: &mut Rng, world: &World) -> String {
@@ -163,6 +168,7 @@ pub fn call(seed: u64, index: u64, kinds: &[&str]) -> String {
         "member" => member(rng, world),
         "holder" => holder(rng, world),
         "search" => search(rng, world),
+        kind @ ("count" | "counts") => counting::call(rng, world, kind),
         "test" => test(rng, world),
         kind => operation(rng, world, kind),
     }

@@ -1,6 +1,6 @@
 //! What the generated scripts and calls reach, by `second`.
 
-use crate::{calls, events, runs, scripts};
+use crate::{calls, counting, events, runs, scripts};
 use hexscript::tokens::unhex;
 use second::algebra::{complement, difference, intersection, union, Watch};
 use second::ask::{check_corners, check_limit, Sides};
@@ -56,13 +56,16 @@ fn count_built(basic: &BasicSet, outcome: Outcome, counts: &mut Counts) {
     bump(counts, &name);
 }
 
+/// What only a call can reach: the count is no command of a script.
+pub const COUNTING: [&str; 5] = ["refused 19", "count count", "count spent", "counts count", "counts spent"];
+
 /// Every name that has to occur.
 pub fn wanted() -> Vec<String> {
     let refusals = (1..=15).map(|k| format!("refused {k}"));
     let tests = ANSWERS.iter().map(|answer| format!("test {answer}"));
-    let others = ["search at", "search none", "search spent"];
+    let asking = ["search at", "search none", "search spent"].into_iter().chain(COUNTING).chain(SHUT);
     let carried = TESTING.iter().flat_map(|kind| ANSWERS.map(|answer| carried(kind, answer)));
-    let others = others.into_iter().chain(SHUT).chain(events::EVENTS).chain(runs::EVENTS).map(str::to_string);
+    let others = asking.chain(events::EVENTS).chain(runs::EVENTS).map(str::to_string);
     refusals.chain(tests).chain(others).chain(carried).chain(built_names()).collect()
 }
 
@@ -263,6 +266,13 @@ pub fn of_tests(count: u64, seed: u64) -> Counts {
 pub fn of_searches(count: u64, seed: u64) -> Counts {
     let mut counts = Counts::new();
     (0..count).for_each(|index| count_searched(&calls::call(seed, index, &["search"]), &mut counts));
+    counts
+}
+
+/// The kinds of so many calls of the count.
+pub fn of_counts(count: u64, seed: u64) -> Counts {
+    let mut counts = Counts::new();
+    (0..count).for_each(|index| counting::count(&calls::call(seed, index, &["count", "counts"]), &mut counts));
     counts
 }
 

@@ -1,7 +1,8 @@
 //! Seeded scripts and calls that reach every refusal, test answer and search outcome, all that tightening does, every
-//! answer of tests that are carried into 128 bits, and long runs of failing prefixes.
+//! answer of tests that are carried into 128 bits, long runs of failing prefixes, and counts of every kind.
 
 pub mod calls;
+pub mod counting;
 pub mod damage;
 pub mod events;
 pub mod hard;

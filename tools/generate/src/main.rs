@@ -5,15 +5,16 @@
 //!                                       and which rows their exchanges build
 //! `generate searches COUNT SEED`        what COUNT calls of the search reach: long runs of failing prefixes, by the rules
 //!                                       that fail and by where the limit falls
+//! `generate counts COUNT SEED`          what COUNT calls of the count reach: sets, chosen axes, refusals, limits
 
 use generate::histogram::Counts;
-use generate::{calls, histogram, runs, scripts};
+use generate::{calls, counting, histogram, runs, scripts};
 use hexscript::tokens::hex;
 use std::io::Write;
 use std::process::ExitCode;
 
 const USAGE: &str =
-    "generate scripts COUNT SEED DIR|- | calls COUNT SEED [KIND..] | histogram|tests|searches COUNT SEED";
+    "generate scripts COUNT SEED DIR|- | calls COUNT SEED [KIND..] | histogram|tests|searches|counts COUNT SEED";
 
 /// One test in so many has to be wide at 64 bits.
 const CARRIED_ONE_IN: u64 = 25;
@@ -49,7 +50,7 @@ fn count_of(counts: &Counts, name: &str) -> usize {
 }
 
 /// Each wanted name is a check: it must occur among the scripts and among the calls (14 and 15 are of scripts only, a
-/// test of its own is of calls only, and what calls of the test build is for `tests` to say).
+/// test of its own and a count are of calls only, and what calls of the test build is for `tests` to say).
 fn print_histogram(count: u64, seed: u64) -> ExitCode {
     let by_scripts = histogram::of_scripts(count, seed);
     let by_calls = histogram::of_calls(count, seed);
@@ -64,7 +65,7 @@ fn print_histogram(count: u64, seed: u64) -> ExitCode {
     for name in &wanted {
         let (s, c) = line(name);
         let script_only = name == "refused 14" || name == "refused 15" || name.starts_with("built");
-        let call_only = name.starts_with("test carried");
+        let call_only = name.starts_with("test carried") || histogram::COUNTING.contains(&name.as_str());
         passed += usize::from((s > 0 || call_only) && (c > 0 || script_only));
     }
     for name in by_calls.keys().filter(|name| !wanted.contains(name)) {
@@ -104,6 +105,10 @@ fn print_searches(count: u64, seed: u64) -> ExitCode {
     closing(&print_each(&histogram::of_searches(count, seed), &names))
 }
 
+fn print_counts(count: u64, seed: u64) -> ExitCode {
+    closing(&print_each(&histogram::of_counts(count, seed), &counting::EVENTS.map(str::to_string)))
+}
+
 fn closing(checks: &[bool]) -> ExitCode {
     let passed = checks.iter().filter(|&&good| good).count();
     let failed = checks.len() - passed;
@@ -119,6 +124,7 @@ fn run(words: &[&str]) -> Result<ExitCode, String> {
         ["histogram", count, seed] => Ok(print_histogram(number(count)?, number(seed)?)),
         ["tests", count, seed] => Ok(print_tests(number(count)?, number(seed)?)),
         ["searches", count, seed] => Ok(print_searches(number(count)?, number(seed)?)),
+        ["counts", count, seed] => Ok(print_counts(number(count)?, number(seed)?)),
         _ => Err(USAGE.to_string()),
     }
 }

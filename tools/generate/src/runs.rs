@@ -23,7 +23,7 @@ pub const EVENTS: [&str; 12] = [
     "limit at the end of a run",
 ];
 
-const LONG: u32 = 16;
+pub(crate) const LONG: u32 = 16;
 
 /// Values of one axis, one after the other, that fail: the first prefix, the numbers of the first and the last among
 /// the prefixes tested, and whether the last is that of the side.

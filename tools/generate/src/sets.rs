@@ -57,6 +57,13 @@ impl World {
         (0..rng.below(4)).map(|_| self.small_basic(rng)).collect()
     }
 
+    /// Basic sets of two rules or fewer, which hold many points and overlap.
+    pub fn loose(&self, rng: &mut Rng) -> Set {
+        let mut set = [self.small(rng), self.small(rng)].concat();
+        set.iter_mut().for_each(|basic| basic.rules.truncate(2));
+        set
+    }
+
     /// Low and high of each axis; a point where both are one number.
     pub fn boxed(&self, rng: &mut Rng) -> Basic {
         let mut rules = Vec::new();

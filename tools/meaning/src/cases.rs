@@ -36,16 +36,16 @@ struct Case {
 
 const ROOM: usize = 4_000;
 
-fn verdict(good: bool, story: impl FnOnce() -> String) -> Verdict {
+pub fn verdict(good: bool, story: impl FnOnce() -> String) -> Verdict {
     if good { Verdict::Good } else { Verdict::Bad(story()) }
 }
 
-fn meaning(set: &[model::Basic]) -> Set {
+pub fn meaning(set: &[model::Basic]) -> Set {
     read(&encode(set)).expect("the generator's own bytes")
 }
 
 /// All points of a box in dictionary order.
-fn points(n: usize, low: &[i32; 8], high: &[i32; 8]) -> Vec<[i32; 8]> {
+pub fn points(n: usize, low: &[i32; 8], high: &[i32; 8]) -> Vec<[i32; 8]> {
     let mut out = vec![[0; 8]];
     for axis in 0..n {
         let grown = out.iter().flat_map(|p| {

@@ -1,7 +1,9 @@
 //! `meaning COUNT SEED`                  checks `second` by meaning on COUNT cases
 //! `meaning COUNT SEED PROGRAM [ARGS..]` checks a program that speaks the line mode
+//! `meaning counts COUNT SEED ..`        the same of COUNT calls of the count, by enumeration of their boxes
 
 mod cases;
+mod counting;
 mod fractions;
 mod sets;
 mod tight;
@@ -31,14 +33,18 @@ fn shortened(answer: &str) -> String {
 }
 
 fn run(arguments: &[String]) -> Result<ExitCode, String> {
+    let (made, arguments): (fn(u64, u64) -> Vec<Check>, &[String]) = match arguments {
+        [word, rest @ ..] if word == "counts" => (|seed, index| vec![counting::check(seed, index)], rest),
+        _ => (checks, arguments),
+    };
     let [count, seed, program @ ..] = arguments else {
-        return Err("meaning COUNT SEED [PROGRAM ARGS..]".to_string());
+        return Err("meaning [counts] COUNT SEED [PROGRAM ARGS..]".to_string());
     };
     let number = |w: &str| w.parse::<u64>().map_err(|_| format!("'{w}' is no number"));
     let (count, seed) = (number(count)?, number(seed)?);
     let (mut score, mut untold) = (Score::default(), 0);
     for start in (0..count).step_by(BATCH as usize) {
-        let calls: Vec<Check> = (start..count.min(start + BATCH)).flat_map(|i| checks(seed, i)).collect();
+        let calls: Vec<Check> = (start..count.min(start + BATCH)).flat_map(|i| made(seed, i)).collect();
         let found = answers(program, &calls)?;
         for (i, check) in calls.iter().enumerate() {
             let answer = found.get(i).map_or("(no line)", String::as_str);

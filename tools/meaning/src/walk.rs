@@ -1,4 +1,4 @@
-//! The first-point search by recursion over the axes (document 01, "Asking").
+//! The first-point search by recursion over the axes (document 01, "Asking"), and the tally of the count.
 
 use crate::sets::{Basic, Rule};
 
@@ -63,6 +63,21 @@ impl Walk<'_> {
             prefix.pop();
         }
         None
+    }
+
+    /// How many prefixes are tested below this one when members end nothing (document 02, request 12).
+    pub fn to_the_end(&self, prefix: &mut Vec<i32>) -> u32 {
+        let axis = prefix.len();
+        let mut tested = 0;
+        for x in self.low[axis]..=self.high[axis] {
+            tested += 1;
+            prefix.push(x);
+            if prefix.len() < self.n && self.passes(prefix) {
+                tested += self.to_the_end(prefix);
+            }
+            prefix.pop();
+        }
+        tested
     }
 
     /// The answer line of the search.

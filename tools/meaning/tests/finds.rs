@@ -2,10 +2,19 @@
 
 use std::process::Command;
 
-#[test]
-fn a_wrong_program_is_found() {
-    let out = Command::new(env!("CARGO_BIN_EXE_meaning")).args(["3", "1", "cat"]).output().expect("meaning runs");
+fn found(arguments: &[&str]) {
+    let out = Command::new(env!("CARGO_BIN_EXE_meaning")).args(arguments).output().expect("meaning runs");
     let text = String::from_utf8_lossy(&out.stdout).into_owned();
     assert!(!out.status.success());
     assert!(text.lines().last().is_some_and(|line| line.starts_with("0 passed, ")), "{text}");
+}
+
+#[test]
+fn a_wrong_program_is_found() {
+    found(&["3", "1", "cat"]);
+}
+
+#[test]
+fn wrong_counts_are_found() {
+    found(&["counts", "30", "1", "cat"]);
 }

@@ -52,6 +52,12 @@ impl Sides {
     pub fn is_shut(&self) -> bool {
         (0..MAX_AXES).any(|i| self.low[i] > self.high[i])
     }
+
+    /// How many values the side of an axis, from 0, has.
+    pub fn values(&self, axis: usize) -> u64 {
+        let above = i64::from(self.high[axis]) - i64::from(self.low[axis]);
+        u64::try_from(above + 1).unwrap_or(0)
+    }
 }
 
 /// Refusal 12 for a search's lows and highs, which may be the wrong way round.
@@ -85,31 +91,57 @@ pub fn search(set: &Set, sides: &Sides, limit: u32) -> Result<Search, u8> {
     Ok(walk(set, sides, limit, &mut |_, _| ()))
 }
 
-/// Prefixes of a box that is not shut, in dictionary order, each shown to `watch` with whether it passes; the empty one
-/// is not tested (reading 13).
+/// The search of a box that is not shut, each prefix shown to `watch` with whether it passes.
 pub fn walk(set: &Set, sides: &Sides, limit: u32, watch: &mut dyn FnMut(&[i32], bool)) -> Search {
+    let mut first = None;
+    let (ending, tested) = prefixes(set, sides, limit, &mut |prefix, passes| {
+        watch(prefix, passes);
+        if passes && prefix.len() == set.n {
+            first = Some(prefix.to_vec());
+        }
+        first.is_some()
+    });
+    match (first, ending) {
+        (Some(point), _) => Search::At(point, tested),
+        (None, Ending::Spent) => Search::Spent(tested),
+        (None, _) => Search::None(tested),
+    }
+}
+
+/// Why a walk ends: it was told to, no prefix is left, or the limit was tested and a prefix is left.
+#[derive(Clone, Copy, Debug, PartialEq, Eq)]
+pub enum Ending {
+    Told,
+    Done,
+    Spent,
+}
+
+/// Prefixes of a box that is not shut, in dictionary order, going below passing ones only; the empty one is not tested
+/// (reading 13). `visit` is shown each with whether it passes and says whether the walk ends there. With the ending
+/// comes the number of prefixes tested.
+pub fn prefixes(set: &Set, sides: &Sides, limit: u32, visit: &mut dyn FnMut(&[i32], bool) -> bool) -> (Ending, u32) {
     let sparse: Vec<SparseBasic> = set.basics.iter().map(SparseBasic::new).collect();
     let mut open = OpenBox::new(set.n, sides);
     let mut prefix = vec![sides.low[0]];
     let mut tested = 0;
     while !prefix.is_empty() {
-        // A prefix is still to be tested: neither answer is known yet.
+        // A prefix is still to be tested: no answer is known yet.
         if tested == limit {
-            return Search::Spent(tested);
+            return (Ending::Spent, tested);
         }
         tested += 1;
         open.close_first(&prefix);
         let passes = sparse.iter().any(|basic| basic.failing(&mut open).is_none());
-        watch(&prefix, passes);
-        if !passes {
-            go_on(&mut prefix, sides);
-        } else if prefix.len() == set.n {
-            return Search::At(prefix, tested);
-        } else {
+        if visit(&prefix, passes) {
+            return (Ending::Told, tested);
+        }
+        if passes && prefix.len() < set.n {
             prefix.push(sides.low[prefix.len()]);
+        } else {
+            go_on(&mut prefix, sides);
         }
     }
-    Search::None(tested)
+    (Ending::Done, tested)
 }
 
 /// The place of the first rule of a basic set that cannot hold below a prefix.

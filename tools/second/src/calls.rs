@@ -3,6 +3,7 @@
 use crate::algebra::{complement, difference, intersection, union, unwatched};
 use crate::ask::{holder, member, part, search, Sides, Table};
 use crate::bytes::{encode, parse};
+use crate::count::{count, counts, Count};
 use crate::model::{Point, Set};
 use crate::refusal;
 use crate::script::search_words;
@@ -24,6 +25,8 @@ fn answer(line: &str) -> Option<String> {
     let answer = match name {
         "member" => call_member(n, &mut fields)?,
         "search" => call_search(n, &mut fields)?,
+        "count" => call_count(n, &mut fields)?,
+        "counts" => call_counts(n, &mut fields)?,
         "union" | "intersection" | "difference" => call_pair(name, n, &mut fields)?,
         "complement" => call_complement(n, &mut fields)?,
         "test" => call_test(n, &mut fields)?,
@@ -57,6 +60,34 @@ fn call_search(n: u8, fields: &mut Fields) -> Option<String> {
         Ok(found) => search_words(&found),
         Err(number) => format!("refused {number}"),
     })
+}
+
+fn call_count(n: u8, fields: &mut Fields) -> Option<String> {
+    let set = fields.bytes()?;
+    let limit = fields.limit()?;
+    let sides = Sides { low: fields.point()?, high: fields.point()? };
+    fields.end()?;
+    Some(count_words(parse(n, &set).and_then(|set| count(&set, &sides, limit))))
+}
+
+fn call_counts(n: u8, fields: &mut Fields) -> Option<String> {
+    let set = fields.bytes()?;
+    let (limit, axis) = (fields.limit()?, fields.count()?);
+    let sides = Sides { low: fields.point()?, high: fields.point()? };
+    fields.end()?;
+    Some(count_words(parse(n, &set).and_then(|set| counts(&set, &sides, axis, limit))))
+}
+
+/// `count`, all points, those with each value where an axis was chosen, and the tally; `spent` and the tally.
+fn count_words(counted: Result<Count, u8>) -> String {
+    match counted {
+        Ok(Count::Whole(whole, each, tested)) => {
+            let numbers: Vec<String> = [&[whole], &each[..], &[tested]].concat().iter().map(u32::to_string).collect();
+            format!("count {}", numbers.join(" "))
+        }
+        Ok(Count::Spent(tested)) => format!("spent {tested}"),
+        Err(number) => format!("refused {number}"),
+    }
 }
 
 fn call_pair(name: &str, n: u8, fields: &mut Fields) -> Option<String> {

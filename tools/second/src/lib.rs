@@ -11,6 +11,7 @@ pub mod algebra;
 pub mod ask;
 pub mod bytes;
 pub mod calls;
+pub mod count;
 pub mod exact;
 pub mod listing;
 pub mod model;

@@ -51,6 +51,16 @@ pub fn search(n: u8, bytes: &[u8], limit: u32, low: &[i32], high: &[i32]) -> Str
     call(format!("search {n} {set} {limit} {low} {high}"))
 }
 
+pub fn count(n: u8, bytes: &[u8], limit: u32, low: &[i32], high: &[i32]) -> String {
+    let (set, low, high) = (hex(bytes), eight(low), eight(high));
+    call(format!("count {n} {set} {limit} {low} {high}"))
+}
+
+pub fn counts(n: u8, bytes: &[u8], limit: u32, axis: u64, low: &[i32], high: &[i32]) -> String {
+    let (set, low, high) = (hex(bytes), eight(low), eight(high));
+    call(format!("counts {n} {set} {limit} {axis} {low} {high}"))
+}
+
 pub fn tested(n: u8, bytes: &[u8]) -> String {
     call(format!("test {n} {} 1", hex(bytes)))
 }

@@ -1,0 +1,3 @@
+# Request 12: the count stops at the first member.
+# file src/count.rs
+s/^        false$/        whole > 0/
