@@ -1,5 +1,6 @@
-/* The library behind the line mode of tools/second: one call a line, one answer a line, so that `compare calls` can hold both against each
- * other. Every table lies at an odd address between guard bytes; a guard that changed is told and ends the program. */
+/* The library behind the line mode of tools/second: one call a line, one answer a line, so that `compare calls` can
+ * hold both against each other. Every table of bytes lies at an odd address between guard bytes, every table of counts
+ * at one aligned as uint32_t is and no better; a guard that changed is told and ends the program. */
 #define _POSIX_C_SOURCE 200809L
 #include <inttypes.h>
 #include <stdio.h>
@@ -8,7 +9,7 @@
 
 #include "pitsets.h"
 
-enum { GUARD = 64, MARK = 0xA5 };
+enum { GUARD = 64, SLACK = 8, MARK = 0xA5 };
 
 typedef struct {
     uint8_t *memory, *bytes;
@@ -24,23 +25,24 @@ static void *must(void *p)
     return p;
 }
 
-/* length bytes with guards on both sides, at an odd address */
-static table lend(size_t length)
+/* length bytes with guards on both sides, so far past an address of every alignment */
+static table lend_past(size_t length, size_t past)
 {
     table t;
-    t.memory = must(malloc(length + 2 * GUARD + 1));
-    memset(t.memory, MARK, length + 2 * GUARD + 1);
-    t.bytes = t.memory + GUARD;
-    if (((uintptr_t)t.bytes & 1) == 0) t.bytes++;
+    t.memory = must(malloc(length + 2 * GUARD + SLACK));
+    memset(t.memory, MARK, length + 2 * GUARD + SLACK);
+    t.bytes = t.memory + GUARD + past;
     t.length = length;
     return t;
 }
+
+static table lend(size_t length) { return lend_past(length, 1); }
 
 static void give_back(table *t)
 {
     for (uint8_t *p = t->memory; p < t->bytes; p++)
         if (*p != MARK) { puts("guard before a table changed"); exit(2); }
-    for (uint8_t *p = t->bytes + t->length; p < t->memory + t->length + 2 * GUARD + 1; p++)
+    for (uint8_t *p = t->bytes + t->length; p < t->memory + t->length + 2 * GUARD + SLACK; p++)
         if (*p != MARK) { puts("guard after a table changed"); exit(2); }
     free(t->memory);
 }
@@ -96,6 +98,104 @@ static void member(char **rest)
     give_back(&copy);
 }
 
+/* what a count is asked, and what it says: the result, the prefixes tested, the table of counts */
+typedef struct { size_t n, axis; table set, copy; uint32_t limit; int32_t l[8], h[8]; } counting;
+typedef struct { int64_t r; uint32_t tested; table counts; } counted;
+
+#define ARGS(x) x[0], x[1], x[2], x[3], x[4], x[5], x[6], x[7]
+
+static counting asked(char **rest, int chosen)
+{
+    counting q = {.n = strtoull(word(rest), NULL, 10), .set = bytes(rest)};
+    q.copy = copy_of(&q.set);
+    q.limit = (uint32_t)strtoul(word(rest), NULL, 10);
+    if (chosen) q.axis = strtoull(word(rest), NULL, 10);
+    for (int i = 0; i < 8; i++) q.l[i] = (int32_t)strtol(word(rest), NULL, 10);
+    for (int i = 0; i < 8; i++) q.h[i] = (int32_t)strtol(word(rest), NULL, 10);
+    return q;
+}
+
+static void done(counting *q)
+{
+    untouched(&q->set, &q->copy);
+    give_back(&q->set);
+    give_back(&q->copy);
+}
+
+/* where the absent lows and highs are 0, the call for n of each says the same */
+static int in_box(const counting *q, const counted *c)
+{
+    uint32_t tested = 1;
+    for (size_t i = q->n; i < 8; i++)
+        if (q->l[i] || q->h[i]) return 1;
+    int64_t r = pitsets_count_in(q->n, q->set.bytes, q->set.length, q->l, q->h, q->limit, &tested);
+    return r == c->r && tested == c->tested;
+}
+
+static counted counts_of(const counting *q, size_t places)
+{
+    counted c = {.tested = 1, .counts = lend_past(places * sizeof(uint32_t), sizeof(uint32_t))};
+    c.r = pitsets_counts(q->n, q->set.bytes, q->set.length, ARGS(q->l), ARGS(q->h), q->axis, q->limit,
+                         (uint32_t *)c.counts.bytes, places, &c.tested);
+    return c;
+}
+
+static void print_count(const counted *c, size_t values)
+{
+    const uint32_t *each = (const uint32_t *)c->counts.bytes;
+    if (c->r == PITSETS_SPENT) printf("spent %" PRIu32 "\n", c->tested);
+    else if (c->r < 0) printf(c->tested ? "prefixes tested\n" : "refused %" PRId64 "\n", -c->r);
+    else {
+        printf("count %" PRId64, c->r);
+        for (size_t i = 0; i < values; i++) printf(" %" PRIu32, each[i]);
+        printf(" %" PRIu32 "\n", c->tested);
+    }
+}
+
+static void count(char **rest)
+{
+    counting q = asked(rest, 0);
+    counted c = {.tested = 1};
+    c.r = pitsets_count(q.n, q.set.bytes, q.set.length, ARGS(q.l), ARGS(q.h), q.limit, &c.tested);
+    if (!in_box(&q, &c)) puts("another answer for n lows and highs");
+    else print_count(&c, 0);
+    done(&q);
+}
+
+/* 0 from one place of the table on */
+static int zeros(const counted *c, size_t from)
+{
+    const uint32_t *each = (const uint32_t *)c->counts.bytes;
+    for (size_t i = from; i < c->counts.length / sizeof *each; i++)
+        if (each[i]) return 0;
+    return 1;
+}
+
+/* In a table with a place for each value the answer is the same; with one place less it is 11, last of all refusals. */
+static int sized(const counting *q, const counted *c, size_t values)
+{
+    counted fits = counts_of(q, values), less = counts_of(q, values ? values - 1 : 0);
+    int good = fits.r == c->r && fits.tested == c->tested;
+    good = good && !memcmp(fits.counts.bytes, c->counts.bytes, fits.counts.length);
+    good = good && less.r == (values ? -PITSETS_TABLE : c->r) && !less.tested && zeros(&less, 0);
+    give_back(&fits.counts);
+    give_back(&less.counts);
+    return good;
+}
+
+static void counts(char **rest)
+{
+    counting q = asked(rest, 1);
+    counted c = counts_of(&q, PITSETS_COUNTS);
+    int told = c.r >= 0 || c.r == PITSETS_SPENT;
+    size_t i = q.axis - 1, values = told && q.l[i] <= q.h[i] ? (size_t)(q.h[i] - q.l[i]) + 1 : 0;
+    if (!zeros(&c, c.r < 0 ? 0 : values)) puts("no 0 past the counts");
+    else if (!sized(&q, &c, values)) puts("another answer in a table of another size");
+    else print_count(&c, values);
+    give_back(&c.counts);
+    done(&q);
+}
+
 typedef int64_t operation(size_t, const uint8_t *, size_t, const uint8_t *, size_t, uint8_t *, size_t);
 
 static void print_table(int64_t r, const table *out)
@@ -138,6 +238,8 @@ int main(void)
         char *rest, *w = strtok_r(line, " \n", &rest);
         if (!w) puts("bad line");
         else if (!strcmp(w, "member")) member(&rest);
+        else if (!strcmp(w, "count")) count(&rest);
+        else if (!strcmp(w, "counts")) counts(&rest);
         else if (!strcmp(w, "union")) two(&rest, pitsets_union);
         else if (!strcmp(w, "intersection")) two(&rest, pitsets_intersection);
         else if (!strcmp(w, "difference")) two(&rest, pitsets_difference);

@@ -2,43 +2,11 @@
  * Axes: payload in tonnes, road, minute of the shift. Build and run: make -C host example && host/example */
 #include <inttypes.h>
 #include <stdio.h>
-#include <string.h>
 
 #include "pitsets.h"
+#include "writing.h"
 
 enum { AXES = 3 };
-
-/* ---- writing a set: little-endian numbers, as document 01 lays them out */
-typedef struct {
-    uint8_t bytes[8000];
-    size_t length;
-} table;
-
-static void put(table *t, uint32_t value, int bytes)
-{
-    for (int i = 0; i < bytes; i++) t->bytes[t->length++] = (uint8_t)(value >> (8 * i));
-}
-
-static void basic_set(table *t) { put(t, 0x11, 1); }
-
-/* floor((axes·x + constant) / divisor) */
-static void division(table *t, uint16_t divisor, int32_t constant, const int16_t axes[AXES])
-{
-    put(t, 0x12, 1);
-    put(t, divisor, 2);
-    put(t, (uint32_t)constant, 4);
-    for (int i = 0; i < 8; i++) put(t, (uint16_t)(i < AXES ? axes[i] : 0), 2);
-}
-
-/* constant + axes·x + q·(the first division) ≥ 0 */
-static void at_least_0(table *t, int32_t constant, const int16_t axes[AXES], int16_t q)
-{
-    put(t, 0x14, 1);
-    put(t, (uint32_t)constant, 4);
-    for (int i = 0; i < 8; i++) put(t, (uint16_t)(i < AXES ? axes[i] : 0), 2);
-    put(t, (uint16_t)q, 2);
-    for (int i = 1; i < 8; i++) put(t, 0, 2);
-}
 
 static int ask(const char *who, const uint8_t *set, size_t length, const int32_t point[AXES])
 {
@@ -55,8 +23,8 @@ int main(void)
 {
     static table permit, closure;
     static uint8_t allowed[8000];
-    const int16_t tonnes[AXES] = {1, 0, 0}, less[AXES] = {-1, 0, 0}, road[AXES] = {0, 1, 0}, no_road[AXES] = {0, -1, 0};
-    const int16_t minute[AXES] = {0, 0, 1}, none[AXES] = {0, 0, 0};
+    const int16_t tonnes[8] = {1}, less[8] = {-1}, road[8] = {0, 1}, no_road[8] = {0, -1};
+    const int16_t minute[8] = {0, 0, 1}, none[8] = {0};
 
     /* permit: 0 to 240 tonnes, roads 1 to 9 */
     basic_set(&permit);

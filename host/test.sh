@@ -24,7 +24,7 @@ check() {
 compared() {
   name=$1 n=$2 seed=$3
   shift 3
-  "$tools/compare" calls "$*" "$n" "$seed" member union intersection difference complement >"$log" 2>&1
+  "$tools/compare" calls "$*" "$n" "$seed" member count counts union intersection difference complement >"$log" 2>&1
   status=$?
   line=$(tail -n 1 "$log")
   case $line in
@@ -40,9 +40,11 @@ compared() {
 check "header alone, C99" gcc -std=c99 -Wall -Wextra -Werror -fsyntax-only -x c ../include/pitsets.h
 check "header alone, C++" g++ -Wall -Wextra -Werror -fsyntax-only -x c++ ../include/pitsets.h
 check "example" sh -c './example | diff - example.expected'
+check "example of counts" sh -c './ways | diff - ways.expected'
 check "two threads" ./threads
 check "installed and linked by pkg-config" sh -c "make -s install PREFIX=$dir && rm -f pitsets.pc && gcc -o $dir/example example.c \$(PKG_CONFIG_PATH=$dir/lib/pkgconfig pkg-config --cflags --libs pitsets) && $dir/example | diff - example.expected"
-check "stack of 1 MB" sh -c 'ulimit -s 1024 && ./example | diff - example.expected'
+check "stack of 1 MB" sh -c 'ulimit -s 1024 && ./example | diff - example.expected && ./ways | diff - ways.expected'
+check "stored counts" "$tools/hexscript" calls ./calls -- ../tests/calls/how-many-ways.txt
 compared "calls" "$count" 1 ./calls
 compared "calls, address sanitiser" $((count / 5)) 2 ./calls-asan
 compared "calls, valgrind" $((count / 50)) 3 valgrind -q --error-exitcode=9 --leak-check=full ./calls

@@ -11,6 +11,19 @@ enum { ROUNDS = 2000 };
 static const uint8_t range[75] = {0x11, 0x14, 0, 0, 0, 0, 1, 0, [38] = 0x14, 0x8A, 0x08, 0, 0, 0xFF, 0xFF};
 static const uint8_t tenth[61] = {0x11, 0x12, 10, 0, 0, 0, 0, 0, 1, 0, [24] = 0x13, 0x26, 0xFF, 0xFF, 0xFF, [45] = 1};
 
+/* 2150 to 2179 are left of 2150 to 2213, 64 values, each of which is tested */
+static int counted(const uint8_t *set, size_t length, int round)
+{
+    const int32_t low = 2150, high = 2213;
+    uint32_t counts[PITSETS_COUNTS], tested = 0;
+    memset(counts, round & 0xFF, sizeof counts);
+    int64_t whole = pitsets_counts_in(1, set, length, &low, &high, 1, 64, counts, PITSETS_COUNTS, &tested);
+    if (whole != 30 || tested != 64) return 0;
+    for (int i = 0; i < PITSETS_COUNTS; i++)
+        if (counts[i] != (i < 30)) return 0;
+    return pitsets_count_in(1, set, length, &low, &high, 63, &tested) == PITSETS_SPENT && tested == 63;
+}
+
 static void *work(void *failed)
 {
     uint8_t first[200], again[200];
@@ -22,6 +35,7 @@ static void *work(void *failed)
         if (memcmp(first, again, sizeof first)) *(int *)failed = 1;
         if (pitsets_member(1, first, (size_t)length, 2179, 0, 0, 0, 0, 0, 0, 0) != 1) *(int *)failed = 1;
         if (pitsets_member(1, first, (size_t)length, 2180, 0, 0, 0, 0, 0, 0, 0) != 0) *(int *)failed = 1;
+        if (!counted(first, (size_t)length, i)) *(int *)failed = 1;
     }
     return NULL;
 }

@@ -1,15 +1,18 @@
-/* Integer rule sets for the pit board: membership of a point, and union, intersection, difference and complement of sets.
+/* Integer rule sets for the pit board: membership of a point, union, intersection, difference and complement of sets,
+ * and how many points of a box are in a set.
  *
  * A set is bytes in a table of yours (layout: document 01, "Bytes of a set"). n is the number of axes, 1 to 8.
  * Every function
  *   - is total: any n, any bytes, any lengths; malformed input is refused by its number;
- *   - returns minus the number of a refusal (enum pitsets_refusal), so a negative result is a refusal and nothing else;
+ *   - returns minus the number of a refusal (enum pitsets_refusal), so a negative result is a refusal, or of a count
+ *     PITSETS_SPENT, and nothing else;
  *   - reads the given sets and never changes them;
  *   - keeps no state and allocates nothing: it may be called from any number of threads at once, as long as no thread
  *     writes to a table that another call uses at the same time;
  *   - needs less than PITSETS_STACK bytes of stack (measured on the deepest calls known, not proved).
- * A table is a pointer and a length in bytes. No pointer may be NULL, also where the length is 0; no alignment is asked.
- * A result table may not overlap a given set.
+ * A table is a pointer and a length in bytes, and may begin at any address; a table of counts is a pointer and how many
+ * numbers it has, and is aligned as uint32_t is, as is `tested`. No pointer may be NULL, also where the length is 0.
+ * A result table, a table of counts and `tested` may overlap neither a given set nor each other.
  */
 #ifndef PITSETS_H
 #define PITSETS_H
@@ -24,7 +27,8 @@ extern "C" {
 /* Stack that a call may need, in bytes. */
 #define PITSETS_STACK (1024 * 1024)
 
-/* The numbers of document 01, "Refused". These functions give 1 to 12; 13 is the search's, 14 and 15 are the script program's. */
+/* The numbers of document 01, "Refused", and of document 02. These functions give 1 to 13 and 19; 14 and 15 are the
+ * script program's. */
 enum pitsets_refusal {
     PITSETS_AXES = 1,          /* n is not 1 to 8 */
     PITSETS_COMMAND = 2,       /* unknown command byte in a set */
@@ -36,11 +40,19 @@ enum pitsets_refusal {
     PITSETS_ABSENT = 8,        /* a coefficient of an absent axis or division is not 0 */
     PITSETS_TOO_MANY = 9,      /* over 32 basic sets, 8 divisions or 48 rules in a given set */
     PITSETS_OVERFLOW = 10,     /* a join over 8 divisions, a candidate over 48 rules, or a 33rd basic set in the result */
-    PITSETS_TABLE = 11,        /* the result is longer than its table */
-    PITSETS_POINT = 12         /* a coordinate out of range, or an absent axis that is not 0 */
+    PITSETS_TABLE = 11,        /* the result is longer than its table, or there are more counts than places */
+    PITSETS_POINT = 12,        /* a coordinate of a point or a box out of range, or an absent axis that is not 0 */
+    PITSETS_LIMIT = 13,        /* the limit of a count is not 1 to 1,000,000 */
+    PITSETS_AXIS = 19          /* the chosen axis is not 1 to n, or its side has over 64 values */
 };
 
-/* A few words for a refusal number, for a log line; for any other number "no such refusal". */
+/* The result of a count whose limit was not enough. No refusal has it. */
+#define PITSETS_SPENT (-1000)
+
+/* As many places as pitsets_counts may need. */
+#define PITSETS_COUNTS 64
+
+/* A few words for a refusal number or PITSETS_SPENT, for a log line; for any other number "no such refusal". */
 static inline const char *pitsets_reason(int64_t number)
 {
     switch (number < 0 ? -number : number) {
@@ -56,6 +68,9 @@ static inline const char *pitsets_reason(int64_t number)
     case PITSETS_OVERFLOW: return "join, candidate or result over its limit";
     case PITSETS_TABLE: return "result longer than its table";
     case PITSETS_POINT: return "coordinate out of range or absent axis not 0";
+    case PITSETS_LIMIT: return "limit not 1 to 1000000";
+    case PITSETS_AXIS: return "chosen axis not 1 to n, or over 64 values";
+    case -PITSETS_SPENT: return "limit spent";
     default: return "no such refusal";
     }
 }
@@ -81,12 +96,58 @@ int64_t pitsets_difference(size_t n, const uint8_t *first, size_t first_length, 
 /* All integer points that are not in the set. Refusals: 1, the set's 2 to 9, 10, 11. */
 int64_t pitsets_complement(size_t n, const uint8_t *set, size_t set_length, uint8_t *result, size_t result_length);
 
+/* How many points of the box from (l1, .., ln) to (h1, .., hn) are in the set, each counted once, in however many basic
+ * sets it lies; 0 where a low is over its high. Lows and highs are −1,048,576 to 1,048,576, those over n are 0.
+ * The box is walked as document 01's search walks it, past each point to the end: `limit`, 1 to 1,000,000, is how many
+ * prefixes of coordinates may be tested, and *tested gets how many were, 0 after a refusal. Where the limit is not enough
+ * the result is PITSETS_SPENT. Refusals: 1, the set's 2 to 9, 12, 13. */
+int64_t pitsets_count(size_t n, const uint8_t *set, size_t set_length, int32_t l1, int32_t l2, int32_t l3, int32_t l4,
+                      int32_t l5, int32_t l6, int32_t l7, int32_t l8, int32_t h1, int32_t h2, int32_t h3, int32_t h4,
+                      int32_t h5, int32_t h6, int32_t h7, int32_t h8, uint32_t limit, uint32_t *tested);
+/* The same, and in `counts` how many of these points have each value of axis `axis`, 1 to n, from its low upward: they
+ * add up to the result. Past them the table is filled with 0; after a refusal or PITSETS_SPENT it is all 0.
+ * counts_length is in numbers, not in bytes; PITSETS_COUNTS are always enough.
+ * Refusals: 1, the set's 2 to 9, 12, 19, 13, 11. */
+int64_t pitsets_counts(size_t n, const uint8_t *set, size_t set_length, int32_t l1, int32_t l2, int32_t l3, int32_t l4,
+                       int32_t l5, int32_t l6, int32_t l7, int32_t l8, int32_t h1, int32_t h2, int32_t h3, int32_t h4,
+                       int32_t h5, int32_t h6, int32_t h7, int32_t h8, size_t axis, uint32_t limit, uint32_t *counts,
+                       size_t counts_length, uint32_t *tested);
+
+/* n coordinates as eight, those of absent axes 0. */
+static inline void pitsets_eight(size_t n, const int32_t *given, int32_t eight[8])
+{
+    for (size_t i = 0; i < 8; i++) eight[i] = i < n ? given[i] : 0;
+}
+
 /* pitsets_member for a point given as its n coordinates. */
 static inline int64_t pitsets_member_at(size_t n, const uint8_t *set, size_t set_length, const int32_t *point)
 {
-    int32_t x[8] = {0, 0, 0, 0, 0, 0, 0, 0};
-    for (size_t i = 0; i < n && i < 8; i++) x[i] = point[i];
+    int32_t x[8];
+    pitsets_eight(n, point, x);
     return pitsets_member(n, set, set_length, x[0], x[1], x[2], x[3], x[4], x[5], x[6], x[7]);
+}
+
+/* pitsets_count for a box given as its n lows and its n highs. */
+static inline int64_t pitsets_count_in(size_t n, const uint8_t *set, size_t set_length, const int32_t *low,
+                                       const int32_t *high, uint32_t limit, uint32_t *tested)
+{
+    int32_t l[8], h[8];
+    pitsets_eight(n, low, l);
+    pitsets_eight(n, high, h);
+    return pitsets_count(n, set, set_length, l[0], l[1], l[2], l[3], l[4], l[5], l[6], l[7], h[0], h[1], h[2], h[3],
+                         h[4], h[5], h[6], h[7], limit, tested);
+}
+
+/* pitsets_counts for such a box. */
+static inline int64_t pitsets_counts_in(size_t n, const uint8_t *set, size_t set_length, const int32_t *low,
+                                        const int32_t *high, size_t axis, uint32_t limit, uint32_t *counts,
+                                        size_t counts_length, uint32_t *tested)
+{
+    int32_t l[8], h[8];
+    pitsets_eight(n, low, l);
+    pitsets_eight(n, high, h);
+    return pitsets_counts(n, set, set_length, l[0], l[1], l[2], l[3], l[4], l[5], l[6], l[7], h[0], h[1], h[2], h[3],
+                          h[4], h[5], h[6], h[7], axis, limit, counts, counts_length, tested);
 }
 
 #ifdef __cplusplus

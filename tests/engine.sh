@@ -1,8 +1,8 @@
 #!/usr/bin/env bash
 # The engine's public calls, through the static library of the crate probe, against the stored calls and the second program, answer by
 # answer, and by meaning.
-# CALLS (default 10000) scales the run; with a few hundred the tests may lack an answer at 128 bits, or rows built of some kind, and
-# the searches a run of some kind, which fails. The last line is 'N passed, M failed'.
+# CALLS (default 10000) scales the run; with a few hundred the tests may lack an answer at 128 bits, or rows built of some kind, the
+# searches a run of some kind, and the counts a kind, which fails. The last line is 'N passed, M failed'.
 cd "$(dirname "$0")/.." || exit 2
 calls=${CALLS:-10000}
 passed=0
@@ -38,9 +38,12 @@ held 5 "$calls" check part
 held 6 $((2 * calls)) member holder
 held 10 "$calls" search
 counted "shut windows and runs of failing prefixes among these" tools/target/release/generate searches "$calls" 10
+held 12 "$calls" count counts
+counted "kinds of counts among these" tools/target/release/generate counts "$calls" 12
 held 7 $((5 * calls)) test
 counted "wide at 64 bits and rows built among these" tools/target/release/generate tests $((5 * calls)) 7
 held 8 "$calls" union intersection difference complement
 counted "by meaning" tools/target/release/meaning $((calls / 10)) 9 target/tests/probe
+counted "counts by enumeration" tools/target/release/meaning counts $((6 * calls / 10)) 13 target/tests/probe
 echo "$passed passed, $failed failed"
 [ "$failed" -eq 0 ]

@@ -21,6 +21,9 @@ size_t probe_built(size_t, const uint8_t *, size_t, size_t);
 uint64_t probe_search(size_t, const uint8_t *, size_t, uint32_t, EIGHT, EIGHT);
 uint32_t probe_tally(size_t, const uint8_t *, size_t, uint32_t, EIGHT, EIGHT);
 int64_t probe_coordinate(size_t, const uint8_t *, size_t, uint32_t, EIGHT, EIGHT, size_t);
+uint64_t probe_count(size_t, const uint8_t *, size_t, uint32_t, EIGHT, EIGHT, uint32_t *, uint32_t *);
+uint64_t probe_counts(size_t, const uint8_t *, size_t, uint32_t, size_t, EIGHT, EIGHT, uint32_t *, size_t, uint32_t *,
+                      uint32_t *);
 
 size_t probe_union(size_t, const uint8_t *, size_t, const uint8_t *, size_t, uint8_t *, size_t);
 size_t probe_intersection(size_t, const uint8_t *, size_t, const uint8_t *, size_t, uint8_t *, size_t);
@@ -155,6 +158,87 @@ static void search(char **rest)
     free(t.bytes);
 }
 
+/* A count's question and its answer: its table, and behind it what no call writes. */
+enum { PLACES = 64, BEHIND = 4, UNWRITTEN = 0x5a5a5a5a };
+typedef struct { size_t n, axis; table set; uint32_t limit; int32_t l[8], h[8]; } counting;
+typedef struct { uint64_t r; uint32_t whole, tested, each[PLACES + BEHIND]; } counted;
+
+static counting asked(char **rest, int chosen)
+{
+    counting q = {.n = number(rest), .set = bytes(rest)};
+    q.limit = (uint32_t)number(rest);
+    if (chosen) q.axis = number(rest);
+    eight(rest, q.l);
+    eight(rest, q.h);
+    return q;
+}
+
+static counted whole_of(const counting *q)
+{
+    counted c = {.whole = UNWRITTEN, .tested = UNWRITTEN};
+    c.r = probe_count(q->n, q->set.bytes, q->set.length, q->limit, ARGS(q->l), ARGS(q->h), &c.whole, &c.tested);
+    return c;
+}
+
+static counted counts_of(const counting *q, size_t places)
+{
+    counted c = {.whole = UNWRITTEN, .tested = UNWRITTEN};
+    for (size_t i = 0; i < PLACES + BEHIND; i++) c.each[i] = UNWRITTEN;
+    c.r = probe_counts(q->n, q->set.bytes, q->set.length, q->limit, q->axis, ARGS(q->l), ARGS(q->h), c.each, places,
+                       &c.whole, &c.tested);
+    return c;
+}
+
+/* 0 from one place of the table to its end, and nothing written behind it */
+static int zeros(const counted *c, size_t from, size_t places)
+{
+    for (size_t i = from; i < places; i++)
+        if (c->each[i]) return 0;
+    for (size_t i = places; i < PLACES + BEHIND; i++)
+        if (c->each[i] != UNWRITTEN) return 0;
+    return 1;
+}
+
+/* In a table with a place for each value the answer is the same; with one place less it is 11, last of all refusals. */
+static int sized(const counting *q, const counted *c, size_t values)
+{
+    size_t fewer = values ? values - 1 : 0;
+    counted fits = counts_of(q, values), less = counts_of(q, fewer);
+    if (fits.r != c->r || fits.whole != c->whole || fits.tested != c->tested) return 0;
+    if (memcmp(fits.each, c->each, values * sizeof *c->each) || !zeros(&fits, values, values)) return 0;
+    return less.r == (c->r < 100 && values ? 111 : c->r) && !less.whole && !less.tested && zeros(&less, 0, fewer);
+}
+
+static void print_count(const counted *c, size_t values)
+{
+    if (c->r >= 100) printf(c->whole || c->tested ? "numbers with a refusal\n" : "refused %" PRIu64 "\n", c->r - 100);
+    else if (c->r == 2) printf(c->whole ? "a number and spent\n" : "spent %" PRIu32 "\n", c->tested);
+    else {
+        printf("count %" PRIu32, c->whole);
+        for (size_t i = 0; i < values; i++) printf(" %" PRIu32, c->each[i]);
+        printf(" %" PRIu32 "\n", c->tested);
+    }
+}
+
+static void count(char **rest)
+{
+    counting q = asked(rest, 0);
+    counted c = whole_of(&q);
+    print_count(&c, 0);
+    free(q.set.bytes);
+}
+
+static void counts(char **rest)
+{
+    counting q = asked(rest, 1);
+    counted c = counts_of(&q, PLACES);
+    size_t i = q.axis - 1, values = c.r < 100 && q.l[i] <= q.h[i] ? (size_t)(q.h[i] - q.l[i]) + 1 : 0;
+    if (!zeros(&c, c.r ? 0 : values, PLACES)) puts("no 0 past the counts, or written behind them");
+    else if (!sized(&q, &c, values)) puts("another answer in a table of another size");
+    else print_count(&c, values);
+    free(q.set.bytes);
+}
+
 /* The result's table and a guard behind it, full of what no call writes: every byte of the table must come from the call, none of the guard. */
 enum { GUARD = 64, OLD = 0xa5 };
 
@@ -207,6 +291,8 @@ int main(void)
         else if (!strcmp(w, "holder")) holder(&rest);
         else if (!strcmp(w, "test")) test(&rest);
         else if (!strcmp(w, "search")) search(&rest);
+        else if (!strcmp(w, "count")) count(&rest);
+        else if (!strcmp(w, "counts")) counts(&rest);
         else if (!strcmp(w, "union")) of_two(&rest, probe_union);
         else if (!strcmp(w, "intersection")) of_two(&rest, probe_intersection);
         else if (!strcmp(w, "difference")) of_two(&rest, probe_difference);

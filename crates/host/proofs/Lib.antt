@@ -1,3 +1,5 @@
+pub mod Counted
 pub mod Laws
 pub mod Lengths
 pub mod Meanings
+pub mod Ways

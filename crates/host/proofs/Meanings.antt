@@ -68,11 +68,11 @@ complement-from-one n room a = at (decode n a) (decode-from-one n a)
     at (refused m) p = p
     at (gives s) p = result-from-one (complementFits keeps s) room (complement keeps s)
 
-not-minus : {X : Type 0} (l k : ℕ) → pos l ≡ negℤ (pos k) → 0 < k → X
+pub not-minus : {X : Type 0} (l k : ℕ) → pos l ≡ negℤ (pos k) → 0 < k → X
 not-minus l zero e h = absurd (omega arith)
 not-minus l (suc k) e h = let z : _≡_ {A = ℕ} 0 1 = cc in no-way z
 
-same-pos : {i j : ℕ} → pos i ≡ pos j → i ≡ j
+pub same-pos : {i j : ℕ} → pos i ≡ pos j → i ≡ j
 same-pos e = cc
 
 -- a number from 0 on is the length of the call's result

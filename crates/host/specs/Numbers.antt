@@ -1,5 +1,5 @@
 -- What the board's host gets (document 01, "Asking"): 1 or 0 for member, the result's length for an operation, minus the number for a
--- refusal.
+-- refusal; and for a count (document 02, 12) the number of points, or for spent a number that no refusal has.
 use mathlib.Core.Path.{_≡_}
 use mathlib.Core.Bool.{Bool, true, false}
 use mathlib.Core.List.{List}
@@ -7,6 +7,10 @@ use Prim.Native.Nat.{ℕ, _≤_}
 use lib.IntN.{ℤ, pos, negℤ}
 use Rattle.codec.specs.Bytes.{Answer, refused, gives}
 use Rattle.algebra.specs.Result.{lengthOf, tableOf}
+use Rattle.counting.specs.Counting.{Tally}
+use Rattle.counting.specs.Answers.{countedIs, tableIs}
+use Rattle.counting.specs.declared.calls.Outcome.{Outcome}
+use Rattle.counting.specs.declared.calls.Outcome.the-variants.{Done, Spent, Refused}
 
 abbrev pub memberNumber : Answer Bool → ℤ
 memberNumber (refused k) = negℤ (pos k)
@@ -26,3 +30,22 @@ pub record Hosted (room : ℕ) (a : Answer (List ℕ)) (r : ℤ) (table : List �
 abbrev pub Short : Answer ℕ → Type 0
 Short (refused k) = Unit {0}
 Short (gives l) = l ≤ 62752
+
+-- a count: the number of members w; −1000 for spent
+abbrev pub outcomeNumber : Outcome → ℕ → ℤ
+outcomeNumber Done w = pos w
+outcomeNumber Spent w = negℤ (pos 1000)
+outcomeNumber (Refused k) w = negℤ (pos k)
+
+abbrev pub countNumber : Answer Tally → ℤ
+countNumber a = outcomeNumber (countedIs a .outcome) (countedIs a .whole)
+
+-- the contract of a count that is `a`: the number r, and how many prefixes were tested
+pub record CountHosted (a : Answer Tally) (r : ℤ) (tested : ℕ) : Type 0 where
+  pub number : r ≡ countNumber a
+  pub prefixes : tested ≡ countedIs a .tested
+
+-- the same, and the whole table of `size` places after the call
+pub record CountsHosted (size : ℕ) (a : Answer Tally) (r : ℤ) (table : List ℕ) (tested : ℕ) : Type 0 where
+  pub answer : CountHosted a r tested
+  pub counts : table ≡ tableIs size a

@@ -10,7 +10,7 @@ use Rattle.algebra.specs.Result.{lengthOf, tableOf}
 use Rattle.search.specs.declared.first.Outcome.{Outcome}
 use Rattle.search.specs.declared.first.Outcome.the-variants.{At, Nothing, Spent, Refused}
 
--- refusal k of member, a test or a search: no other answer of theirs is over 4
+-- refusal k of member, a test, a search or a count: no other answer of theirs is over 4
 abbrev pub refusalNumber : ℕ → ℕ
 refusalNumber k = 100 + k
 

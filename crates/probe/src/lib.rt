@@ -1,5 +1,6 @@
 // The public calls for tests and benchmarks written in C alone: each does what the call that it names does.
 mod asking;
+mod counts;
 mod numbers;
 mod operating;
 mod searching;
@@ -9,6 +10,8 @@ pub use asking::probe_check;
 pub use asking::probe_holder;
 pub use asking::probe_member;
 pub use asking::probe_part;
+pub use counts::probe_count;
+pub use counts::probe_counts;
 pub use operating::probe_complement;
 pub use operating::probe_difference;
 pub use operating::probe_intersection;

@@ -6,6 +6,7 @@ ghost use Rattle.carrying.specs.Answers.{testedOf};
 ghost use Rattle.results.specs.Outcome.{outcomeIs};
 ghost use Rattle.probe.specs.Numbers.{memberNumber, searchNumber, lengthNumber};
 ghost use Rattle.probe.specs.Numbers.{verdictNumber, testNumber, pivotsNumber};
+ghost use Rattle.probe.specs.Counts.{countNumber};
 
 pub fn member_number(m: query::Membership) -> u64
     ensures { λ r. ⌜ r ≡ memberNumber (memberIs m) ⌝ }
@@ -57,6 +58,16 @@ pub fn search_number(o: search::Outcome) -> u64
         search::Outcome::Nothing => 1,
         search::Outcome::Spent => 2,
         search::Outcome::Refused(k) => 100 + k as u64,
+    }
+}
+
+pub fn count_number(o: counting::Outcome) -> u64
+    ensures { λ r. ⌜ r ≡ countNumber o ⌝ }
+{
+    match o {
+        counting::Outcome::Done => 0,
+        counting::Outcome::Spent => 2,
+        counting::Outcome::Refused(k) => 100 + k as u64,
     }
 }
 
