@@ -1,13 +1,19 @@
 #!/usr/bin/env bash
-# What check, member and union cost (bytes.c), and the first-point search (search.py), as docs/BENCHMARKS.md has it.
+# What check, member and union cost (bytes.c), the first-point search (search.py) and the count (count.py), as
+# docs/BENCHMARKS.md has it.
 #
 #   bench/query/run.sh          everything
 #   bench/query/run.sh quick    one round, fewer searches of the workloads
-#   LIBRARY=FILE ..             beside it the libprobe.a of another commit, built there by `rt staticlib probe` (before)
+#   PARTS="search count" ..     some of: bytes search count
+#   LIBRARY=FILE ..             beside it the libprobe.a of another commit, built there by `rt staticlib probe` (before);
+#                               not for the count
 #   COUNT=yes ..                instructions of the searches too, by valgrind
 #   SEED=7 ..                   other workloads (default 1)
+#
+# The count is held against isl's where libisl-dev is installed, which bench/peers/run.sh does, and against isl with
+# 32-bit small integers where that has built it.
 cd "$(dirname "$0")/../.." || exit 2
-out=target/bench/query stages=
+out=target/bench/query stages=${PARTS:-bytes search count}
 . bench/peers/steps.sh
 warn=(-O2 -std=c99 -Wall -Wextra -Werror)
 if [ "${1:-}" = quick ]; then rounds=1 cases=8; else rounds=5 cases=100; fi
@@ -17,11 +23,19 @@ staticlib . probe
 build_parts
 make_workloads
 gcc "${warn[@]}" -Ibench/peers -o $out/searches bench/query/searches.c $out/sets.o target/staticlib/libprobe.a || exit 1
-for w in dispatch limit big; do $out/searches $out/$w.work $cases >$out/$w.calls || exit 1; done
+for w in dispatch limit big tiny slots; do $out/searches $out/$w.work $cases >$out/$w.calls || exit 1; done
 
 # built SUFFIX LIBRARY: both programs over the library
 built() {
   gcc "${warn[@]}" -o $out/bytes$1 bench/query/bytes.c "$2" && gcc "${warn[@]}" -o $out/search$1 bench/query/search.c "$2"
+}
+
+# points NAME FLAG..: isl's count of points, with what finds that build of isl
+points() {
+  local name=$1
+  shift
+  gcc $flags -Ibench/peers -DNAME="\"$name\"" bench/query/points_isl.c $here/column_isl.c $out/sets.o "$@" -o $out/points-$name &&
+    peers+=($name=$out/points-$name)
 }
 
 built "" target/staticlib/libprobe.a || exit 1
@@ -30,10 +44,25 @@ machine
 if [ -n "${LIBRARY:-}" ]; then
   built -before "$LIBRARY" || exit 1
   engines+=($out/search-before)
-  echo "before, $LIBRARY:"
-  $out/bytes-before || exit 1
-  echo "after:"
+  if has bytes; then
+    echo "before, $LIBRARY:"
+    $out/bytes-before || exit 1
+    echo "after:"
+  fi
 fi
-$out/bytes || exit 1
-echo
-exec python3 bench/query/search.py $rounds $out "${engines[@]}"
+if has bytes; then $out/bytes || exit 1; fi
+if has search; then
+  echo
+  python3 bench/query/search.py $rounds $out "${engines[@]}" || exit 1
+fi
+if has count; then
+  echo
+  gcc "${warn[@]}" -o $out/count bench/query/count.c target/staticlib/libprobe.a || exit 1
+  peers=()
+  isl32=target/bench/peers/isl32-build
+  if [ -e /usr/include/isl/set.h ]; then points isl -lisl; else say "isl is left out: bench/peers/run.sh installs it"; fi
+  if [ -e $isl32/.libs/libisl.a ]; then
+    points isl32 -I$isl32/include -I"$(echo target/bench/peers/apt/isl-*/include)" $isl32/.libs/libisl.a
+  fi
+  python3 bench/query/count.py $rounds $out $out/count "${peers[@]}"
+fi
