@@ -1,9 +1,9 @@
 -- Member (document 01, "Asking").
 use mathlib.Core.Bool.{Bool, _&&_, cond}
-use mathlib.Core.List.{List}
-use Prim.Native.Nat.{ℕ}
+use mathlib.Core.List.{List, _++_}
+use Prim.Native.Nat.{ℕ, _-_}
 use lib.IntN.{ℤ, pos, negsuc}
-use lib.ListN.{take}
+use lib.ListN.{length, take, replicate}
 use Rattle.model.specs.Lists.{all}
 use Rattle.model.specs.Sets.{Set, absent, inSet}
 use Rattle.codec.specs.Bytes.{Answer, refused, gives, decode, within}
@@ -11,6 +11,10 @@ use Rattle.codec.specs.Bytes.{Answer, refused, gives, decode, within}
 -- "coordinates from −1,048,576 to 1,048,576"
 abbrev pub coordinate : ℤ → Bool
 coordinate z = within (negsuc 1048575) (pos 1048576) z
+
+-- eight places, 0 past the coordinates
+abbrev pub padded : List ℤ → List ℤ
+padded x = x ++ replicate (8 - length x) (pos 0)
 
 -- 12: "coordinate out of range .. absent axis not 0", of a point of 8 places
 abbrev pub pointFits : ℕ → List ℤ → Bool

@@ -1,7 +1,7 @@
 -- What the first-point search's code computes: ends of sums over the sides of a box, and the walk with what is left of the limit.
 use mathlib.Core.Path.{_≡_}
 use mathlib.Core.Bool.{true, cond}
-use mathlib.Core.List.{List, [], _++_}
+use mathlib.Core.List.{List, []}
 use Prim.Native.Nat.{ℕ, _+_, _-_, _≤_, _<_}
 use lib.Dec.{leb}
 use lib.IntN.{ℤ, pos}
@@ -10,6 +10,7 @@ use lib.ListN.{length, take, drop, getD, replicate}
 use Rattle.codec.specs.Bytes.{Answer, refused, gives, decode, number}
 use Rattle.codec.specs.Places.{Accepted}
 use Rattle.search.specs.Search.{Interval, boxOf, Walk, at, nothing, spent, Tallied, foundOf, boxFits}
+pub use Rattle.query.specs.Member.{padded}
 pub use Rattle.bounds.specs.Ends.{side}
 use Rattle.bounds.specs.Ends.{AllWithin}
 use Rattle.search.specs.declared.levels.Trail.{Trail}
@@ -43,10 +44,6 @@ pub record Standing (s : List ℕ) (n k : ℕ) (low high : List ℤ) : Type 0 wh
 pub record Boxed (n : ℕ) (s : List ℕ) (low high : List ℤ) : Type 0 where
   pub accepted : number (decode n s) ≡ 0
   pub box : boxFits n low high ≡ true
-
--- eight places, 0 past the coordinates
-abbrev pub padded : List ℤ → List ℤ
-padded p = p ++ replicate (8 - length p) (pos 0)
 
 abbrev pub trailOf : Tallied → Trail
 trailOf t =
