@@ -73,7 +73,7 @@ fn judged(s: &[u8], start: usize, x: &[i64], q: &[i64]) -> Span
 }
 
 // The basic set whose commands start at `start`.
-fn spanned(s: &[u8], start: usize, x: &[i64]) -> Span
+pub fn spanned(s: &[u8], start: usize, x: &[i64]) -> Span
     requires { ⌜ Opened (now s) start × Point (now x) ⌝ }
     ensures { λ r. ⌜ Spanned (now (s .entry)) start (M.inBasic (now (x .entry))) r ⌝ }
 {
@@ -101,7 +101,7 @@ pub fn first_holding(s: &[u8], x: &[i64]) -> usize
 }
 
 // Whether z can be coordinate i of a point with n axes.
-fn coordinate_fits(n: usize, i: usize, z: i32) -> bool
+pub fn coordinate_fits(n: usize, i: usize, z: i32) -> bool
     ensures { λ r. ⌜ r ≡ coordinateFits n i z ⌝ }
 {
     if z < -1048576 {

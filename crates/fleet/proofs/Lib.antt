@@ -1,0 +1,4 @@
+pub mod Masks
+pub mod Passing
+pub mod Fleets
+pub mod Members

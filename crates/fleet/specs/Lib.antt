@@ -1,0 +1,2 @@
+pub mod Fleet
+pub mod Looking
