@@ -50,7 +50,7 @@ fi
 step "cargo test" cargo_tests
 step "stored scripts" $bin/hexscript run $bin/second -- ../tests/scripts/*.txt
 step "stored calls" $bin/hexscript calls $bin/second calls -- ../tests/calls/*.txt
-step "histogram of 5,000 scripts and calls" $bin/generate histogram 5000 1
+step "histogram of 8,000 scripts and calls" $bin/generate histogram 8000 3
 step "meaning, library" $bin/meaning 2000 1
 step "meaning, program" $bin/meaning 100 2 $bin/second calls
 step "meaning, counts" $bin/meaning counts 6000 1

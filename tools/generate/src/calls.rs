@@ -2,6 +2,7 @@
 
 use crate::counting;
 use crate::damage::damaged;
+use crate::fleets;
 use crate::hard;
 use crate::model::{encode, Set};
 use crate::queries::{any_box, any_limit, any_point, widest_box};
@@ -11,9 +12,9 @@ use crate::sets::World;
 use crate::wider;
 use hexscript::tokens::hex;
 
-pub const KINDS: [&str; 12] = [
-    "check", "part", "member", "holder", "search", "count", "counts", "test", "union", "intersection", "difference",
-    "complement",
+pub const KINDS: [&str; 13] = [
+    "check", "part", "member", "holder", "fleet", "search", "count", "counts", "test", "union", "intersection",
+    "difference", "complement",
 ];
 
 /// Bytes of the set, damaged for a part of the calls.
@@ -167,6 +168,7 @@ pub fn call(seed: u64, index: u64, kinds: &[&str]) -> String {
         "part" => part(rng, world),
         "member" => member(rng, world),
         "holder" => holder(rng, world),
+        "fleet" => fleets::call(rng, world),
         "search" => search(rng, world),
         kind @ ("count" | "counts") => counting::call(rng, world, kind),
         "test" => test(rng, world),

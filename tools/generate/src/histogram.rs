@@ -1,6 +1,6 @@
 //! What the generated scripts and calls reach, by `second`.
 
-use crate::{calls, counting, events, runs, scripts};
+use crate::{calls, counting, events, fleets, runs, scripts};
 use hexscript::tokens::unhex;
 use second::algebra::{complement, difference, intersection, union, Watch};
 use second::ask::{check_corners, check_limit, Sides};
@@ -58,12 +58,14 @@ fn count_built(basic: &BasicSet, outcome: Outcome, counts: &mut Counts) {
 
 /// What only a call can reach: the count is no command of a script.
 pub const COUNTING: [&str; 5] = ["refused 19", "count count", "count spent", "counts count", "counts spent"];
+/// What only a call can reach: the fleet is no command of a script.
+pub const FLEET: [&str; 2] = ["refused 16", "fleet seen"];
 
 /// Every name that has to occur.
 pub fn wanted() -> Vec<String> {
     let refusals = (1..=15).map(|k| format!("refused {k}"));
     let tests = ANSWERS.iter().map(|answer| format!("test {answer}"));
-    let asking = ["search at", "search none", "search spent"].into_iter().chain(COUNTING).chain(SHUT);
+    let asking = ["search at", "search none", "search spent"].into_iter().chain(COUNTING).chain(FLEET).chain(SHUT);
     let carried = TESTING.iter().flat_map(|kind| ANSWERS.map(|answer| carried(kind, answer)));
     let others = asking.chain(events::EVENTS).chain(runs::EVENTS).map(str::to_string);
     refusals.chain(tests).chain(others).chain(carried).chain(built_names()).collect()
@@ -276,6 +278,13 @@ pub fn of_counts(count: u64, seed: u64) -> Counts {
     counts
 }
 
+/// What so many calls of the fleet reach.
+pub fn of_fleets(count: u64, seed: u64) -> Counts {
+    let mut counts = Counts::new();
+    (0..count).for_each(|index| fleets::count(&calls::call(seed, index, &["fleet"]), &mut counts));
+    counts
+}
+
 pub fn of_calls(count: u64, seed: u64) -> Counts {
     let mut counts = Counts::new();
     for index in 0..count {
@@ -291,6 +300,7 @@ pub fn of_calls(count: u64, seed: u64) -> Counts {
             ("check", number) => bump(&mut counts, &format!("refused {number}")),
             (_, "refused") => bump(&mut counts, &format!("refused {}", words[1])),
             ("search" | "test" | "member" | "holder", word) => bump(&mut counts, &format!("{kind} {word}")),
+            ("fleet", _) => bump(&mut counts, "fleet seen"),
             ("part", _) => bump(&mut counts, if words == ["0", "0"] { "part empty" } else { "part given" }),
             (_, word) => bump(&mut counts, &format!("{kind} {word}")),
         }

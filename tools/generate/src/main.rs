@@ -6,15 +6,16 @@
 //! `generate searches COUNT SEED`        what COUNT calls of the search reach: long runs of failing prefixes, by the rules
 //!                                       that fail and by where the limit falls
 //! `generate counts COUNT SEED`          what COUNT calls of the count reach: sets, chosen axes, refusals, limits
+//! `generate fleets COUNT SEED`          what COUNT calls of the fleet reach: lists, refusals, which points are in
 
 use generate::histogram::Counts;
-use generate::{calls, counting, histogram, runs, scripts};
+use generate::{calls, counting, fleets, histogram, runs, scripts};
 use hexscript::tokens::hex;
 use std::io::Write;
 use std::process::ExitCode;
 
 const USAGE: &str =
-    "generate scripts COUNT SEED DIR|- | calls COUNT SEED [KIND..] | histogram|tests|searches|counts COUNT SEED";
+    "generate scripts COUNT SEED DIR|- | calls COUNT SEED [KIND..] | histogram|tests|searches|counts|fleets COUNT SEED";
 
 /// One test in so many has to be wide at 64 bits.
 const CARRIED_ONE_IN: u64 = 25;
@@ -50,7 +51,7 @@ fn count_of(counts: &Counts, name: &str) -> usize {
 }
 
 /// Each wanted name is a check: it must occur among the scripts and among the calls (14 and 15 are of scripts only, a
-/// test of its own and a count are of calls only, and what calls of the test build is for `tests` to say).
+/// test of its own, a count and a fleet are of calls only, and what calls of the test build is for `tests` to say).
 fn print_histogram(count: u64, seed: u64) -> ExitCode {
     let by_scripts = histogram::of_scripts(count, seed);
     let by_calls = histogram::of_calls(count, seed);
@@ -65,7 +66,8 @@ fn print_histogram(count: u64, seed: u64) -> ExitCode {
     for name in &wanted {
         let (s, c) = line(name);
         let script_only = name == "refused 14" || name == "refused 15" || name.starts_with("built");
-        let call_only = name.starts_with("test carried") || histogram::COUNTING.contains(&name.as_str());
+        let asked_only = histogram::COUNTING.iter().chain(&histogram::FLEET).any(|asked| asked == name);
+        let call_only = name.starts_with("test carried") || asked_only;
         passed += usize::from((s > 0 || call_only) && (c > 0 || script_only));
     }
     for name in by_calls.keys().filter(|name| !wanted.contains(name)) {
@@ -109,6 +111,10 @@ fn print_counts(count: u64, seed: u64) -> ExitCode {
     closing(&print_each(&histogram::of_counts(count, seed), &counting::EVENTS.map(str::to_string)))
 }
 
+fn print_fleets(count: u64, seed: u64) -> ExitCode {
+    closing(&print_each(&histogram::of_fleets(count, seed), &fleets::EVENTS.map(str::to_string)))
+}
+
 fn closing(checks: &[bool]) -> ExitCode {
     let passed = checks.iter().filter(|&&good| good).count();
     let failed = checks.len() - passed;
@@ -125,6 +131,7 @@ fn run(words: &[&str]) -> Result<ExitCode, String> {
         ["tests", count, seed] => Ok(print_tests(number(count)?, number(seed)?)),
         ["searches", count, seed] => Ok(print_searches(number(count)?, number(seed)?)),
         ["counts", count, seed] => Ok(print_counts(number(count)?, number(seed)?)),
+        ["fleets", count, seed] => Ok(print_fleets(number(count)?, number(seed)?)),
         _ => Err(USAGE.to_string()),
     }
 }

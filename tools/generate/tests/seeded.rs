@@ -80,5 +80,8 @@ fn a_multiplied_rule_stays_within_its_ranges() {
 
 #[test]
 fn wanted_names_are_all_there() {
-    assert_eq!(histogram::wanted().len(), 15 + 4 + 3 + 5 + 2 + events::EVENTS.len() + runs::EVENTS.len() + 4 * 4 + 8);
+    assert_eq!(
+        histogram::wanted().len(),
+        15 + 4 + 3 + 5 + 2 + 2 + events::EVENTS.len() + runs::EVENTS.len() + 4 * 4 + 8
+    );
 }

@@ -253,6 +253,19 @@ impl Case {
         Check { call, judge: Box::new(move |answer| verdict(answer == expected, || format!("should be {expected}"))) }
     }
 
+    /// As many points of the box as there may be, or fewer: bit i is whether point i is in.
+    fn fleet(self: &Rc<Case>, rng: &mut Rng) -> Check {
+        let count = rng.pick(&[0, 1, 7, 63, 64]);
+        let list: Vec<[i32; 8]> = (0..count).map(|_| rng.pick(&self.points)).collect();
+        let words: String = list.iter().flat_map(|p| &p[..self.n]).map(|x| format!(" {x}")).collect();
+        let set = meaning(&self.a);
+        let inside: Vec<usize> = (0..count).filter(|&i| holds(&set, &list[i])).collect();
+        let mask: u64 = inside.iter().map(|i| 1 << i).sum();
+        let expected = format!("{mask} {}", inside.len());
+        let call = format!("fleet {} {}{words}", self.n, hex(&encode(&self.a)));
+        Check { call, judge: Box::new(move |answer| verdict(answer == expected, || format!("should be {expected}"))) }
+    }
+
     fn holder(self: &Rc<Case>, rng: &mut Rng) -> Check {
         let point = self.points[rng.below(self.points.len())];
         let words = point.map(|x| x.to_string()).join(" ");
@@ -346,5 +359,6 @@ pub fn checks(seed: u64, index: u64) -> Vec<Check> {
     }
     out.push(test_wider(rng));
     out.push(case.shut_search(rng));
+    out.push(case.fleet(rng));
     out
 }

@@ -4,6 +4,7 @@ use crate::algebra::{complement, difference, intersection, union, unwatched};
 use crate::ask::{holder, member, part, search, Sides, Table};
 use crate::bytes::{encode, parse};
 use crate::count::{count, counts, Count};
+use crate::fleet::fleet;
 use crate::model::{Point, Set};
 use crate::refusal;
 use crate::script::search_words;
@@ -33,6 +34,7 @@ fn answer(line: &str) -> Option<String> {
         "check" => call_check(n, &mut fields)?,
         "part" => call_part(n, &mut fields)?,
         "holder" => call_holder(n, &mut fields)?,
+        "fleet" => call_fleet(n, &mut fields)?,
         _ => return None,
     };
     Some(answer)
@@ -174,6 +176,16 @@ fn call_holder(n: u8, fields: &mut Fields) -> Option<String> {
     Some(format!("{word} {} {}", part.offset, part.length))
 }
 
+/// As many coordinates as the line has.
+fn call_fleet(n: u8, fields: &mut Fields) -> Option<String> {
+    let set = fields.bytes()?;
+    let coordinates = fields.coordinates()?;
+    Some(match parse(n, &set).and_then(|set| fleet(&set, &coordinates)) {
+        Ok(found) => format!("{} {}", found.mask, found.count),
+        Err(number) => format!("refused {number}"),
+    })
+}
+
 /// The fields still to be read, each one giving None where it is ill-formed.
 struct Fields<'a>(std::collections::VecDeque<&'a str>);
 
@@ -220,6 +232,10 @@ impl<'a> Fields<'a> {
             *coordinate = self.coordinate()?;
         }
         Some(point)
+    }
+
+    fn coordinates(&mut self) -> Option<Vec<i32>> {
+        (0..self.0.len()).map(|_| self.coordinate()).collect()
     }
 
     fn bytes(&mut self) -> Option<Vec<u8>> {

@@ -13,6 +13,7 @@ pub mod bytes;
 pub mod calls;
 pub mod count;
 pub mod exact;
+pub mod fleet;
 pub mod listing;
 pub mod model;
 pub mod refusal;

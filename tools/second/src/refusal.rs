@@ -15,4 +15,5 @@ pub const COORDINATE: u8 = 12;
 pub const LIMIT: u8 = 13;
 pub const SET_NUMBER: u8 = 14;
 pub const AXES_COMMAND_PLACE: u8 = 15;
+pub const FLEET_LIST: u8 = 16;
 pub const CHOSEN_AXIS: u8 = 19;

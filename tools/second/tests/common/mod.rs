@@ -46,6 +46,11 @@ pub fn member(n: u8, bytes: &[u8], x: &[i32]) -> String {
     call(format!("member {n} {} {}", hex(bytes), eight(x)))
 }
 
+pub fn fleet(n: u8, bytes: &[u8], coordinates: &[i32]) -> String {
+    let words = coordinates.iter().map(|x| format!(" {x}")).collect::<String>();
+    call(format!("fleet {n} {}{words}", hex(bytes)))
+}
+
 pub fn search(n: u8, bytes: &[u8], limit: u32, low: &[i32], high: &[i32]) -> String {
     let (set, low, high) = (hex(bytes), eight(low), eight(high));
     call(format!("search {n} {set} {limit} {low} {high}"))
