@@ -196,6 +196,29 @@ static void counts(char **rest)
     done(&q);
 }
 
+/* the rest of the line as coordinates, copied to a table of just that length, so that a reader past its end is seen */
+static void fleet(char **rest)
+{
+    size_t n = strtoull(word(rest), NULL, 10), numbers = 0;
+    table set = bytes(rest), copy = copy_of(&set);
+    int32_t *read = must(malloc((strlen(*rest) / 2 + 1) * sizeof *read));
+    for (char *w; (w = strtok_r(NULL, " \n", rest)); ) read[numbers++] = (int32_t)strtol(w, NULL, 10);
+    int32_t *points = must(malloc(numbers * sizeof *points + 1));
+    memcpy(points, read, numbers * sizeof *points);
+    uint64_t mask[3] = {MARK, MARK, MARK};
+    int64_t r = pitsets_fleet(n, set.bytes, set.length, points, numbers, mask + 1);
+    if (mask[0] != MARK || mask[2] != MARK) puts("a number beside the mask changed");
+    else if (memcmp(points, read, numbers * sizeof *points)) puts("the points changed");
+    else if (r < 0 && mask[1]) puts("a mask after a refusal");
+    else if (r < 0) printf("refused %" PRId64 "\n", -r);
+    else printf("%" PRIu64 " %" PRId64 "\n", mask[1], r);
+    untouched(&set, &copy);
+    give_back(&set);
+    give_back(&copy);
+    free(points);
+    free(read);
+}
+
 typedef int64_t operation(size_t, const uint8_t *, size_t, const uint8_t *, size_t, uint8_t *, size_t);
 
 static void print_table(int64_t r, const table *out)
@@ -238,6 +261,7 @@ int main(void)
         char *rest, *w = strtok_r(line, " \n", &rest);
         if (!w) puts("bad line");
         else if (!strcmp(w, "member")) member(&rest);
+        else if (!strcmp(w, "fleet")) fleet(&rest);
         else if (!strcmp(w, "count")) count(&rest);
         else if (!strcmp(w, "counts")) counts(&rest);
         else if (!strcmp(w, "union")) two(&rest, pitsets_union);

@@ -1,4 +1,5 @@
-/* May this truck run? A permit set, a closure taken away, and two trucks asked.
+/* May this truck run? A permit set, and which trucks of a fleet it lets run; a ramp closes, which is taken away, and
+ * the fleet is asked again; then single trucks.
  * Axes: payload in tonnes, road, minute of the shift. Build and run: make -C host example && host/example */
 #include <inttypes.h>
 #include <stdio.h>
@@ -16,6 +17,22 @@ static int ask(const char *who, const uint8_t *set, size_t length, const int32_t
         return 1;
     }
     printf("%s: %s\n", who, answer ? "may run" : "must wait");
+    return 0;
+}
+
+/* which trucks of a fleet may run, by one call */
+static int look(const char *when, const uint8_t *set, size_t length, const int32_t *trucks, size_t count)
+{
+    uint64_t mask;
+    int64_t running = pitsets_fleet(AXES, set, length, trucks, AXES * count, &mask);
+    if (running < 0) {
+        printf("%s: refused %" PRId64 ", %s\n", when, -running, pitsets_reason(running));
+        return 1;
+    }
+    printf("%s: %" PRId64 " of %zu may run, trucks", when, running, count);
+    for (size_t i = 0; i < count; i++)
+        if (mask >> i & 1) printf(" %zu", i + 1);
+    puts("");
     return 0;
 }
 
@@ -41,15 +58,21 @@ int main(void)
     at_least_0(&closure, -6, none, 1);
     at_least_0(&closure, 8, none, -1);
 
+    /* five trucks, and a sixth whose minute is out of range */
+    const int32_t fleet[] = {180, 4, 120, 180, 4, 200, 240, 7, 200, 241, 7, 200, 0, 1, 0, 180, 4, 2000000};
+    int failed = look("before the closure", permit.bytes, permit.length, fleet, 5);
+
     int64_t length = pitsets_difference(AXES, permit.bytes, permit.length, closure.bytes, closure.length, allowed, sizeof allowed);
     if (length < 0) {
         printf("refused %" PRId64 ", %s\n", -length, pitsets_reason(length));
         return 1;
     }
     printf("allowed: %" PRId64 " bytes\n", length);
+    failed |= look("road 4 closed in the half hours 6 to 8", allowed, (size_t)length, fleet, 5);
+    look("with a truck at minute 2000000", allowed, (size_t)length, fleet, 6);
 
     const int32_t early[AXES] = {180, 4, 120}, late[AXES] = {180, 4, 200}, far[AXES] = {180, 4, 2000000};
-    int failed = ask("truck at minute 120 on road 4", allowed, (size_t)length, early);
+    failed |= ask("truck at minute 120 on road 4", allowed, (size_t)length, early);
     failed |= ask("truck at minute 200 on road 4", allowed, (size_t)length, late);
     ask("truck at minute 2000000", allowed, (size_t)length, far);
 

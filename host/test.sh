@@ -24,7 +24,7 @@ check() {
 compared() {
   name=$1 n=$2 seed=$3
   shift 3
-  "$tools/compare" calls "$*" "$n" "$seed" member count counts union intersection difference complement >"$log" 2>&1
+  "$tools/compare" calls "$*" "$n" "$seed" member fleet count counts union intersection difference complement >"$log" 2>&1
   status=$?
   line=$(tail -n 1 "$log")
   case $line in

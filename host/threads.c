@@ -11,6 +11,9 @@ enum { ROUNDS = 2000 };
 static const uint8_t range[75] = {0x11, 0x14, 0, 0, 0, 0, 1, 0, [38] = 0x14, 0x8A, 0x08, 0, 0, 0xFF, 0xFF};
 static const uint8_t tenth[61] = {0x11, 0x12, 10, 0, 0, 0, 0, 0, 1, 0, [24] = 0x13, 0x26, 0xFF, 0xFF, 0xFF, [45] = 1};
 
+/* of the difference: in, out, in, out */
+static const int32_t fleet[4] = {2179, 2180, 0, -1};
+
 /* 2150 to 2179 are left of 2150 to 2213, 64 values, each of which is tested */
 static int counted(const uint8_t *set, size_t length, int round)
 {
@@ -35,6 +38,8 @@ static void *work(void *failed)
         if (memcmp(first, again, sizeof first)) *(int *)failed = 1;
         if (pitsets_member(1, first, (size_t)length, 2179, 0, 0, 0, 0, 0, 0, 0) != 1) *(int *)failed = 1;
         if (pitsets_member(1, first, (size_t)length, 2180, 0, 0, 0, 0, 0, 0, 0) != 0) *(int *)failed = 1;
+        uint64_t mask = (uint64_t)i;
+        if (pitsets_fleet(1, first, (size_t)length, fleet, 4, &mask) != 2 || mask != 5) *(int *)failed = 1;
         if (!counted(first, (size_t)length, i)) *(int *)failed = 1;
     }
     return NULL;

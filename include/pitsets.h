@@ -1,5 +1,5 @@
-/* Integer rule sets for the pit board: membership of a point, union, intersection, difference and complement of sets,
- * and how many points of a box are in a set.
+/* Integer rule sets for the pit board: membership of a point and of a whole fleet, union, intersection, difference and
+ * complement of sets, and how many points of a box are in a set.
  *
  * A set is bytes in a table of yours (layout: document 01, "Bytes of a set"). n is the number of axes, 1 to 8.
  * Every function
@@ -27,7 +27,10 @@ extern "C" {
 /* Stack that a call may need, in bytes. */
 #define PITSETS_STACK (1024 * 1024)
 
-/* The numbers of document 01, "Refused", and of document 02. These functions give 1 to 13 and 19; 14 and 15 are the
+/* The most points of a fleet. */
+#define PITSETS_FLEET 64
+
+/* The numbers of document 01, "Refused", and of document 02. These functions give 1 to 13, 16 and 19; 14 and 15 are the
  * script program's. */
 enum pitsets_refusal {
     PITSETS_AXES = 1,          /* n is not 1 to 8 */
@@ -43,6 +46,7 @@ enum pitsets_refusal {
     PITSETS_TABLE = 11,        /* the result is longer than its table, or there are more counts than places */
     PITSETS_POINT = 12,        /* a coordinate of a point or a box out of range, or an absent axis that is not 0 */
     PITSETS_LIMIT = 13,        /* the limit of a count is not 1 to 1,000,000 */
+    PITSETS_FLEET_LIST = 16,   /* more than 64 points, or no whole number of points */
     PITSETS_AXIS = 19          /* the chosen axis is not 1 to n, or its side has over 64 values */
 };
 
@@ -69,6 +73,7 @@ static inline const char *pitsets_reason(int64_t number)
     case PITSETS_TABLE: return "result longer than its table";
     case PITSETS_POINT: return "coordinate out of range or absent axis not 0";
     case PITSETS_LIMIT: return "limit not 1 to 1000000";
+    case PITSETS_FLEET_LIST: return "more than 64 points or no whole number of points";
     case PITSETS_AXIS: return "chosen axis not 1 to n, or over 64 values";
     case -PITSETS_SPENT: return "limit spent";
     default: return "no such refusal";
@@ -79,6 +84,16 @@ static inline const char *pitsets_reason(int64_t number)
  * Refusals: 1, the set's 2 to 9, 12. */
 int64_t pitsets_member(size_t n, const uint8_t *set, size_t set_length, int32_t x1, int32_t x2, int32_t x3, int32_t x4,
                        int32_t x5, int32_t x6, int32_t x7, int32_t x8);
+
+/* A whole fleet at one look: which of up to PITSETS_FLEET points are in the set, in one pass over it. `points` has
+ * n coordinates to a point, point after point and none for absent axes; `numbers` is how many there are in all.
+ * Point i, from 1, has bit i - 1 of *mask, point 1 the lowest: 1 where pitsets_member gives 1 for it, 0 where it
+ * gives 0. Bits past the last point are 0. Returns how many points are in the set, which is how many bits are 1;
+ * without points 0, and mask 0. After a refusal *mask is 0. `points` and `mask` are aligned as int32_t and uint64_t
+ * are; *mask is no part of the set or of the points. Refusals: 1, the set's 2 to 9, 16, 12 (one bad coordinate
+ * refuses the list). */
+int64_t pitsets_fleet(size_t n, const uint8_t *set, size_t set_length, const int32_t *points, size_t numbers,
+                      uint64_t *mask);
 
 /* The operations write the result to `result` and return its length. Past the result the table is filled with 0; after a refusal it is
  * all 0. Refusals: 1, the first set's 2 to 9, the second set's 2 to 9, 10, 11.

@@ -3,3 +3,4 @@ pub mod Laws
 pub mod Lengths
 pub mod Meanings
 pub mod Ways
+pub mod Fleets

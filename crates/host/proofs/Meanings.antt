@@ -31,11 +31,11 @@ use Rattle.host.specs.Numbers.{memberNumber, lengthNumber, Hosted}
 
 -- ---- no refusal has the number 0, so that a number from 0 on is no refusal
 
-abbrev FromOne : {A : Type 0} → Answer A → Type 0
+abbrev pub FromOne : {A : Type 0} → Answer A → Type 0
 FromOne (refused k) = 0 < k
 FromOne (gives a) = Unit {0}
 
-decode-from-one : (n : ℕ) (s : List ℕ) → FromOne (decode n s)
+pub decode-from-one : (n : ℕ) (s : List ℕ) → FromOne (decode n s)
 unfolding decode′
 decode-from-one n s = subst FromOne (sym (decode-split n s)) (at (build (commandsOf (length s) s) .rest) (axesFit n) (refusalOf n (length s) start s))
   where

@@ -11,6 +11,8 @@ use Rattle.counting.specs.Counting.{Tally}
 use Rattle.counting.specs.Answers.{countedIs, tableIs}
 use Rattle.counting.specs.declared.calls.Outcome.{Outcome}
 use Rattle.counting.specs.declared.calls.Outcome.the-variants.{Done, Spent, Refused}
+use Rattle.fleet.specs.Fleet.{Fleet}
+use Rattle.fleet.specs.Looking.{maskIn}
 
 abbrev pub memberNumber : Answer Bool → ℤ
 memberNumber (refused k) = negℤ (pos k)
@@ -49,3 +51,13 @@ pub record CountHosted (a : Answer Tally) (r : ℤ) (tested : ℕ) : Type 0 wher
 pub record CountsHosted (size : ℕ) (a : Answer Tally) (r : ℤ) (table : List ℕ) (tested : ℕ) : Type 0 where
   pub answer : CountHosted a r tested
   pub counts : table ≡ tableIs size a
+
+-- of a fleet (02, request 2): how many of the points are in the set
+abbrev pub fleetNumber : Answer Fleet → ℤ
+fleetNumber (refused k) = negℤ (pos k)
+fleetNumber (gives f) = pos (f .count)
+
+-- the contract of a look whose answer on bytes is `a`: the number r, and the mask after the call
+pub record Fleeted (a : Answer Fleet) (r : ℤ) (mask : ℕ) : Type 0 where
+  pub number : r ≡ fleetNumber a
+  pub bits : mask ≡ maskIn a

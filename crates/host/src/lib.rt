@@ -1,11 +1,13 @@
 // The engine for the board's host in C: numbers and byte slices in, a signed number out (include/pitsets.h).
 mod asking;
 mod counts;
+mod looking;
 mod operating;
 
 pub use asking::pitsets_member;
 pub use counts::pitsets_count;
 pub use counts::pitsets_counts;
+pub use looking::pitsets_fleet;
 pub use operating::pitsets_complement;
 pub use operating::pitsets_difference;
 pub use operating::pitsets_intersection;

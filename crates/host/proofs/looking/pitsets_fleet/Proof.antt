@@ -1,0 +1,28 @@
+use mathlib.Core.Path.{ap, _∙_}
+use mir.Syntax.{w64}
+use Rattle.integers.specs.Mach.{result-is}
+use Rattle.fleet.specs.Looking.{maskIn}
+use Rattle.host.specs.Numbers.{fleetNumber}
+use borrow.Author.Needs.{needs}
+use Rattle.host.proofs.looking.pitsets_fleet.Statement.{statement}
+use Rattle.host.proofs.looking.pitsets_fleet.Tie as tie
+
+look-requires : tie.Need-look-requires
+look-requires c κs = search needs
+
+mask-in-requires : tie.Need-mask-in-requires
+mask-in-requires c κs = search needs
+
+fleet-number-requires : tie.Need-fleet-number-requires
+fleet-number-requires c κs = search needs
+
+returns : tie.Need-returns
+returns c =
+    let m = c .before in let l = m .before in record {
+      number = result-is w64 _ (c .«fleet-number» .ok) ∙ c .«fleet-number» .ensures ∙ ap fleetNumber (l .look .ensures);
+      bits = m .«mask-in» .ensures ∙ ap maskIn (l .look .ensures);
+    }
+
+pub pitsets-fleet-spec : {M : Type 1} → statement M
+pitsets-fleet-spec =
+    tie.close (tie.spec look-requires mask-in-requires fleet-number-requires returns)
