@@ -36,6 +36,8 @@ held() {
 counted "stored calls" tools/target/release/hexscript calls target/tests/probe -- tests/calls/*.txt
 held 5 "$calls" check part
 held 6 $((2 * calls)) member holder
+held 11 $((2 * calls)) fleet
+counted "lists of points among these" tools/target/release/generate fleets $((2 * calls)) 11
 held 10 "$calls" search
 counted "shut windows and runs of failing prefixes among these" tools/target/release/generate searches "$calls" 10
 held 12 "$calls" count counts

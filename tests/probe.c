@@ -14,6 +14,7 @@ typedef struct { uint8_t *bytes; size_t length; } table;
 uint32_t probe_check(size_t, const uint8_t *, size_t);
 size_t probe_part(size_t, const uint8_t *, size_t, size_t, uint8_t *, size_t);
 uint64_t probe_member(size_t, const uint8_t *, size_t, EIGHT);
+uint64_t probe_fleet(size_t, const uint8_t *, size_t, const int32_t *, size_t, uint64_t *);
 size_t probe_holder(size_t, const uint8_t *, size_t, const uint8_t *, size_t, EIGHT, uint8_t *, size_t);
 uint64_t probe_test(size_t, const uint8_t *, size_t, size_t);
 size_t probe_pivots(size_t, const uint8_t *, size_t, size_t);
@@ -125,6 +126,23 @@ static void holder(char **rest)
     else printf("second %ld %zu\n", place(&b, 0, out, length), length);
     free(a.bytes);
     free(b.bytes);
+}
+
+/* the coordinates are the rest of the line */
+static void fleet(char **rest)
+{
+    size_t n = number(rest), count = 0;
+    table t = bytes(rest);
+    int32_t *list = malloc((strlen(*rest) / 2 + 1) * sizeof *list);
+    uint64_t mask = ~(uint64_t)0;
+    if (!list) exit(2);
+    for (char *w; (w = strtok_r(NULL, " \n", rest)); ) list[count++] = (int32_t)strtol(w, NULL, 10);
+    uint64_t r = probe_fleet(n, t.bytes, t.length, list, count, &mask);
+    if (r >= 100 && mask) puts("a mask after a refusal");
+    else if (r >= 100) printf("refused %" PRIu64 "\n", r - 100);
+    else printf("%" PRIu64 " %" PRIu64 "\n", mask, r);
+    free(list);
+    free(t.bytes);
 }
 
 static void test(char **rest)
@@ -289,6 +307,7 @@ int main(void)
         else if (!strcmp(w, "part")) part(&rest);
         else if (!strcmp(w, "member")) member(&rest);
         else if (!strcmp(w, "holder")) holder(&rest);
+        else if (!strcmp(w, "fleet")) fleet(&rest);
         else if (!strcmp(w, "test")) test(&rest);
         else if (!strcmp(w, "search")) search(&rest);
         else if (!strcmp(w, "count")) count(&rest);

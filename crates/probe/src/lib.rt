@@ -1,6 +1,7 @@
 // The public calls for tests and benchmarks written in C alone: each does what the call that it names does.
 mod asking;
 mod counts;
+mod looking;
 mod numbers;
 mod operating;
 mod searching;
@@ -12,6 +13,7 @@ pub use asking::probe_member;
 pub use asking::probe_part;
 pub use counts::probe_count;
 pub use counts::probe_counts;
+pub use looking::probe_fleet;
 pub use operating::probe_complement;
 pub use operating::probe_difference;
 pub use operating::probe_intersection;
