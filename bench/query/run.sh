@@ -1,24 +1,25 @@
 #!/usr/bin/env bash
-# What check, member and union cost (bytes.c), the first-point search (search.py) and the count (count.py), as
-# docs/BENCHMARKS.md has it.
+# What check, member and union cost (bytes.c), a fleet of 64 against member and isl (fleet.c), the first-point search
+# (search.py) and the count (count.py), as docs/BENCHMARKS.md has it.
 #
 #   bench/query/run.sh          everything
 #   bench/query/run.sh quick    one round, fewer searches of the workloads
-#   PARTS="search count" ..     some of: bytes search count
+#   PARTS="search count" ..     some of: bytes fleet search count
 #   LIBRARY=FILE ..             beside it the libprobe.a of another commit, built there by `rt staticlib probe` (before);
 #                               not for the count
 #   COUNT=yes ..                instructions of the searches too, by valgrind
 #   SEED=7 ..                   other workloads (default 1)
 #
-# The count is held against isl's where libisl-dev is installed, which bench/peers/run.sh does, and against isl with
-# 32-bit small integers where that has built it.
+# Fleet and count are held against isl's where libisl-dev is installed, which bench/peers/run.sh does, and against isl
+# with 32-bit small integers where that has built it.
 cd "$(dirname "$0")/../.." || exit 2
-out=target/bench/query stages=${PARTS:-bytes search count}
+out=target/bench/query stages=${PARTS:-bytes fleet search count}
 . bench/peers/steps.sh
 warn=(-O2 -std=c99 -Wall -Wextra -Werror)
 if [ "${1:-}" = quick ]; then rounds=1 cases=8; else rounds=5 cases=100; fi
 mkdir -p $out
 staticlib . probe
+if has fleet; then staticlib . host; fi
 (cd tools && cargo build --release --offline --quiet) || exit 1
 build_parts
 make_workloads
@@ -38,6 +39,24 @@ points() {
     peers+=($name=$out/points-$name)
 }
 
+# fleet NAME FLAG..: the fleet beside member and a build of isl, so too
+fleet() {
+  local name=$1 w
+  shift
+  gcc $flags -Iinclude -Ibench/peers -DNAME="\"$name\"" -o $out/fleet-$name bench/query/fleet.c $here/column_isl.c \
+    $out/sets.o target/staticlib/libhost.a "$@" || return
+  for w in dispatch limit big; do $out/fleet-$name $out/$w.work $cases $((4 * rounds)) || return; done
+}
+
+# beside_isl FUNCTION: FUNCTION for each build of isl that is there
+beside_isl() {
+  local isl32=target/bench/peers/isl32-build
+  if [ -e /usr/include/isl/set.h ]; then "$1" isl -lisl || return; else say "isl is left out: bench/peers/run.sh installs it"; fi
+  if [ -e $isl32/.libs/libisl.a ]; then
+    "$1" isl32 -I$isl32/include -I"$(echo target/bench/peers/apt/isl-*/include)" $isl32/.libs/libisl.a
+  fi
+}
+
 built "" target/staticlib/libprobe.a || exit 1
 engines=($out/search)
 machine
@@ -51,6 +70,11 @@ if [ -n "${LIBRARY:-}" ]; then
   fi
 fi
 if has bytes; then $out/bytes || exit 1; fi
+if has fleet; then
+  printf '\n| points of | cases | by 64: ns a point | by member | prepared set | member over 64 | isl over 64 |\n'
+  echo "|---|---|---|---|---|---|---|"
+  beside_isl fleet || exit 1
+fi
 if has search; then
   echo
   python3 bench/query/search.py $rounds $out "${engines[@]}" || exit 1
@@ -59,10 +83,6 @@ if has count; then
   echo
   gcc "${warn[@]}" -o $out/count bench/query/count.c target/staticlib/libprobe.a || exit 1
   peers=()
-  isl32=target/bench/peers/isl32-build
-  if [ -e /usr/include/isl/set.h ]; then points isl -lisl; else say "isl is left out: bench/peers/run.sh installs it"; fi
-  if [ -e $isl32/.libs/libisl.a ]; then
-    points isl32 -I$isl32/include -I"$(echo target/bench/peers/apt/isl-*/include)" $isl32/.libs/libisl.a
-  fi
+  beside_isl points
   python3 bench/query/count.py $rounds $out $out/count "${peers[@]}"
 fi
