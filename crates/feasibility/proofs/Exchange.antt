@@ -149,7 +149,7 @@ module _ (j : ℕ) (cols : List ℕ) (jin : j < length cols) (r : Row) (shape : 
   unfolding raw
   shape-solved = record { long = like .long ∙ length-set (map negℤ (r .nums)) (suc j) (r .den) ∙ length-map (r .nums) negℤ ∙ shape .long; positive = like .positive }
 
-  shape-replaced : (s : Row) → Shape (length cols) s → Shape (length cols) (replaced r j s)
+  pub shape-replaced : (s : Row) → Shape (length cols) s → Shape (length cols) (replaced r j s)
   shape-replaced s sh = at (isZero (entry s j))
     where
       raw′ : Row

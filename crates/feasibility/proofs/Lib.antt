@@ -9,3 +9,5 @@ pub mod Start
 pub mod Points
 pub mod Verdicts
 pub mod Far
+pub mod Reached
+pub mod Sound

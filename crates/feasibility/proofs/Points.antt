@@ -189,6 +189,22 @@ calm-at sort (r ∷ rs) n e zero = calmed (violates (sort (r .var)) (constantOf 
     calmed b q = subst (λ (c : Bool). T (not c)) (sym q) tt
 calm-at sort (r ∷ rs) n e (suc i) = calm-at sort rs (suc n) (when-none (violates (sort (r .var)) (constantOf r)) (r .var) n (violatedRows sort rs) e .1) i
 
+-- x is 0 at every column
+abbrev pub Vanishes : (ℕ → ℤ) → List ℕ → Type 0
+Vanishes x cols = (j : ℕ) → j < length cols → x (getD cols j 0) ≡ pos 0
+
+-- then a row's sum is its constant's part
+pub dot-vanishes : (x : ℕ → ℤ) (cols : List ℕ) (es : List ℤ) → Vanishes x cols → dot es (map x cols) ≡ pos 0
+dot-vanishes x cols [] z = refl
+dot-vanishes x [] (a ∷ es) z = refl
+dot-vanishes x (c ∷ cols) (a ∷ es) z =
+    ap₂ (λ (u v : ℤ). a *ℤ u +ℤ v) (z 0 (zero-lt-suc (length cols))) (dot-vanishes x cols es (λ j h. z (suc j) (suc-le-suc h)))
+    ∙ ring (a ∷ []) (search quote depth 30) tt
+
+pub solves-each : (x : ℕ → ℤ) (D : ℤ) (cols : List ℕ) (rs : List Row) → ((i : ℕ) → i < length rs → Holds x D cols (getD rs i noRow)) → Solves x D cols rs
+solves-each x D cols [] f = tt
+solves-each x D cols (r ∷ rs) f = (f 0 (zero-lt-suc (length rs)), solves-each x D cols rs (λ i h. f (suc i) (suc-le-suc h)))
+
 -- the solution of a tableau at which its columns are 0
 module _ (t : Tableau) (sh : Shaped (length (t .cols)) (t .rows)) (pl : Placed t) where
   -- the value at a place: 0 in a column; in a row its constant over its denominator
@@ -221,14 +237,6 @@ module _ (t : Tableau) (sh : Shaped (length (t .cols)) (t .rows)) (pl : Placed t
       ap (valueAt (getD (t .rows) i noRow .var)) (pl .rows-at i h)
       ∙ ap (λ (b : Bool). cond b (constantOf (getD (t .rows) i noRow) *ℤ others (t .rows) i) (pos 0)) (from-T (eqb (getD (t .rows) i noRow .var) (getD (t .rows) i noRow .var)) (eqb-refl (getD (t .rows) i noRow .var)))
 
-  -- every column is 0, so that a row's sum is its constant's part
-  w-cols : (es : List ℤ) (cols : List ℕ) → ((j : ℕ) → j < length cols → w (getD cols j 0) ≡ pos 0) → dot es (map w cols) ≡ pos 0
-  w-cols [] cols z = refl
-  w-cols (a ∷ es) [] z = refl
-  w-cols (a ∷ es) (c ∷ cols) z =
-      ap₂ (λ (x y : ℤ). a *ℤ x +ℤ y) (z 0 (zero-lt-suc (length cols))) (w-cols es cols (λ j h. z (suc j) (suc-le-suc h)))
-      ∙ ring (a ∷ []) (search quote depth 30) tt
-
   row-holds : (i : ℕ) → i < length (t .rows) → Holds w (product (t .rows)) (t .cols) (getD (t .rows) i noRow)
   row-holds i h = at (getD (t .rows) i noRow .nums) refl
     where
@@ -240,16 +248,12 @@ module _ (t : Tableau) (sh : Shaped (length (t .cols)) (t .rows)) (pl : Placed t
       at (z ∷ es) q =
           ap₂ (λ (x : ℤ) (l : List ℤ). getD (t .rows) i noRow .den *ℤ x -ℤ dot l (product (t .rows) ∷ map w (t .cols))) (w-row i h) q
           ∙ ap₂ (λ (c y : ℤ). getD (t .rows) i noRow .den *ℤ (c *ℤ others (t .rows) i) -ℤ (z *ℤ product (t .rows) +ℤ y)) (ap (λ (l : List ℤ). getD l 0 (pos 0)) q)
-          (w-cols es (t .cols) w-col)
+          (dot-vanishes w (t .cols) es w-col)
           ∙ ap (λ (d : ℤ). getD (t .rows) i noRow .den *ℤ (z *ℤ others (t .rows) i) -ℤ (z *ℤ d +ℤ pos 0)) (sym (product-others (t .rows) i h))
           ∙ ring (getD (t .rows) i noRow .den ∷ z ∷ others (t .rows) i ∷ []) (search quote depth 30) tt
 
   pub basic-solves : Solves w (product (t .rows)) (t .cols) (t .rows)
-  basic-solves = by-place (t .cols) (product (t .rows)) w (t .rows) row-holds
-    where
-      by-place : (cols : List ℕ) (D : ℤ) (u : ℕ → ℤ) (rs : List Row) → ((i : ℕ) → i < length rs → Holds u D cols (getD rs i noRow)) → Solves u D cols rs
-      by-place cols D u [] f = tt
-      by-place cols D u (r ∷ rs) f = (f 0 (zero-lt-suc (length rs)), by-place cols D u rs (λ i h. f (suc i) (suc-le-suc h)))
+  basic-solves = solves-each w (product (t .rows)) (t .cols) (t .rows) row-holds
 
 -- a solution in which every condition holds
 pub record Solution (sort : ℕ → Option Kind) (t : Tableau) : Type 0 where
@@ -424,7 +428,7 @@ pad-full zero (z ∷ zs) e = no-suc e
 pad-full (suc k) [] e = no-suc (sym e)
 pad-full (suc k) (z ∷ zs) e = ap (λ (l : List ℤ). z ∷ l) (pad-full k zs (suc-inj e))
 
-kind-at : (m : ℕ) (rs : List Constraint) (r : Constraint) (i : ℕ) → getD (replicate m none ++ map (λ (r : Constraint). some (r .kind)) rs) (m + i) none ≡ getD (map (λ (r : Constraint). some (r .kind)) rs) i none
+pub kind-at : (m : ℕ) (rs : List Constraint) (r : Constraint) (i : ℕ) → getD (replicate m none ++ map (λ (r : Constraint). some (r .kind)) rs) (m + i) none ≡ getD (map (λ (r : Constraint). some (r .kind)) rs) i none
 kind-at zero rs r i = ap (λ (v : ℕ). getD (map (λ (r : Constraint). some (r .kind)) rs) v none) (zero-add i)
 kind-at (suc m) rs r i = ap (λ (v : ℕ). getD (replicate (suc m) none ++ map (λ (r : Constraint). some (r .kind)) rs) v none) (suc-add m i) ∙ kind-at m rs r i
 
@@ -448,24 +452,26 @@ module _ (b : BasicSet) (s : Solution (sortOf (8 + length (b .divisions)) (condi
   unfolding free
   cols-are = from-split (s .w) 0 8 k ∙ sym (ap₂ _++_ (pad-full 8 x x-len) (pad-full k q q-len))
 
-  -- the variable of the i-th constraint has its value
+  -- a row of the first tableau: its variable has the constraint's value
+  row-is : (v : ℕ) (r : Constraint) → Holds (s .w) (s .D) (from 0 (8 + k)) (record { var = v; den = pos 1; nums = r .constant ∷ pad 8 (r .axes) ++ pad k (r .divisions) }) → s .w v ≡ value (s .D) x q r
+  row-is v r h =
+      lia-eq (s .w v ∷ dot (r .constant ∷ pad 8 (r .axes) ++ pad k (r .divisions)) (s .D ∷ map (s .w) (from 0 (8 + k))) ∷ []) (eq {b = pos 0} h ∷ []) (search lin depth 30) (omega arith)
+      ∙ ap (λ (l : List ℤ). dot (r .constant ∷ pad 8 (r .axes) ++ pad k (r .divisions)) (s .D ∷ l)) cols-are
+      ∙ row-value (s .D) x q k (le-of-eq x-len) (le-of-eq q-len) r
+
   values : (v : ℕ) (rs : List Constraint) → Solves (s .w) (s .D) (from 0 (8 + k)) (firstRows k v rs)
       → ((i : ℕ) → T (not (violates (getD (map (λ (r : Constraint). some (r .kind)) rs) i none) (s .w (v + i)))))
       → T (all (holds (s .D) x q) rs)
   values v [] h m = tt
   values v (r ∷ rs) h m =
-      let e : s .w v ≡ value (s .D) x q r =
-      lia-eq (s .w v ∷ dot (r .constant ∷ pad 8 (r .axes) ++ pad k (r .divisions)) (s .D ∷ map (s .w) (from 0 (8 + k))) ∷ []) (eq {b = pos 0} (h .0) ∷ []) (search lin depth 30) (omega arith)
-      ∙ ap (λ (l : List ℤ). dot (r .constant ∷ pad 8 (r .axes) ++ pad k (r .divisions)) (s .D ∷ l)) cols-are
-      ∙ row-value (s .D) x q k (le-of-eq x-len) (le-of-eq q-len) r in
       and-make (holds (s .D) x q r) (all (holds (s .D) x q) rs)
-      (to-not (holds (s .D) x q r) (subst (λ (z : ℤ). T (not (not (meets (r .kind) z)))) (ap (s .w) (add-zero v) ∙ e) (m 0)))
+      (to-not (holds (s .D) x q r) (subst (λ (z : ℤ). T (not (not (meets (r .kind) z)))) (ap (s .w) (add-zero v) ∙ row-is v r (h .0)) (m 0)))
       (values (suc v) rs (h .1) (λ i. subst (λ (u : ℕ). T (not (violates (getD (map (λ (r : Constraint). some (r .kind)) rs) i none) (s .w u)))) (add-suc v i ∙ sym (suc-add v i)) (m (suc i))))
 
   denominator-is : pos (natAbs (s .D)) ≡ s .D
   denominator-is = natAbs-nonneg (<ℤ-≤ℤ (s .positive))
 
-  witness : (n : ℕ) → T (overAxes n b) → Witness n b
+  pub witness : (n : ℕ) → T (overAxes n b) → Witness n b
   witness n over =
       record {
         p = record { denominator = natAbs (s .D); positive = above (s .D) (s .positive); x = cleared n x; q = q };
@@ -482,6 +488,19 @@ module _ (b : BasicSet) (s : Solution (sortOf (8 + length (b .divisions)) (condi
       above : (z : ℤ) → pos 0 <ℤ z → 0 < natAbs z
       above (pos n) h = ltb→lt 0 n (h .lt)
       above (negsuc n) h = zero-lt-suc n
+
+  -- at that point
+  pub witness-over : (n : ℕ) (over : T (overAxes n b)) → pos (witness n over .p .denominator) ≡ s .D
+  unfolding witness
+  witness-over n over = denominator-is
+
+  -- an expression over n axes has the value of a row that is made of it
+  pub witness-value : (n : ℕ) (over : T (overAxes n b)) (v : ℕ) (e : Constraint) → T (absent n (e .axes))
+      → Holds (s .w) (s .D) (from 0 (8 + k)) (record { var = v; den = pos 1; nums = e .constant ∷ pad 8 (e .axes) ++ pad k (e .divisions) })
+      → value (pos (witness n over .p .denominator)) (witness n over .p .x) (witness n over .p .q) e ≡ s .w v
+  unfolding witness
+  witness-value n over v e t h =
+      ap₂ (λ (D z : ℤ). e .constant *ℤ D +ℤ (z +ℤ dot (e .divisions) q)) denominator-is (dot-cleared n (e .axes) x t) ∙ sym (row-is v e h)
 
 -- point: some point with fractions meets the basic set, of n axes, whatever the bound and the number of pivots
 pub run-witness : (fits : ℕ → Tableau → Bool) (pivots n : ℕ) (b : BasicSet) → T (overAxes n b)

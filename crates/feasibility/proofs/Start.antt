@@ -1,5 +1,5 @@
 -- The first tableau of a basic set, and what `dropped` says of it.
-use mathlib.Core.Path.{_≡_, refl, sym, ap, ap₂, _∙_}
+use mathlib.Core.Path.{_≡_, refl, sym, ap, ap₂, _∙_, subst}
 use mathlib.Core.Bool.{Bool, true, false, not}
 use mathlib.Core.List.{List, [], _∷_, _++_, map, append-nil, head-eq-of-cons-eq, tail-eq-of-cons-eq}
 use mathlib.Core.Option.{none, some}
@@ -9,6 +9,7 @@ use lib.Dec.{T, lt→ltb, ltb}
 use lib.IntN.{ℤ, pos, _+ℤ_, _-ℤ_, _*ℤ_}
 use lib.Signed.{_<ℤ_}
 use lib.ListN.{length, getD, length-append, length-map}
+use lib.Seq.{getD-append-add}
 use Rattle.integers.specs.Ring.{ring, quote}
 use Rattle.model.specs.Lists.{all}
 use Rattle.model.specs.Sets.{dot, Constraint, BasicSet, value, holds, conditions, RationalPoint, meetsBasic}
@@ -97,37 +98,54 @@ module _ (D : ℤ) (x q : List ℤ) (k : ℕ) (xlen : length x ≤ 8) (qlen : le
     rows-hold w cols f (suc v) rs (tail-eq-of-cons-eq e),
   )
 
-  kinds-meet : (rs : List Constraint) → T (all (holds D x q) rs) → (v : ℕ) → T (not (violates (getD (map (λ (r : Constraint). some (r .kind)) rs) v none) (read (map (value D x q) rs) v)))
-  kinds-meet [] t v = tt
-  kinds-meet (r ∷ rs) t zero = twice (holds D x q r) (and-left (holds D x q r) (all (holds D x q) rs) t)
+  kinds-meet : (rs es : List Constraint) → T (all (holds D x q) rs) → (v : ℕ) → T (not (violates (getD (map (λ (r : Constraint). some (r .kind)) rs) v none) (read (map (value D x q) (rs ++ es)) v)))
+  kinds-meet [] es t v = tt
+  kinds-meet (r ∷ rs) es t zero = twice (holds D x q r) (and-left (holds D x q r) (all (holds D x q) rs) t)
     where
       twice : (b : Bool) → T b → T (not (not b))
       twice true t = tt
       twice false t = t
-  kinds-meet (r ∷ rs) t (suc v) = kinds-meet rs (and-right (holds D x q r) (all (holds D x q) rs) t) v
+  kinds-meet (r ∷ rs) es t (suc v) = kinds-meet rs es (and-right (holds D x q r) (all (holds D x q) rs) t) v
 
-  all-meet : (rs : List Constraint) → T (all (holds D x q) rs) → (m : ℕ) (l : List ℤ) → length l ≡ m → Meets (sortOf m rs) (read (l ++ map (value D x q) rs))
-  all-meet rs t zero [] e v = kinds-meet rs t v
-  all-meet rs t zero (z ∷ l) e v = no-suc e
-  all-meet rs t (suc m) [] e v = no-suc (sym e)
-  all-meet rs t (suc m) (z ∷ l) e zero = tt
-  all-meet rs t (suc m) (z ∷ l) e (suc v) = all-meet rs t m l (suc-inj e) v
+  all-meet : (rs es : List Constraint) → T (all (holds D x q) rs) → (m : ℕ) (l : List ℤ) → length l ≡ m → Meets (sortOf m rs) (read (l ++ map (value D x q) (rs ++ es)))
+  all-meet rs es t zero [] e v = kinds-meet rs es t v
+  all-meet rs es t zero (z ∷ l) e v = no-suc e
+  all-meet rs es t (suc m) [] e v = no-suc (sym e)
+  all-meet rs es t (suc m) (z ∷ l) e zero = tt
+  all-meet rs es t (suc m) (z ∷ l) e (suc v) = all-meet rs es t m l (suc-inj e) v
 
-  pub start-dropped : (fits : ℕ → Tableau → Bool) (rs : List Constraint) (n : ℕ) → pos 0 <ℤ D → T (all (holds D x q) rs) → run fits (sortOf (8 + k) rs) n (start k rs) ≡ dropped → ⊥
-  unfolding free
-  start-dropped fits rs n hD t e =
-      let l : List ℤ = free ++ map (value D x q) rs in
-      run-dropped (sortOf (8 + k) rs) (read l) (all-meet rs t (8 + k) free free-length) D hD fits n (start k rs)
-      (start-shaped k (8 + k) rs)
-      (rows-hold (read l) (from 0 (8 + k)) (ap (λ (m : ℕ). map (read l) (from 0 m)) (sym free-length) ∙ read-front free (map (value D x q) rs)) (8 + k) rs
-      (ap₂ (λ (m n : ℕ). map (read l) (from m n)) (sym free-length) (sym (length-map rs (value D x q))) ∙ read-back free (map (value D x q) rs)))
-      e
+  -- the variables' values at the point; nothing is asked of the values of es
+  module _ (rs es : List Constraint) where
+    abbrev pub start-values : ℕ → ℤ
+    start-values = read (free ++ map (value D x q) (rs ++ es))
+
+    pub start-meets : T (all (holds D x q) rs) → Meets (sortOf (8 + k) rs) start-values
+    start-meets t = all-meet rs es t (8 + k) free free-length
+
+    pub start-solves : Solves start-values D (from 0 (8 + k)) (firstRows k (8 + k) (rs ++ es))
+    start-solves =
+        rows-hold start-values (from 0 (8 + k)) (ap (λ (m : ℕ). map start-values (from 0 m)) (sym free-length) ∙ read-front free (map (value D x q) (rs ++ es))) (8 + k) (rs ++ es)
+        (ap₂ (λ (m n : ℕ). map start-values (from m n)) (sym free-length) (sym (length-map (rs ++ es) (value D x q))) ∙ read-back free (map (value D x q) (rs ++ es)))
+
+    -- the value of the one that follows rs
+    pub start-at : (e : Constraint) → es ≡ e ∷ [] → start-values (8 + k + length rs) ≡ value D x q e
+    start-at e h =
+        ap (λ (m : ℕ). start-values (m + length rs)) (sym free-length) ∙ getD-append-add free (map (value D x q) (rs ++ es)) (length rs) (pos 0)
+        ∙ ap (λ (l : List Constraint). read (map (value D x q) (rs ++ l)) (length rs)) h ∙ last rs
+      where
+        last : (rs : List Constraint) → read (map (value D x q) (rs ++ (e ∷ []))) (length rs) ≡ value D x q e
+        last [] = refl
+        last (r ∷ rs) = last rs
+
+    pub start-dropped : (fits : ℕ → Tableau → Bool) (n : ℕ) → pos 0 <ℤ D → T (all (holds D x q) rs) → run fits (sortOf (8 + k) rs) n (start k (rs ++ es)) ≡ dropped → ⊥
+    start-dropped fits n hD t e = run-dropped (sortOf (8 + k) rs) start-values (start-meets t) D hD fits n (start k (rs ++ es)) (start-shaped k (8 + k) (rs ++ es)) start-solves e
 
 -- dropped: no point with fractions meets the basic set
 pub run-empty : (fits : ℕ → Tableau → Bool) (n : ℕ) (b : BasicSet) → run fits (sorts b) n (begin b) ≡ dropped
     → (p : RationalPoint) → length (p .x) ≤ 8 → length (p .q) ≤ length (b .divisions) → ¬ T (meetsBasic p b)
 run-empty fits n b e p xlen qlen t =
-    start-dropped (pos (p .denominator)) (p .x) (p .q) (length (b .divisions)) xlen qlen fits (conditions b) n (record { lt = lt→ltb 0 (p .denominator) (p .positive) }) t e
+    start-dropped (pos (p .denominator)) (p .x) (p .q) (length (b .divisions)) xlen qlen (conditions b) [] fits n (record { lt = lt→ltb 0 (p .denominator) (p .positive) }) t
+    (subst (λ (l : List Constraint). run fits (sorts b) n (start (length (b .divisions)) l) ≡ dropped) (sym (append-nil (conditions b))) e)
 
 pub dropped-sound : (b : BasicSet) → test b ≡ dropped
     → (p : RationalPoint) → length (p .x) ≤ 8 → length (p .q) ≤ length (b .divisions) → ¬ T (meetsBasic p b)

@@ -273,7 +273,7 @@ abbrev pub Meets : (ℕ → Option Kind) → (ℕ → ℤ) → Type 0
 Meets sort w = (v : ℕ) → T (not (violates (sort v) (w v)))
 
 module _ (sort : ℕ → Option Kind) (w : ℕ → ℤ) (ok : Meets sort w) where
-  all-away : (z : ℤ) (cols : List ℕ) (es : List ℤ) (i : ℕ) → lowest i (helpfulCols sort z cols es) ≡ none → pos 0 ≤ℤ (z *ℤ dot es (map w cols))
+  pub all-away : (z : ℤ) (cols : List ℕ) (es : List ℤ) (i : ℕ) → lowest i (helpfulCols sort z cols es) ≡ none → pos 0 ≤ℤ (z *ℤ dot es (map w cols))
   all-away z [] [] i e = lia-le (z ∷ []) [] (search lin depth 30) (omega arith)
   all-away z [] (a ∷ es) i e = lia-le (z ∷ []) [] (search lin depth 30) (omega arith)
   all-away z (c ∷ cols) [] i e = lia-le (z ∷ []) [] (search lin depth 30) (omega arith)

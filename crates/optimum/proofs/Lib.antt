@@ -1,0 +1,15 @@
+pub mod Direction
+pub mod Moves
+pub mod Feasible
+pub mod Soonest
+pub mod Aimed
+pub mod Lowest
+pub mod Ray
+pub mod Climb
+pub mod Halves
+pub mod Meaning
+pub mod Ranges
+pub mod Numbers
+pub mod Carried
+pub mod Values
+pub mod Tried
