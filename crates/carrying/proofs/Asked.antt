@@ -1,7 +1,7 @@
 -- The test of one basic set of a set's bytes. Assumes nothing.
 use mathlib.Core.Path.{_≡_, refl, sym, ap, ap₂, _∙_}
 use mathlib.Core.List.{List}
-use mathlib.Core.Option.{some}
+use mathlib.Core.Option.{none, some}
 use Prim.Native.Nat.{ℕ, zero, suc, _+_, _-_, _≤_, _<_}
 use native.Mathlib.Omega.{arith}
 use lib.ListN.{length}
@@ -60,20 +60,25 @@ module _ (n : ℕ) (s : List ℕ) (z : number (decode n s) ≡ 0) where
     numbered-is : numbered (setFrom s 0) k ≡ foremost (setFrom s at)
     numbered-is = ap (numbered (setFrom s 0)) (positive k h) ∙ ap foremost (sym (st .set))
 
+    -- none is that far on, or it is the one decoded there
+    pub numbered-none : length s ≤ at → numbered (setFrom s 0) k ≡ none
+    numbered-none l = numbered-is ∙ ap foremost (boundary-end s at l)
+
     pub asked-none : length s ≤ at → testedOf NoSuchSet ≡ testBytes n s k
-    asked-none l = sym (asked-is k ∙ ap (λ o. gives (tested o)) (numbered-is ∙ ap foremost (boundary-end s at l)))
+    asked-none l = sym (asked-is k ∙ ap (λ o. gives (tested o)) (numbered-none l))
 
     pub built-none : length s ≤ at → 0 ≡ builtBytes n s k
-    built-none l = sym (built-is k ∙ ap builtOf (numbered-is ∙ ap foremost (boundary-end s at l)))
+    built-none l = sym (built-is k ∙ ap builtOf (numbered-none l))
 
     module _ (l : at < length s) where
       pub asked-opened : Opened s (at + 1)
       asked-opened = boundary-opened (st .n) s at (st .there) l
 
+      pub numbered-some : (b : BasicSet) → Decoded s (at + 1) b → numbered (setFrom s 0) k ≡ some (basicSetOf b)
+      numbered-some b d = numbered-is ∙ ap foremost (turn (st .n) s at (st .there) l b d .set)
+
       pub asked-some : (b : BasicSet) → Decoded s (at + 1) b → (x : Ended) → Tests (basicSetOf b) x → testedOf (Answers x) ≡ testBytes n s k
-      asked-some b d x t =
-          ap₂ (λ v m. gives (some (v, m))) (t .verdict-is) (t .pivots-are)
-          ∙ sym (asked-is k ∙ ap (λ o. gives (tested o)) (numbered-is ∙ ap foremost (turn (st .n) s at (st .there) l b d .set)))
+      asked-some b d x t = ap₂ (λ v m. gives (some (v, m))) (t .verdict-is) (t .pivots-are) ∙ sym (asked-is k ∙ ap (λ o. gives (tested o)) (numbered-some b d))
 
       pub built-some : (b : BasicSet) → Decoded s (at + 1) b → rowsBuilt (basicSetOf b) ≡ builtBytes n s k
-      built-some b d = sym (built-is k ∙ ap builtOf (numbered-is ∙ ap foremost (turn (st .n) s at (st .there) l b d .set)))
+      built-some b d = sym (built-is k ∙ ap builtOf (numbered-some b d))

@@ -21,7 +21,7 @@ use Rattle.feasibility.proofs.Stops.{long-200, Wide, wide-128}
 use Rattle.carrying.specs.Answers.{numbered, tested, testIn, testBytes}
 
 -- a valid basic set of n axes has no coefficient past the n-th
-valid-over : (n : ℕ) (b : BasicSet) → Valid n b → T (overAxes n b)
+pub valid-over : (n : ℕ) (b : BasicSet) → Valid n b → T (overAxes n b)
 valid-over n b v =
     and-make (all (λ (e : Division). absent n (e .axes)) (b .divisions)) (all (λ (r : Constraint). absent n (r .axes)) (b .constraints))
     (divisions (b .divisions) (v .divisions)) (constraints (length (b .divisions)) (b .constraints) (v .constraints))
@@ -34,7 +34,7 @@ valid-over n b v =
     constraints k [] v = tt
     constraints k (r ∷ rs) v = and-make (absent n (r .axes)) (all (λ (r : Constraint). absent n (r .axes)) rs) (v .0 .axis-absents) (constraints k rs (v .1))
 
-numbered-all : (P : BasicSet → Type 0) (s : Set) (k : ℕ) (b : BasicSet) → All P s → numbered s k ≡ some b → P b
+pub numbered-all : (P : BasicSet → Type 0) (s : Set) (k : ℕ) (b : BasicSet) → All P s → numbered s k ≡ some b → P b
 numbered-all P s zero b v e = let z : _≡_ {A = ℕ} 0 1 = cc in no-way z
 numbered-all P [] (suc zero) b v e = let z : _≡_ {A = ℕ} 0 1 = cc in no-way z
 numbered-all P [] (suc (suc i)) b v e = let z : _≡_ {A = ℕ} 0 1 = cc in no-way z

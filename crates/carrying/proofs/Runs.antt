@@ -14,7 +14,7 @@ use Rattle.feasibility.specs.Tableau as F
 use Rattle.feasibility.specs.Tableau.{Tableau, reach, carried, built, carriedBuilt, point, dropped, long, wide}
 use Rattle.model.specs.Values.{basicSetOf}
 use Rattle.model.specs.declared.BasicSet.{BasicSet}
-use Rattle.simplex.proofs.Filled.{Filling, filled-fine, shows, sorted}
+use Rattle.simplex.proofs.Filled.{FirstTable, first-shows, first-sorted, first-fine}
 use Rattle.simplex.specs.declared.Counted.{Counted}
 use Rattle.simplex.specs.declared.Verdict.{Verdict}
 use Rattle.simplex.specs.declared.Verdict.the-variants.{Point, Dropped, Long, Wide}
@@ -133,14 +133,14 @@ pub went-le : {rows : List (List ℤ)} {place kinds : List ℕ} {from : ℕ} {x 
 went-le {rows} {place} {kinds} {from} {x} g h = omega (arith, built-le (bound 128) kinds from rows place h, g .built-is)
 
 -- ---- the test of a basic set whose first table is filled
-pub filled-both : (b : BasicSet) (rows : List (List ℤ)) (place kinds : List ℕ) (f : Filling b (b .cons) rows place kinds) (x : Counted)
-    → RanBoth (take (2 * b .divs + b .cons) rows) (take (8 + b .divs + (2 * b .divs + b .cons)) place) (take (8 + b .divs + (2 * b .divs + b .cons)) kinds) x
+pub filled-both : (b : BasicSet) (rows : List (List ℤ)) (place kinds : List ℕ) (f : FirstTable b rows place kinds) (x : Counted)
+    → RanBoth rows (take (8 + b .divs + (2 * b .divs + b .cons)) place) (take (8 + b .divs + (2 * b .divs + b .cons)) kinds) x
     → Tests (basicSetOf b) (x .ended) × (x .built ≡ F.rowsBuilt (basicSetOf b))
 unfolding F.testEnds F.endsAt F.rowsBuilt
 filled-both b rows place kinds f x r =
-    let m = 2 * b .divs + b .cons in let n = 8 + b .divs + m in let B = basicSetOf b in
-    let k = run-keeps {W = 64} (omega arith) (b .divs + 10) (take n kinds) 200 (take m rows) (take n place) (filled-fine b rows place kinds f) in
-    let s = both-shows (b .divs) (F.sorts B) (take n kinds) (F.begin B) (take m rows) (take n place) (shows b rows place kinds f) (sorted b rows place kinds f) (k .1) in (
+    let n = 8 + b .divs + (2 * b .divs + b .cons) in let B = basicSetOf b in
+    let k = run-keeps {W = 64} (omega arith) (b .divs + 10) (take n kinds) 200 rows (take n place) (first-fine b rows place kinds f) in
+    let s = both-shows (b .divs) (F.sorts B) (take n kinds) (F.begin B) rows (take n place) (first-shows b rows place kinds f) (first-sorted b rows place kinds f) (k .1) in (
       record { verdict-is = ap verdictOf (r .verdict-is) ∙ s .verdict-is; pivots-are = r .pivots-are ∙ ap (λ (l : ℕ). 200 - l) (s .left-is) },
-      r .built-is ∙ both-built (b .divs) (F.sorts B) (take n kinds) (F.begin B) (take m rows) (take n place) (shows b rows place kinds f) (sorted b rows place kinds f) (k .1),
+      r .built-is ∙ both-built (b .divs) (F.sorts B) (take n kinds) (F.begin B) rows (take n place) (first-shows b rows place kinds f) (first-sorted b rows place kinds f) (k .1),
     )

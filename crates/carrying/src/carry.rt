@@ -5,7 +5,7 @@ ghost use mathlib.Core.List.{[]};
 ghost use lib.ListN.{length, getD};
 ghost use Rattle.wide_tableau.specs.Cells.{Becomes, Turns};
 
-fn carry_row(s: &[i64; 18], out: &mut [u64; 36])
+pub fn carry_row(s: &[i64; 18], out: &mut [u64; 36])
     requires { ⌜ length (now s) ≡ 18 ⌝ }
     ensures { λ _. ⌜ Becomes (now (out .exit)) (now (s .entry)) ⌝ }
 {

@@ -4,10 +4,7 @@ use crate::both::run_both;
 use model::BasicSet;
 use simplex::Counted;
 use simplex::Ended;
-use simplex::fill::constraint_row;
-use simplex::fill::fill_bounds;
-use simplex::fill::kind_of;
-use simplex::fill::name_variables;
+use simplex::fill::fill;
 ghost use Prim.Native.Nat.{_≤_};
 ghost use mathlib.Core.Path.{_≡_};
 ghost use lib.ListN.{length};
@@ -34,16 +31,7 @@ pub fn test_counted(
     let cons = b.cons;
     let m = 2 * k + cons;
     let n = 8 + k + m;
-    name_variables(k, n, place, kinds);
-    let ds = b.divisions;
-    fill_bounds(ds, k, rows);
-    let mut i: usize = 0;
-    while i < cons {
-        let c = b.constraints[i];
-        constraint_row(&mut rows[2 * k + i], c, k);
-        kinds[8 + 3 * k + i] = kind_of(c.equality);
-        i += 1;
-    }
+    fill(b, rows, place, kinds);
     run_both(&mut rows[..m], k + 10, &mut place[..n], &kinds[..n])
 }
 

@@ -13,6 +13,7 @@ use Rattle.simplex.specs.declared.Verdict.{Verdict}
 use Rattle.simplex.specs.declared.Verdict.the-variants.{Point, Dropped, Long, Wide}
 use Rattle.simplex.specs.Table.{startRow, kindNumber, Fine}
 use Rattle.tableau.proofs.Searches.{Whole}
+use Rattle.simplex.proofs.Filled.{row-whole}
 use Rattle.sharing.specs.declared.history.Standing.{Standing}
 use Rattle.sharing.specs.Past.{through, brought, Kept}
 use Rattle.sharing.specs.Trace.{Traced, prefixed, trace}
@@ -22,9 +23,6 @@ use Rattle.sharing.proofs.Passes.{brought-whole}
 use Rattle.sharing.proofs.Share.{Extends, share, clash-wide}
 use Rattle.sharing.proofs.Firsts.{table-long, place-long, kinds-snoc, first-fine, trace-snoc}
 use Rattle.sharing.proofs.Appending.{fine-more}
-
-pub row-whole : (k : ℕ) (c : Constraint) → k ≤ 8 → Whole (k + 10) (startRow k c)
-row-whole k c few = let f = first-fine k (c ∷ []) few (omega arith) in record { line = f .line 0 (omega arith); over = f .dens 0 (omega arith) }
 
 clash-point : Point ≡ Wide → ⊥
 clash-point e = clash-wide (sym e)
@@ -186,7 +184,7 @@ module _ {k : ℕ} {cs : List Constraint} {h : Standing} {rows : List (List ℤ)
             long = g .long;
             wide = g .wide;
             base = λ-fine;
-            whole = subst (Whole (k + 10)) (sym is) (brought-whole (k + 10) qs js s (g .kept .rows) (row-whole k c (g .few)));
+            whole = subst (Whole (k + 10)) (sym is) (brought-whole (k + 10) qs js s (g .kept .rows) (row-whole k (g .few) c));
             calm = subst (λ i. i ≤ Rattle.tableau.specs.Rows.violated (take m rows) (take v place) (take v kinds)) b calm-place;
           }
         where

@@ -37,7 +37,7 @@ use Rattle.simplex.proofs.Shows.{Named, in-row, in-col, Shows, map-at}
 not-equal : (s v : ℕ) → s ≤ v → (s ≡ v → ⊥) → s < v
 not-equal s v h z = ⊎-elim (λ x. x) (λ x. absurd (z (omega arith))) (lt-or-le s v)
 
-first-from : (p : ℕ → Bool) (n s v : ℕ) → s ≤ v → v < s + n → p v ≡ true → ((u : ℕ) → s ≤ u → u < v → p u ≡ false) → first p n s ≡ v
+pub first-from : (p : ℕ → Bool) (n s v : ℕ) → s ≤ v → v < s + n → p v ≡ true → ((u : ℕ) → s ≤ u → u < v → p u ≡ false) → first p n s ≡ v
 unfolding first
 first-from p zero s v h l e f = absurd (omega arith)
 first-from p (suc n) s v h l e f = at (eqb s v) refl (λ b. first-from p n (suc s) v b (omega arith) e (λ u x y. f u (omega arith) y))
@@ -47,7 +47,7 @@ first-from p (suc n) s v h l e f = at (eqb s v) refl (λ b. first-from p n (suc 
     at false q g =
         let z = not-equal s v h (eqb-false s v q) in ap (λ b. cond b s (first p n (suc s))) (f s (le-refl s) z) ∙ g z
 
-first-none : (p : ℕ → Bool) (n s : ℕ) → ((u : ℕ) → s ≤ u → u < s + n → p u ≡ false) → first p n s ≡ s + n
+pub first-none : (p : ℕ → Bool) (n s : ℕ) → ((u : ℕ) → s ≤ u → u < s + n → p u ≡ false) → first p n s ≡ s + n
 unfolding first
 first-none p zero s f = omega arith
 first-none p (suc n) s f =
@@ -58,7 +58,7 @@ first-none p (suc n) s f =
 
 -- ---- a value that its condition does not allow, an entry that helps
 
-violated-same : (s : Option Kind) (z : ℤ) → violatedBy (kindNumber s) z ≡ violates s z
+pub violated-same : (s : Option Kind) (z : ℤ) → violatedBy (kindNumber s) z ≡ violates s z
 violated-same none z = refl
 violated-same (some equality) z = refl
 violated-same (some inequality) (pos n) = le-ltb n 0 zero-le
@@ -93,7 +93,7 @@ module _ (k : ℕ) (sort : ℕ → Option Kind) (t : Tableau) (rows : List (List
   abbrev rowOf : ℕ → Row
   rowOf i = getD (t .rows) i noRow
 
-  constant-at : (i : ℕ) → i < length (t .rows) → getD (getD rows i []) 1 (pos 0) ≡ constantOf (rowOf i)
+  pub constant-at : (i : ℕ) → i < length (t .rows) → getD (getD rows i []) 1 (pos 0) ≡ constantOf (rowOf i)
   unfolding numberAt
   constant-at i h =
       ap (λ l. getD l 1 (pos 0)) (ap (λ u. getD u i []) (s .rows-are) ∙ map-at (layout k) (t .rows) i h)
@@ -147,24 +147,19 @@ module _ (k : ℕ) (sort : ℕ → Option Kind) (t : Tableau) (rows : List (List
           absurd (let z = f m (to-T _ (sym (row-violated m l) ∙ ap (violatedAt rows place kinds) q ∙ e)) in omega arith)
       at u b true e (in-col j l q) = sym e ∙ ap (violatedAt rows place kinds) (sym q) ∙ col-calm j l
 
-  -- ---- the columns that help row i
+  -- ---- the columns that help a row of constant z, whose numbers are `line`
 
-  module _ (i : ℕ) (h : i < length (t .rows)) (x : Violated sort (t .rows) i) where
-    abbrev line : List ℤ
-    line = getD rows i []
+  pub entry-at : (i : ℕ) → i < length (t .rows) → (j : ℕ) → j < length (t .cols) → getD (getD rows i []) (columnOf k j + 2) (pos 0) ≡ T.entry (rowOf i) j
+  entry-at i h j b =
+      ap (λ l. getD l (columnOf k j + 2) (pos 0)) (ap (λ u. getD u i []) (s .rows-are) ∙ map-at (layout k) (t .rows) i h)
+      ∙ lay-entry k (s .few) (rowOf i .den) (rowOf i .nums) j (subst (λ n. j < n) (s .width) b)
 
-    abbrev z : ℤ
-    z = constantOf (getD (t .rows) i noRow)
+  module _ (line : List ℤ) (z : ℤ) (r : Row) (z-not : z ≡ pos 0 → ⊥) (constant-is : getD line 1 (pos 0) ≡ z)
+      (entry-is : (j : ℕ) → j < length (t .cols) → getD line (columnOf k j + 2) (pos 0) ≡ T.entry r j) where
+    abbrev Helps : ℕ → Type 0
+    Helps j = T (helps (sort (colVar t j)) z (T.entry r j))
 
-    z-not : z ≡ pos 0 → ⊥
-    z-not e = zero-calm (sort (rowVar t i)) (subst (λ y. T (violates (sort (rowVar t i)) y)) e x)
-
-    entry-at : (j : ℕ) → j < length (t .cols) → getD line (columnOf k j + 2) (pos 0) ≡ T.entry (getD (t .rows) i noRow) j
-    entry-at j b =
-        ap (λ l. getD l (columnOf k j + 2) (pos 0)) (ap (λ u. getD u i []) (s .rows-are) ∙ map-at (layout k) (t .rows) i h)
-        ∙ lay-entry k (s .few) (getD (t .rows) i noRow .den) (getD (t .rows) i noRow .nums) j (subst (λ n. j < n) (s .width) b)
-
-    col-helps : (j : ℕ) → j < length (t .cols) → helpsAt line place kinds (colVar t j) ≡ helps (sort (colVar t j)) z (T.entry (getD (t .rows) i noRow) j)
+    col-helps : (j : ℕ) → j < length (t .cols) → helpsAt line place kinds (colVar t j) ≡ helps (sort (colVar t j)) z (T.entry r j)
     unfolding helpsAt
     col-helps j b =
         let v = colVar t j in
@@ -172,9 +167,9 @@ module _ (k : ℕ) (sort : ℕ → Option Kind) (t : Tableau) (rows : List (List
         ap (λ n. cond (ltb n 64) false (helpsBy (getD kinds v 0) (getD line 1 (pos 0)) (getD line (n - 64 + 2) (pos 0)))) (y .1)
         ∙ ap (λ c. cond c false (helpsBy (getD kinds v 0) (getD line 1 (pos 0)) (getD line (64 + columnOf k j - 64 + 2) (pos 0)))) (le-ltb (64 + columnOf k j) 64 (omega arith))
         ∙ ap (λ n. helpsBy (getD kinds v 0) (getD line 1 (pos 0)) (getD line (n + 2) (pos 0))) minus
-        ∙ ap₂ (λ n c. helpsBy n c (getD line (columnOf k j + 2) (pos 0))) (kinds-are v (y .0)) (constant-at i h)
-        ∙ ap (helpsBy (kindNumber (sort v)) z) (entry-at j b)
-        ∙ helps-same (sort v) z (T.entry (getD (t .rows) i noRow) j) z-not
+        ∙ ap₂ (λ n c. helpsBy n c (getD line (columnOf k j + 2) (pos 0))) (kinds-are v (y .0)) constant-is
+        ∙ ap (helpsBy (kindNumber (sort v)) z) (entry-is j b)
+        ∙ helps-same (sort v) z (T.entry r j) z-not
       where
         minus : 64 + columnOf k j - 64 ≡ columnOf k j
         minus = omega arith
@@ -187,20 +182,19 @@ module _ (k : ℕ) (sort : ℕ → Option Kind) (t : Tableau) (rows : List (List
         ap (λ n. cond (ltb n 64) false (helpsBy (getD kinds (rowVar t m) 0) (getD line 1 (pos 0)) (getD line (n - 64 + 2) (pos 0)))) (y .1)
         ∙ ap (λ c. cond c false (helpsBy (getD kinds (rowVar t m) 0) (getD line 1 (pos 0)) (getD line (m - 64 + 2) (pos 0)))) (lt-ltb m 64 (omega arith))
 
-    none-helping : ((j : ℕ) → j < length (t .cols) → T (helps (sort (colVar t j)) z (T.entry (getD (t .rows) i noRow) j)) → ⊥) → helping line place kinds ≡ length place
+    none-helping : ((j : ℕ) → j < length (t .cols) → Helps j → ⊥) → helping line place kinds ≡ length place
     unfolding helping
     none-helping f = first-none (helpsAt line place kinds) (length place) 0 (λ u a b. calm u (s .whose u (omega arith))) ∙ zero-add (length place)
       where
         calm : (u : ℕ) → Named t u → helpsAt line place kinds u ≡ false
         calm u (in-row m l q) = ap (helpsAt line place kinds) (sym q) ∙ row-helps m l
-        calm u (in-col j l q) = ap (helpsAt line place kinds) (sym q) ∙ col-helps j l ∙ falsely (helps (sort (colVar t j)) z (T.entry (getD (t .rows) i noRow) j)) (f j l)
+        calm u (in-col j l q) = ap (helpsAt line place kinds) (sym q) ∙ col-helps j l ∙ falsely (helps (sort (colVar t j)) z (T.entry r j)) (f j l)
           where
             falsely : (b : Bool) → (T b → ⊥) → b ≡ false
             falsely true x = absurd (x tt)
             falsely false x = refl
 
-    helping-is : (j : ℕ) → j < length (t .cols) → T (helps (sort (colVar t j)) z (T.entry (getD (t .rows) i noRow) j))
-        → ((m : ℕ) → m < length (t .cols) → T (helps (sort (colVar t m)) z (T.entry (getD (t .rows) i noRow) m)) → colVar t j ≤ colVar t m) → helping line place kinds ≡ colVar t j
+    helping-is : (j : ℕ) → j < length (t .cols) → Helps j → ((m : ℕ) → m < length (t .cols) → Helps m → colVar t j ≤ colVar t m) → helping line place kinds ≡ colVar t j
     unfolding helping
     helping-is j l y f =
         first-from (helpsAt line place kinds) (length place) 0 (colVar t j) zero-le (subst (λ n. colVar t j < n) (sym (zero-add (length place))) (s .cols-at j l .0))
@@ -216,6 +210,28 @@ module _ (k : ℕ) (sort : ℕ → Option Kind) (t : Tableau) (rows : List (List
         at u b true e (in-col m l q) =
             absurd (let z = f m l (to-T _ (sym (col-helps m l) ∙ ap (helpsAt line place kinds) q ∙ e)) in omega arith)
 
+    -- what the search finds, where the tableau's finds this
+    pub data Helped : Option (ℕ × ℕ) → Type 0 where
+      no-column : helping line place kinds ≡ length place → Helped none
+      at-column : (g : ℕ × ℕ) → g .1 < length (t .cols) → Helps (g .1) → helping line place kinds ≡ colVar t (g .1) → Helped (some g)
+
+    pub helped : (o : Option (ℕ × ℕ)) → lowest 0 (helpfulCols sort z (t .cols) (tail (r .nums))) ≡ o → Helped o
+    helped none e =
+        no-column (none-helping (λ j b y. lowest-none 0 (helpfulCols sort z (t .cols) (tail (r .nums))) e j (colVar t j)
+        (listed-col sort z (t .cols) (tail (r .nums)) j b (subst (λ a. T (helps (sort (colVar t j)) z a)) (sym (tail-entry (r .nums) j)) y))))
+    helped (some g) e =
+        let es : List ℤ = tail (r .nums) in
+        let l = lowest-some 0 (helpfulCols sort z (t .cols) es) g e in
+        let c = found-col sort z (t .cols) es (l .m) (g .0) (l .found) in
+        let p : g .1 ≡ l .m = l .place ∙ zero-add (l .m) in
+        let help : Helps (l .m) = subst (λ (x : ℤ). T (helps (sort (colVar t (l .m))) z x)) (tail-entry (r .nums) (l .m)) (c .1) in
+        at-column g (subst (λ j. j < length (t .cols)) (sym p) (c .0)) (subst Helps (sym p) help)
+        (helping-is (l .m) (c .0) help
+        (λ m b y. subst (λ (n : ℕ). n ≤ colVar t m) (sym (c .2))
+        (lowest-least 0 (helpfulCols sort z (t .cols) es) g e m (colVar t m)
+        (listed-col sort z (t .cols) es m b (subst (λ (x : ℤ). T (helps (sort (colVar t m)) z x)) (sym (tail-entry (r .nums) m)) y))))
+        ∙ ap (colVar t) (sym p))
+
   -- ---- the number test
 
   module _ (bnd : ℕ) where
@@ -230,7 +246,7 @@ module _ (k : ℕ) (sort : ℕ → Option Kind) (t : Tableau) (rows : List (List
         and-is true b = refl
         and-is false b = refl
 
-    narrow-is : (j : ℕ) → j < length (t .cols) → narrowRowsAt bnd (getD place (colVar t j) 0 - 64) rows ≡ T.narrow bnd j t
+    pub narrow-is : (j : ℕ) → j < length (t .cols) → narrowRowsAt bnd (getD place (colVar t j) 0 - 64) rows ≡ T.narrow bnd j t
     narrow-is j b =
         let jin : j < 8 + k = subst (λ n. j < n) (s .width) b in
         ap₂ (λ n u. narrowRowsAt bnd (n - 64) u) (s .cols-at j b .1) (s .rows-are)
@@ -248,34 +264,35 @@ module _ (k : ℕ) (sort : ℕ → Option Kind) (t : Tableau) (rows : List (List
       spent : (i j : ℕ) → n ≡ 0 → moveAt bnd rows place kinds n ≡ Stop Long → Chosen n (pivot i j)
       turns : (i j : ℕ) → X.Pivot i j t → (n ≡ 0 → ⊥) → cond (T.narrow bnd j t) (Pivot (rowVar t i) (colVar t j)) (Stop Wide) ≡ moveAt bnd rows place kinds n → Chosen n (pivot i j)
 
-    chosen-column : (n i : ℕ) → i < length (t .rows) → Violated sort (t .rows) i → ((m : ℕ) → Violated sort (t .rows) m → rowVar t i ≤ rowVar t m)
-        → (o : Option (ℕ × ℕ)) → lowest 0 (helpfulCols sort (constantOf (getD (t .rows) i noRow)) (t .cols) (tail (getD (t .rows) i noRow .nums))) ≡ o → Chosen n (column i o)
-    chosen-column n i h x f none e =
-        let v = rowVar t i in
-        let es = tail (getD (t .rows) i noRow .nums) in
-        let w = none-helping i h x (λ j b y. lowest-none 0 (helpfulCols sort (constantOf (getD (t .rows) i noRow)) (t .cols) es) e j (colVar t j)
-        (listed-col sort (constantOf (getD (t .rows) i noRow)) (t .cols) es j b (subst (λ a. T (helps (sort (colVar t j)) (constantOf (getD (t .rows) i noRow)) a)) (sym (tail-entry (getD (t .rows) i noRow .nums) j)) y))) in
-        stuck (sym (choose-droppedAt bnd rows place kinds n v (sym (violated-is i h x f)) (s .rows-at i h .0) (length place) (sym (ap (λ m. helping (getD rows m []) place kinds) (s .rows-at i h .1) ∙ w)) (le-refl (length place))))
-    chosen-column n i h x f (some g) e =
-        let r : Row = getD (t .rows) i noRow in
-        let es : List ℤ = tail (r .nums) in
-        let l = lowest-some 0 (helpfulCols sort (constantOf r) (t .cols) es) g e in
-        let c = found-col sort (constantOf r) (t .cols) es (l .m) (g .0) (l .found) in
-        let p : g .1 ≡ l .m = l .place ∙ zero-add (l .m) in
-        let help : T (helps (sort (colVar t (l .m))) (constantOf r) (T.entry r (l .m))) = subst (λ (z : ℤ). T (helps (sort (colVar t (l .m))) (constantOf r) z)) (tail-entry (r .nums) (l .m)) (c .1) in
-        let w : helping (getD rows i []) place kinds ≡ colVar t (l .m) = helping-is i h x (l .m) (c .0) help
-        (λ m b y. subst (λ (n : ℕ). n ≤ colVar t m) (sym (c .2))
-        (lowest-least 0 (helpfulCols sort (constantOf r) (t .cols) es) g e m (colVar t m)
-        (listed-col sort (constantOf r) (t .cols) es m b (subst (λ (z : ℤ). T (helps (sort (colVar t m)) (constantOf r) z)) (sym (tail-entry (r .nums) m)) y)))) in
-        subst (λ j. Chosen n (pivot i j)) (sym p) (on n (l .m) (c .0) (helps-nonzero (sort (colVar t (l .m))) (constantOf r) (T.entry r (l .m)) help) w)
-      where
-        on : (n j : ℕ) → j < length (t .cols) → (T.entry (getD (t .rows) i noRow) j ≡ pos 0 → ⊥) → helping (getD rows i []) place kinds ≡ colVar t j → Chosen n (pivot i j)
-        on zero j b y w =
-            spent i j refl
-            (sym (choose-longAt bnd rows place kinds 0 (rowVar t i) (sym (violated-is i h x f)) (s .rows-at i h .0) (colVar t j) (sym (ap (λ m. helping (getD rows m []) place kinds) (s .rows-at i h .1) ∙ w)) (s .cols-at j b .0) refl))
-        on (suc n) j b y w =
-            turns i j (record { row = h; col = b; entry = y }) (λ e. omega arith)
-            (choose-lastAt bnd rows place kinds (suc n) (rowVar t i) (sym (violated-is i h x f)) (s .rows-at i h .0) (colVar t j) (sym (ap (λ m. helping (getD rows m []) place kinds) (s .rows-at i h .1) ∙ w)) (T.narrow bnd j t) (s .cols-at j b .0) (λ e. omega arith) (narrow-is j b))
+    -- the column that row i, which is violated, is helped by
+    module _ (n i : ℕ) (h : i < length (t .rows)) (x : Violated sort (t .rows) i) (f : (m : ℕ) → Violated sort (t .rows) m → rowVar t i ≤ rowVar t m) where
+      abbrev line : List ℤ
+      line = getD rows i []
+
+      abbrev z : ℤ
+      z = constantOf (rowOf i)
+
+      z-not : z ≡ pos 0 → ⊥
+      z-not e = zero-calm (sort (rowVar t i)) (subst (λ y. T (violates (sort (rowVar t i)) y)) e x)
+
+      here : (w : ℕ) → helping line place kinds ≡ w → w ≡ helping (getD rows (getD place (rowVar t i) 0) []) place kinds
+      here w e = sym (ap (λ m. helping (getD rows m []) place kinds) (s .rows-at i h .1) ∙ e)
+
+      chosen-column : (o : Option (ℕ × ℕ)) → Helped line z (rowOf i) z-not (constant-at i h) (entry-at i h) o → Chosen n (column i o)
+      chosen-column _ (no-column e) =
+          stuck (sym (choose-droppedAt bnd rows place kinds n (rowVar t i) (sym (violated-is i h x f)) (s .rows-at i h .0) (length place) (here (length place) e) (le-refl (length place))))
+      chosen-column _ (at-column g b y e) = on n
+        where
+          j : ℕ
+          j = g .1
+
+          on : (n : ℕ) → Chosen n (pivot i j)
+          on zero =
+              spent i j refl
+              (sym (choose-longAt bnd rows place kinds 0 (rowVar t i) (sym (violated-is i h x f)) (s .rows-at i h .0) (colVar t j) (here (colVar t j) e) (s .cols-at j b .0) refl))
+          on (suc n) =
+              turns i j (record { row = h; col = b; entry = helps-nonzero (sort (colVar t j)) z (T.entry (rowOf i) j) y }) (λ e. omega arith)
+              (choose-lastAt bnd rows place kinds (suc n) (rowVar t i) (sym (violated-is i h x f)) (s .rows-at i h .0) (colVar t j) (here (colVar t j) e) (T.narrow bnd j t) (s .cols-at j b .0) (λ e. omega arith) (narrow-is j b))
 
     chosen-row : (n : ℕ) (o : Option (ℕ × ℕ)) → lowest 0 (violatedRows sort (t .rows)) ≡ o → Chosen n (row sort t o)
     chosen-row n none e = calm (sym (choose-pointAt bnd rows place kinds n (length place) (sym (none-violated e)) (le-refl (length place))))
@@ -283,10 +300,12 @@ module _ (k : ℕ) (sort : ℕ → Option Kind) (t : Tableau) (rows : List (List
         let l = lowest-some 0 (violatedRows sort (t .rows)) g e in
         let c = found-row sort (t .rows) (l .m) (g .0) (l .found) in
         let p : g .1 ≡ l .m = l .place ∙ zero-add (l .m) in
-        chosen-column n (g .1) (subst (λ (k : ℕ). k < length (t .rows)) (sym p) (c .0))
-        (subst (λ (k : ℕ). Violated sort (t .rows) k) (sym p) (c .1))
+        let h : g .1 < length (t .rows) = subst (λ (k : ℕ). k < length (t .rows)) (sym p) (c .0) in
+        let x : Violated sort (t .rows) (g .1) = subst (λ (k : ℕ). Violated sort (t .rows) k) (sym p) (c .1) in
+        let o : Option (ℕ × ℕ) = lowest 0 (helpfulCols sort (constantOf (rowOf (g .1))) (t .cols) (tail (rowOf (g .1) .nums))) in
+        chosen-column n (g .1) h x
         (λ k u. subst (λ (n : ℕ). n ≤ rowVar t k) (sym (ap (rowVar t) p ∙ c .2)) (lowest-least 0 (violatedRows sort (t .rows)) g e k (rowVar t k) (listed-row sort (t .rows) k u)))
-        (lowest 0 (helpfulCols sort (constantOf (getD (t .rows) (g .1) noRow)) (t .cols) (tail (getD (t .rows) (g .1) noRow .nums)))) refl
+        o (helped (getD rows (g .1) []) (constantOf (rowOf (g .1))) (rowOf (g .1)) (z-not n (g .1) h x _) (constant-at (g .1) h) (entry-at (g .1) h) o refl)
 
     pub chosen : (n : ℕ) → Chosen n (look sort t)
     unfolding look

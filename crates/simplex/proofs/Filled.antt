@@ -3,7 +3,7 @@ use mathlib.Core.Path.{_≡_, refl, sym, ap, ap₂, _∙_, subst}
 use mathlib.Core.Bool.{false, cond}
 use mathlib.Core.List.{List, [], _∷_, _++_, map}
 use mathlib.Core.Option.{Option, none, some}
-use mathlib.Core.Logic.{_⊎_, ⊎-elim}
+use mathlib.Core.Logic.{⊎-elim}
 use Prim.Native.Nat.{ℕ, zero, suc, _+_, _-_, _*_, _≤_, _<_}
 use native.Mathlib.Nat.{le-of-suc-le-suc, not-suc-le-zero, zero-add}
 use native.Mathlib.Omega.{arith}
@@ -20,9 +20,10 @@ use Rattle.model.specs.Values.{divisionOf, constraintOf, basicSetOf}
 use Rattle.model.specs.declared.Constraint.{Constraint}
 use Rattle.model.specs.declared.BasicSet.{BasicSet}
 use Rattle.feasibility.specs.Tableau as T
-use Rattle.feasibility.specs.Tableau.{Tableau, firstRows, start, begin, sorts, noRow}
+use Rattle.feasibility.specs.Tableau.{Row, Tableau, firstRows, start, begin, sorts, noRow}
 use Rattle.tableau.specs.Rows.{den, Line}
-use Rattle.simplex.specs.Table.{columnOf, standing, numberAt, layout, startRow, placeAt, kindNumber, Fine, Valid, Bounded, Ruled}
+use Rattle.tableau.proofs.Searches.{Whole}
+use Rattle.simplex.specs.Table.{columnOf, standing, numberAt, layout, startRow, placeAt, kindNumber, Fine, Valid, Bounded, Ruled, First}
 use Rattle.simplex.specs.Table as Table
 use Rattle.feasibility.proofs.Exchange.{Shape, Shaped, shape-at}
 use Rattle.feasibility.proofs.Start.{length-from, start-shaped}
@@ -31,6 +32,36 @@ use Rattle.feasibility.proofs.Verdicts.{rowVar, colVar}
 use Rattle.simplex.proofs.Columns.{lay-at, lay-length, column-in, column-low, column-mid, standing-high}
 use Rattle.simplex.proofs.Fills.{past-end, map-append, map-get}
 use Rattle.simplex.proofs.Shows.{Named, in-row, in-col, Shows, map-at}
+
+-- ---- a row with a number for each column, and its constant
+
+module _ (k : ℕ) (few : k ≤ 8) where
+  blank-number : (d : ℤ) (ns : List ℤ) → length ns ≡ suc (8 + k) → (i : ℕ) → k + 10 ≤ i → numberAt k d ns i ≡ pos 0
+  unfolding numberAt
+  blank-number d ns e zero h = absurd (omega arith)
+  blank-number d ns e (suc zero) h = absurd (omega arith)
+  blank-number d ns e (suc (suc c)) h = past-end ns (suc (standing k c)) (subst (λ n. length ns ≤ suc n) (sym (standing-high k c (omega arith))) (omega arith))
+
+  pub layout-whole : (r : Row) → Shape (8 + k) r → Whole (k + 10) (layout k r)
+  unfolding numberAt
+  layout-whole r s =
+      record {
+        line =
+            record {
+              fit = omega arith;
+              long = lay-length k few (r .den) (r .nums);
+              blank = λ m b. ⊎-elim
+                  (λ a. lay-at k few (r .den) (r .nums) m a ∙ blank-number (r .den) (r .nums) (s .long) m b)
+                  (λ a. past-end (layout k r) m (subst (λ n. n ≤ m) (sym (lay-length k few (r .den) (r .nums))) a))
+                  (lt-or-le m 18);
+            };
+        over = subst (λ z. pos 0 <ℤ z) (sym (lay-at k few (r .den) (r .nums) 0 (omega arith))) (s .positive);
+      }
+
+  -- the first row of a constraint
+  pub row-whole : (c : S.Constraint) → Whole (k + 10) (startRow k c)
+  unfolding startRow
+  row-whole c = layout-whole _ (subst (λ n. Shaped n (firstRows k 0 (c ∷ []))) (length-from 0 (8 + k)) (start-shaped k 0 (c ∷ [])) .0)
 
 -- ---- a table that shows a tableau is fine
 
@@ -41,28 +72,8 @@ module _ (k : ℕ) (rows : List (List ℤ)) (place kinds : List ℕ) (t : Tablea
   shape : (i : ℕ) → i < length (t .rows) → Shape (8 + k) (getD (t .rows) i noRow)
   shape i h = shape-at (8 + k) (t .rows) i h (subst (λ n. Shaped n (t .rows)) (s .width) (s .shaped))
 
-  blank-number : (d : ℤ) (ns : List ℤ) → length ns ≡ suc (8 + k) → (i : ℕ) → k + 10 ≤ i → numberAt k d ns i ≡ pos 0
-  unfolding numberAt
-  blank-number d ns e zero h = absurd (omega arith)
-  blank-number d ns e (suc zero) h = absurd (omega arith)
-  blank-number d ns e (suc (suc c)) h = past-end ns (suc (standing k c)) (subst (λ n. length ns ≤ suc n) (sym (standing-high k c (omega arith))) (omega arith))
-
-  line-of : (i : ℕ) → i < length (t .rows) → Line (k + 10) (layout k (getD (t .rows) i noRow))
-  line-of i h =
-      let r = getD (t .rows) i noRow in
-      let f = s .few in
-      record {
-        fit = omega arith;
-        long = lay-length k (s .few) (r .den) (r .nums);
-        blank = λ m b. ⊎-elim
-            (λ a. lay-at k (s .few) (r .den) (r .nums) m a ∙ blank-number (r .den) (r .nums) (shape i h .long) m b)
-            (λ a. past-end (layout k r) m (subst (λ n. n ≤ m) (sym (lay-length k (s .few) (r .den) (r .nums))) a))
-            (lt-or-le m 18);
-      }
-
-  den-of : (i : ℕ) → i < length (t .rows) → pos 0 <ℤ den (layout k (getD (t .rows) i noRow))
-  unfolding numberAt
-  den-of i h = subst (λ z. pos 0 <ℤ z) (sym (lay-at k (s .few) (getD (t .rows) i noRow .den) (getD (t .rows) i noRow .nums) 0 (omega arith))) (shape i h .positive)
+  whole-of : (i : ℕ) → i < length (t .rows) → Whole (k + 10) (layout k (getD (t .rows) i noRow))
+  whole-of i h = layout-whole k (s .few) (getD (t .rows) i noRow) (shape i h)
 
   count : length rows ≡ length (t .rows)
   count = ap length (s .rows-are) ∙ length-map (t .rows) (layout k)
@@ -88,8 +99,8 @@ module _ (k : ℕ) (rows : List (List ℤ)) (place kinds : List ℕ) (t : Tablea
         count = subst (λ n. n ≤ 64) (sym count) (s .count);
         names = names;
         same = same;
-        line = λ i h. subst (Line (k + 10)) (sym (row-is i (subst (λ n. i < n) count h))) (line-of i (subst (λ n. i < n) count h));
-        dens = λ i h. subst (λ l. pos 0 <ℤ den l) (sym (row-is i (subst (λ n. i < n) count h))) (den-of i (subst (λ n. i < n) count h));
+        line = λ i h. subst (Line (k + 10)) (sym (row-is i (subst (λ n. i < n) count h))) (whole-of i (subst (λ n. i < n) count h) .line);
+        dens = λ i h. subst (λ l. pos 0 <ℤ den l) (sym (row-is i (subst (λ n. i < n) count h))) (whole-of i (subst (λ n. i < n) count h) .over);
         near = λ v h. near-of v (s .whose v h);
         spot = λ v h. spot-of v (s .whose v h);
       }
@@ -101,7 +112,7 @@ unfolding startRow
 first-layout k v [] = refl
 first-layout k v (c ∷ cs) = ap₂ _∷_ refl (first-layout k (suc v) cs)
 
-first-long : (k v : ℕ) (cs : List S.Constraint) → length (firstRows k v cs) ≡ length cs
+pub first-long : (k v : ℕ) (cs : List S.Constraint) → length (firstRows k v cs) ≡ length cs
 first-long k v [] = refl
 first-long k v (c ∷ cs) = ap suc (first-long k (suc v) cs)
 
@@ -225,48 +236,54 @@ module _ (k : ℕ) (ds : List S.Division) (cs : List S.Constraint) (len : length
       ∙ ap (λ n. getD (kindsOf (bounds 0 ds) ++ kindsOf cs) (n + c) none) (sym twice)
       ∙ getD-append-add (kindsOf (bounds 0 ds)) (kindsOf cs) c none
 
+-- ---- how many they are
+
+pub divisions-long : (b : BasicSet) → Valid b → length (basicSetOf b .divisions) ≡ b .divs
+divisions-long b v = let h = v .divisions in let d = v .divs in length-map (take (b .divs) (b .divisions)) divisionOf ∙ length-take-le (b .divs) (b .divisions) (omega arith)
+
+pub conditions-long : (b : BasicSet) → Valid b → length (conditions (basicSetOf b)) ≡ 2 * b .divs + b .cons
+conditions-long b v =
+    let h = v .constraints in
+    let c = v .cons in
+    let B = basicSetOf b in
+    length-append (bounds 0 (B .divisions)) (B .constraints)
+    ∙ ap₂ _+_ (bounds-long 0 (B .divisions) ∙ ap (λ i. 2 * i) (divisions-long b v)) (length-map (take (b .cons) (b .constraints)) constraintOf ∙ length-take-le (b .cons) (b .constraints) (omega arith))
+
 -- ---- what the code has filled
 
 -- the first table, with the rows of n constraints; it was rows₁ and kinds₁ before the first of them
-pub record Filling (b : BasicSet) (n : ℕ) (rows′ : List (List ℤ)) (place′ kinds′ : List ℕ) : Type 0 where
+pub record Filling (b : BasicSet) (n : ℕ) (rows rows′ : List (List ℤ)) (place place′ kinds kinds′ : List ℕ) : Type 0 where
   pub valid : Valid b
-  pub rows : List (List ℤ)
   pub rows₁ : List (List ℤ)
-  pub place : List ℕ
-  pub kinds : List ℕ
   pub kinds₁ : List ℕ
   pub named : Table.Named (b .divs) (8 + b .divs + (2 * b .divs + b .cons)) place place′ kinds kinds₁
   pub bounded : Bounded (b .divisions) (b .divs) (b .divs) rows rows₁
   pub ruled : Ruled b n rows₁ rows′ kinds₁ kinds′
-  pub rows-room : 64 ≤ length rows
-  pub place-room : 80 ≤ length place
-  pub kinds-room : 80 ≤ length kinds
 
 -- there is room for one more
-pub filling-room : (b : BasicSet) (n : ℕ) (rows′ : List (List ℤ)) (place′ kinds′ : List ℕ) → Filling b n rows′ place′ kinds′ → n < b .cons
+pub filling-room : {b : BasicSet} {n : ℕ} {rows rows′ : List (List ℤ)} {place place′ kinds kinds′ : List ℕ} → Filling b n rows rows′ place place′ kinds kinds′ → n < b .cons → 64 ≤ length rows → 80 ≤ length kinds
     → (2 * b .divs + n < length rows′) × (8 + 3 * b .divs + n < length kinds′) × (n < length (b .constraints))
-filling-room b n rows′ place′ kinds′ f h =
+filling-room f h r k =
     let v = f .valid in
     let d = v .divs in
     let e = v .cons in
     let c = v .constraints in
-    let r = f .rows-room in
-    let k = f .kinds-room in
-    let l : length rows′ ≡ length (f .rows) = f .ruled .long ∙ f .bounded .long in
-    let m : length kinds′ ≡ length (f .kinds) = f .ruled .names ∙ f .named .names in
+    let l = f .ruled .long ∙ f .bounded .long in
+    let m = f .ruled .names ∙ f .named .names in
     (omega arith, omega arith, omega arith)
 
-pub filling-done : (b : BasicSet) (n : ℕ) (rows′ : List (List ℤ)) (place′ kinds′ : List ℕ) → Filling b n rows′ place′ kinds′ → n ≡ b .cons → Filling b (b .cons) rows′ place′ kinds′
-filling-done b n rows′ place′ kinds′ f e = subst (λ i. Filling b i rows′ place′ kinds′) e f
+pub filling-done : {b : BasicSet} {n : ℕ} {rows rows′ : List (List ℤ)} {place place′ kinds kinds′ : List ℕ} → Filling b n rows rows′ place place′ kinds kinds′ → n ≡ b .cons
+    → Filling b (b .cons) rows rows′ place place′ kinds kinds′
+filling-done {b} {n} {rows} {rows′} {place} {place′} {kinds} {kinds′} f e = subst (λ i. Filling b i rows rows′ place place′ kinds kinds′) e f
 
-module _ (b : BasicSet) (rows₂ : List (List ℤ)) (place′ kinds₂ : List ℕ) (f : Filling b (b .cons) rows₂ place′ kinds₂) where
+module _ (b : BasicSet) (rows rows₂ : List (List ℤ)) (place place′ kinds kinds₂ : List ℕ) (f : Filling b (b .cons) rows rows₂ place place′ kinds kinds₂) where
   valid : Valid b
   valid = f .valid
 
-  named : Table.Named (b .divs) (8 + b .divs + (2 * b .divs + b .cons)) (f .place) place′ (f .kinds) (f .kinds₁)
+  named : Table.Named (b .divs) (8 + b .divs + (2 * b .divs + b .cons)) place place′ kinds (f .kinds₁)
   named = f .named
 
-  bounded : Bounded (b .divisions) (b .divs) (b .divs) (f .rows) (f .rows₁)
+  bounded : Bounded (b .divisions) (b .divs) (b .divs) rows (f .rows₁)
   bounded = f .bounded
 
   ruled : Ruled b (b .cons) (f .rows₁) rows₂ (f .kinds₁) kinds₂
@@ -284,51 +301,18 @@ module _ (b : BasicSet) (rows₂ : List (List ℤ)) (place′ kinds₂ : List �
   abbrev B : S.BasicSet
   B = basicSetOf b
 
-  few : k ≤ 8
-  few = valid .divs
-
-  ds-long : length (B .divisions) ≡ k
-  ds-long = let h = valid .divisions in let f = valid .divs in length-map (take k (b .divisions)) divisionOf ∙ length-take-le k (b .divisions) (omega arith)
-
-  most : m ≤ 64
-  most = let f = valid .divs in let c = valid .cons in omega arith
-
-  wide : n ≤ 80
-  wide = let f = valid .divs in let c = valid .cons in omega arith
-
   rows-are : take m rows₂ ≡ map (startRow k) (conditions B)
   rows-are = ruled .firsts ∙ ap (λ l. l ++ map (startRow k) (B .constraints)) (bounded .firsts) ∙ sym (map-append (startRow k) (bounds 0 (B .divisions)) (B .constraints))
-
-  conditions-long : length (conditions B) ≡ m
-  conditions-long =
-      let h = valid .constraints in
-      let c = valid .cons in
-      length-append (bounds 0 (B .divisions)) (B .constraints)
-      ∙ ap₂ _+_ (bounds-long 0 (B .divisions) ∙ ap (λ i. 2 * i) ds-long) (length-map (take (b .cons) (b .constraints)) constraintOf ∙ length-take-le (b .cons) (b .constraints) (omega arith))
-
-  pub rows-taken : length (take m rows₂) ≡ m
-  rows-taken = let w = most in let h = f .rows-room in length-take-le m rows₂ (subst (λ i. m ≤ i) (sym (ruled .long ∙ bounded .long)) (omega arith))
-
-  pub place-long : length (take n place′) ≡ n
-  place-long = let w = wide in let h = f .place-room in length-take-le n place′ (subst (λ i. n ≤ i) (sym (named .long)) (omega arith))
-
-  pub kinds-long : length (take n kinds₂) ≡ n
-  kinds-long = let w = wide in let h = f .kinds-room in length-take-le n kinds₂ (subst (λ i. n ≤ i) (sym (ruled .names ∙ named .names)) (omega arith))
-
-  pub shows : Shows k (take m rows₂) (take n place′) (begin B)
-  shows =
-      subst (λ j. Shows k (take m rows₂) (take n place′) (start j (conditions B))) (sym ds-long)
-      (start-shows k (conditions B) few m conditions-long most (take n place′) place-long (λ v h. getD-take n place′ v 0 h ∙ named .places v h) (take m rows₂) rows-are)
 
   kind-of : (v : ℕ) → v < n → getD kinds₂ v 0 ≡ kindNumber (T.sortOf (8 + k) (conditions B) v)
   kind-of v h =
       ⊎-elim
-      (λ l. ruled .before v (omega arith) ∙ named .free v h ∙ ap (λ t. cond {A = ℕ} t 0 1) (lt-ltb v (8 + k) l) ∙ ap kindNumber (sym (sort-free k (B .divisions) (B .constraints) ds-long v l)))
+      (λ l. ruled .before v (omega arith) ∙ named .free v h ∙ ap (λ t. cond {A = ℕ} t 0 1) (lt-ltb v (8 + k) l) ∙ ap kindNumber (sym (sort-free k (B .divisions) (B .constraints) (divisions-long b valid) v l)))
       (λ l. ⊎-elim
       (λ u. ruled .before v u ∙ named .free v h ∙ ap (λ t. cond {A = ℕ} t 0 1) (le-ltb v (8 + k) l)
-      ∙ ap kindNumber (sym (sort-bound k (B .divisions) (B .constraints) ds-long (v - (8 + k)) (omega arith)) ∙ ap (T.sortOf (8 + k) (conditions B)) (back v l)))
+      ∙ ap kindNumber (sym (sort-bound k (B .divisions) (B .constraints) (divisions-long b valid) (v - (8 + k)) (omega arith)) ∙ ap (T.sortOf (8 + k) (conditions B)) (back v l)))
       (λ u. ap (λ i. getD kinds₂ i 0) (sym (far v u)) ∙ ruled .kinds-are (v - (8 + 3 * k)) (omega arith)
-      ∙ ap kindNumber (kept (v - (8 + 3 * k)) (omega arith) ∙ sym (sort-constraint k (B .divisions) (B .constraints) ds-long (v - (8 + 3 * k))) ∙ ap (T.sortOf (8 + k) (conditions B)) (back₂ v u)))
+      ∙ ap kindNumber (kept (v - (8 + 3 * k)) (omega arith) ∙ sym (sort-constraint k (B .divisions) (B .constraints) (divisions-long b valid) (v - (8 + 3 * k))) ∙ ap (T.sortOf (8 + k) (conditions B)) (back₂ v u)))
       (lt-or-le v (8 + 3 * k)))
       (lt-or-le v (8 + k))
     where
@@ -361,10 +345,73 @@ module _ (b : BasicSet) (rows₂ : List (List ℤ)) (place′ kinds₂ : List �
           map-map [] = refl
           map-map (x ∷ l) = ap (λ u. constraintKind x ∷ u) (map-map l)
 
-  pub sorted : (v : ℕ) → v < length (take n place′) → getD (take n kinds₂) v 0 ≡ kindNumber (sorts B v)
-  sorted v h =
-      let l : v < n = subst (λ i. v < i) place-long h in
-      getD-take n kinds₂ v 0 l ∙ kind-of v l ∙ ap (λ j. kindNumber (T.sortOf (8 + j) (conditions B) v)) (sym ds-long)
+  pub filled-first : First b rows rows₂ place place′ kinds kinds₂
+  filled-first =
+      record {
+        long = ruled .long ∙ bounded .long;
+        names = named .long;
+        sames = ruled .names ∙ named .names;
+        rows-are = rows-are;
+        places = named .places;
+        kinds-are = λ v h. kind-of v h ∙ ap (λ j. kindNumber (T.sortOf (8 + j) (conditions B) v)) (sym (divisions-long b valid));
+      }
 
-  pub filled-fine : Fine (k + 10) (take m rows₂) (take n place′) (take n kinds₂)
-  filled-fine = shows-fine k (take m rows₂) (take n place′) (take n kinds₂) (begin B) shows (kinds-long ∙ sym place-long) (subst (λ i. i ≤ 80) (sym place-long) wide)
+-- ---- what it shows
+
+-- the first table of b: its rows, and at the front of these the places and kinds of its variables
+pub record FirstTable (b : BasicSet) (rows : List (List ℤ)) (place kinds : List ℕ) : Type 0 where
+  pub valid : Valid b
+  pub rows-are : rows ≡ map (startRow (b .divs)) (conditions (basicSetOf b))
+  pub place-room : 8 + b .divs + (2 * b .divs + b .cons) ≤ length place
+  pub kinds-room : 8 + b .divs + (2 * b .divs + b .cons) ≤ length kinds
+  pub places : (v : ℕ) → v < 8 + b .divs + (2 * b .divs + b .cons) → getD place v 0 ≡ placeAt (b .divs) v
+  pub kinds-are : (v : ℕ) → v < 8 + b .divs + (2 * b .divs + b .cons) → getD kinds v 0 ≡ kindNumber (sorts (basicSetOf b) v)
+
+-- it is left by what fills it, in rows and names enough
+pub first-table : {b : BasicSet} {rows rows′ : List (List ℤ)} {place place′ kinds kinds′ : List ℕ} → Valid b → First b rows rows′ place place′ kinds kinds′
+    → 80 ≤ length place → 80 ≤ length kinds → FirstTable b (take (2 * b .divs + b .cons) rows′) place′ kinds′
+first-table v f p q =
+    let d = v .divs in
+    let c = v .cons in
+    let n = f .names in
+    let s = f .sames in
+    record { valid = v; rows-are = f .rows-are; place-room = omega arith; kinds-room = omega arith; places = f .places; kinds-are = f .kinds-are }
+
+module _ (b : BasicSet) (rows : List (List ℤ)) (place kinds : List ℕ) (f : FirstTable b rows place kinds) where
+  abbrev divs : ℕ
+  divs = b .divs
+
+  abbrev rules : ℕ
+  rules = 2 * divs + b .cons
+
+  abbrev names : ℕ
+  names = 8 + divs + rules
+
+  most : rules ≤ 64
+  most = let d = f .valid .divs in let c = f .valid .cons in omega arith
+
+  wide : names ≤ 80
+  wide = let d = f .valid .divs in let c = f .valid .cons in omega arith
+
+  pub first-rows : length rows ≡ rules
+  first-rows = ap length (f .rows-are) ∙ length-map (conditions (basicSetOf b)) (startRow divs) ∙ conditions-long b (f .valid)
+
+  pub first-places : length (take names place) ≡ names
+  first-places = length-take-le names place (f .place-room)
+
+  pub first-kinds : length (take names kinds) ≡ names
+  first-kinds = length-take-le names kinds (f .kinds-room)
+
+  pub first-shows : Shows divs rows (take names place) (begin (basicSetOf b))
+  first-shows =
+      subst (λ j. Shows divs rows (take names place) (start j (conditions (basicSetOf b)))) (sym (divisions-long b (f .valid)))
+      (start-shows divs (conditions (basicSetOf b)) (f .valid .divs) rules (conditions-long b (f .valid)) most (take names place) first-places
+      (λ v h. getD-take names place v 0 h ∙ f .places v h) rows (f .rows-are))
+
+  pub first-sorted : (v : ℕ) → v < length (take names place) → getD (take names kinds) v 0 ≡ kindNumber (sorts (basicSetOf b) v)
+  first-sorted v h = let l : v < names = subst (λ i. v < i) first-places h in getD-take names kinds v 0 l ∙ f .kinds-are v l
+
+  pub first-fine : Fine (divs + 10) rows (take names place) (take names kinds)
+  first-fine =
+      shows-fine divs rows (take names place) (take names kinds) (begin (basicSetOf b)) first-shows (first-kinds ∙ sym first-places)
+      (subst (λ i. i ≤ 80) (sym first-places) wide)

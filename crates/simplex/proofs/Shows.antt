@@ -57,16 +57,16 @@ module _ (k : ℕ) (i j : ℕ) (t : Tableau) (p : X.Pivot i j t) (rows : List (L
   abbrev pub c : ℕ
   c = colVar t j
 
-  jin : j < 8 + k
+  pub jin : j < 8 + k
   jin = subst (λ n. j < n) (s .width) (p .col)
 
   shaped-k : Shaped (8 + k) (t .rows)
   shaped-k = subst (λ n. Shaped n (t .rows)) (s .width) (s .shaped)
 
-  r-shape : Shape (8 + k) r
+  pub r-shape : Shape (8 + k) r
   r-shape = shape-at (8 + k) (t .rows) i (p .row) shaped-k
 
-  solved-is : solveRow (getD rows i []) (columnOf k j) ≡ layout k (solved r j c)
+  pub solved-is : solveRow (getD rows i []) (columnOf k j) ≡ layout k (solved r j c)
   solved-is = ap (λ l. solveRow l (columnOf k j)) (ap (λ u. getD u i []) (s .rows-are) ∙ map-at (layout k) (t .rows) i (p .row)) ∙ solve-shows k (s .few) r j c jin r-shape (p .entry)
 
   abbrev pub q : List ℤ
@@ -83,7 +83,7 @@ module _ (k : ℕ) (i j : ℕ) (t : Tableau) (p : X.Pivot i j t) (rows : List (L
       ∙ ap (λ l. set l i q) (rebuilt-are (t .rows) shaped-k)
       ∙ sym (map-set (layout k) (map (replaced r j) (t .rows)) i (solved r j c))
 
-  a-place : getD place a 0 ≡ i
+  pub a-place : getD place a 0 ≡ i
   a-place = s .rows-at i (p .row) .1
 
   c-place : getD place c 0 ≡ 64 + columnOf k j
@@ -135,7 +135,7 @@ module _ (k : ℕ) (i j : ℕ) (t : Tableau) (p : X.Pivot i j t) (rows : List (L
   abbrev t′ : Tableau
   t′ = exchange i j t
 
-  rows-long : length (t′ .rows) ≡ length (t .rows)
+  pub rows-long : length (t′ .rows) ≡ length (t .rows)
   unfolding exchange
   rows-long = length-set (map (replaced r j) (t .rows)) i (solved r j c) ∙ length-map (t .rows) (replaced r j)
 

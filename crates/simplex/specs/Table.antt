@@ -12,8 +12,8 @@ use lib.Signed.{_<ℤ_}
 use Rattle.tableau.specs.Rows.{den, exchangeRows, touched, violated, helping, narrowRowsAt, Line, ReadyAt}
 use Rattle.integers.specs.Size.{bound}
 use Rattle.model.specs.Sets as S
-use Rattle.model.specs.Sets.{Kind, equality, inequality, bounds}
-use Rattle.model.specs.Values.{divisionOf, constraintOf}
+use Rattle.model.specs.Sets.{Kind, equality, inequality, bounds, conditions}
+use Rattle.model.specs.Values.{divisionOf, constraintOf, basicSetOf}
 use Rattle.model.specs.declared.Division.{Division}
 use Rattle.model.specs.declared.BasicSet.{BasicSet}
 use Rattle.feasibility.specs.Tableau as T
@@ -194,3 +194,12 @@ pub record Named (k n : ℕ) (place place′ kinds kinds′ : List ℕ) : Type 0
   pub names : length kinds′ ≡ length kinds
   pub places : (v : ℕ) → v < n → getD place′ v 0 ≡ placeAt k v
   pub free : (v : ℕ) → v < n → getD kinds′ v 0 ≡ cond (ltb v (8 + k)) 0 1
+
+-- the first table of a basic set stands in the first rows, with the places and kinds of its variables
+pub record First (b : BasicSet) (rows rows′ : List (List ℤ)) (place place′ kinds kinds′ : List ℕ) : Type 0 where
+  pub long : length rows′ ≡ length rows
+  pub names : length place′ ≡ length place
+  pub sames : length kinds′ ≡ length kinds
+  pub rows-are : take (2 * b .divs + b .cons) rows′ ≡ map (startRow (b .divs)) (conditions (basicSetOf b))
+  pub places : (v : ℕ) → v < 8 + b .divs + (2 * b .divs + b .cons) → getD place′ v 0 ≡ placeAt (b .divs) v
+  pub kinds-are : (v : ℕ) → v < 8 + b .divs + (2 * b .divs + b .cons) → getD kinds′ v 0 ≡ kindNumber (T.sorts (basicSetOf b) v)

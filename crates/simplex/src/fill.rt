@@ -1,4 +1,5 @@
 // The first tableau of a basic set: the rows of the divisions' bounds, then those of the constraints, over the free variables.
+use model::BasicSet;
 use model::Constraint;
 use model::Division;
 ghost use mathlib.Core.Path.{_≡_};
@@ -11,7 +12,7 @@ ghost use Rattle.integers.specs.Z.{Within};
 ghost use Rattle.model.specs.Sets.{lower, upper};
 ghost use Rattle.model.specs.Values.{divisionOf, constraintOf, kindIs};
 ghost use mathlib.Core.Option.{some};
-ghost use Rattle.simplex.specs.Table.{startRow, placeAt, kindNumber, Copied, Started, Bounded, Named};
+ghost use Rattle.simplex.specs.Table.{startRow, placeAt, kindNumber, Copied, Started, Bounded, Named, Valid, First};
 
 fn times(s: i64, x: i16) -> i64
     requires { ⌜ Within 1 s ⌝ }
@@ -164,5 +165,28 @@ pub fn name_variables(k: usize, n: usize, place: &mut [usize], kinds: &mut [u8])
         place[v] = place_of(k, v);
         kinds[v] = free_or_bound(k, v);
         v += 1;
+    }
+}
+
+// The first table: the rows, then the places and kinds of its variables.
+pub fn fill(b: BasicSet, rows: &mut [[i64; 18]], place: &mut [usize], kinds: &mut [u8])
+    requires { ⌜ Valid b ⌝ }
+    requires { ⌜ 64 ≤ length (now rows) ⌝ }
+    requires { ⌜ 80 ≤ length (now place) ⌝ }
+    requires { ⌜ 80 ≤ length (now kinds) ⌝ }
+    ensures { λ _. ⌜ First b (now (rows .entry)) (now (rows .exit)) (now (place .entry)) (now (place .exit)) (now (kinds .entry)) (now (kinds .exit)) ⌝ }
+{
+    let k = b.divs;
+    let cons = b.cons;
+    let n = 8 + k + (2 * k + cons);
+    name_variables(k, n, place, kinds);
+    let ds = b.divisions;
+    fill_bounds(ds, k, rows);
+    let mut i: usize = 0;
+    while i < cons {
+        let c = b.constraints[i];
+        constraint_row(&mut rows[2 * k + i], c, k);
+        kinds[8 + 3 * k + i] = kind_of(c.equality);
+        i += 1;
     }
 }

@@ -10,7 +10,7 @@ ghost use Rattle.tableau.specs.Rows.{rebuildRow, exchangeRows, rebuilt, touched
 ghost use Rattle.wide_tableau.specs.Cells.{cells, rowsOf, Sheet, Sheets, Becomes, Turns};
 
 // The row with the variable of column j replaced, where it has an entry there: 1, else 0.
-fn rebuild(r: &mut [u64; 36], n: usize, j: usize, m: Wide, q: &[u64; 36]) -> usize
+pub fn rebuild(r: &mut [u64; 36], n: usize, j: usize, m: Wide, q: &[u64; 36]) -> usize
     requires { ⌜ Sheet (now r) × Sheet (now q) × (j < 16) × FitAt (bound 128) n (cells (now r)) j × DivisorAt (bound 128) n (valueOf m) (cells (now q)) ⌝ }
     ensures { λ k. ⌜ Becomes (now (r .exit)) (rebuildRow j (valueOf m) (cells (now (q .entry))) (cells (now (r .entry)))) × (k ≡ rebuilt j (cells (now (r .entry)))) ⌝ }
 {

@@ -11,7 +11,7 @@ ghost use Rattle.wide.specs.Wide.{valueOf};
 ghost use Rattle.tableau.specs.Rows.{violatedBy, violatedAt, violated as violatedOf, helpsBy, helpsAt, helping as helpingOf, smallAt, narrowRowsAt, narrowRowAt, Line};
 ghost use Rattle.wide_tableau.specs.Cells.{cells, rowsOf, Sheet, Sheets};
 
-fn is_violated(kind: u8, x: Wide) -> bool
+pub fn is_violated(kind: u8, x: Wide) -> bool
     ensures { λ b. ⌜ b ≡ violatedBy kind (valueOf x) ⌝ }
 {
     let m = x.magnitude;
@@ -63,7 +63,7 @@ pub fn small(r: &[u64; 36], n: usize) -> bool
     true
 }
 
-fn row_narrow(r: &[u64; 36], n: usize, j: usize) -> bool
+pub fn row_narrow(r: &[u64; 36], n: usize, j: usize) -> bool
     requires { ⌜ Sheet (now r) × (j < 16) × Line n (cells (now r)) ⌝ }
     ensures { λ b. ⌜ b ≡ narrowRowAt (bound 128) j (cells (now (r .entry))) ⌝ }
 {

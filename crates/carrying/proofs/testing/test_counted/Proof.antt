@@ -1,196 +1,89 @@
 -- `carrying::testing::test_counted` meets its contract. Assumes nothing.
 use mathlib.Core.Path.{sym}
-use Prim.Native.Nat.{_+_, _-_, _*_, _≤_, _<_}
-use native.Mathlib.Omega.{arith}
+use Prim.Native.Nat.{_+_, _*_}
 use borrow.Author.Needs.{needs}
-use lib.ListN.{length}
-use Rattle.simplex.specs.Table.{Ruled}
-use Rattle.simplex.proofs.Fills.{ruled-none, ruled-more}
-use Rattle.simplex.proofs.Filled.{Filling, filling-room, filling-done, rows-taken, place-long, kinds-long, filled-fine}
+use lib.ListN.{take}
+use Rattle.simplex.proofs.Filled.{FirstTable, first-table, first-rows, first-places, first-kinds, first-fine}
 use Rattle.carrying.proofs.Runs.{filled-both}
 use Rattle.carrying.proofs.testing.test_counted.Statement.{statement}
 use Rattle.carrying.proofs.testing.test_counted.Tie as tie
 
-abbrev Inv-loop : tie.InvT-loop
-Inv-loop rows₀ place kinds₀ b k cons m n i₀ rows kinds i = (i ≤ b .cons) × Ruled b i rows₀ rows kinds₀ kinds
+abbrev start : tie.After-fill → tie.Start
+start c = c .before .before .before .before .before .before
 
-abbrev μ-loop : tie.MeasureT-loop
-μ-loop rows₀ place kinds₀ b k cons m n i₀ rows kinds i = b .cons - i
+-- where the table was filled, from where its parts are lent
+abbrev filling : tie.After-slice-known4 → tie.After-fill
+filling c = c .before .before .before .before .before
 
--- where the function began, and where the variables were named
-abbrev begun : tie.At-loop Inv-loop μ-loop → tie.Start Inv-loop μ-loop
-begun c = c .before .before .before .before .before .before .before .before .before .before .before .before .before .before
+abbrev running : tie.After-run-both-arg3 → tie.After-fill
+running c = filling (c .before .before .before)
 
-abbrev naming : tie.At-loop Inv-loop μ-loop → tie.After-name-variables Inv-loop μ-loop
-naming c = c .before .before .before .before .before .before .before .before .before
+filled : (c : tie.After-fill) →
+    let b = start c .args .b in
+    let l = c .fill .last .1 in
+    FirstTable b (take (2 * b .divs + b .cons) (l .0)) (l .1 .0) (l .1 .1 .0)
+filled c = let p = start c .pre in first-table (p .0) (c .fill .ensures) (p .1 .1 .0) (p .1 .1 .1)
 
--- the table at a turn of the loop, with its room for one more, and behind the loop
-filling : (c : tie.At-loop Inv-loop μ-loop) → Filling (begun c .args .t1) (c .loop .i) (c .loop .rows) (naming c .name-variables .last .1 .1 .0) (c .loop .kinds)
-filling c =
-    record {
-      valid = begun c .pre .0;
-      rows = _;
-      rows₁ = _;
-      place = _;
-      kinds = _;
-      kinds₁ = _;
-      named = naming c .name-variables .ensures;
-      bounded = c .before .before .fill-bounds .ensures;
-      ruled = c .loop .inv .1;
-      rows-room = begun c .pre .1 .0;
-      place-room = begun c .pre .1 .1 .0;
-      kinds-room = begun c .pre .1 .1 .1;
-    }
-
-room : (c : tie.In-loop Inv-loop μ-loop) →
-    let b = begun (c .before) .args .t1 in
-    let l = c .before .loop in
-    (2 * b .divs + l .i < length (l .rows)) × (8 + 3 * b .divs + l .i < length (l .kinds)) × (l .i < length (b .constraints))
-room c = filling-room _ _ _ _ _ (filling (c .before)) (c .loop-test .taken)
-
-filled : (c : tie.After-loop Inv-loop μ-loop) → Filling (begun (c .before) .args .t1) (begun (c .before) .args .t1 .cons) (c .before .loop .rows) (naming (c .before) .name-variables .last .1 .1 .0) (c .before .loop .kinds)
-filled c = filling-done _ _ _ _ _ (filling (c .before)) (let h = c .before .loop .inv .0 in let k = c .loop-test .left in omega arith)
-
-mul-m : tie.Need-mul-m Inv-loop μ-loop
+mul-m : tie.Need-mul-m
 mul-m c = search needs
 
-add-m : tie.Need-add-m Inv-loop μ-loop
+add-m : tie.Need-add-m
 add-m c = search needs
 
-add-n : tie.Need-add-n Inv-loop μ-loop
+add-n : tie.Need-add-n
 add-n c = search needs
 
-add-n-2 : tie.Need-add-n-2 Inv-loop μ-loop
+add-n-2 : tie.Need-add-n-2
 add-n-2 c = search needs
 
-name-variables-requires : tie.Need-name-variables-requires Inv-loop μ-loop
-name-variables-requires c κs =
-    let s = c .before .before .before .before in
-    let v = s .pre .0 in
-    let d = v .divs in
-    let e = v .cons in
-    (v .divs, (omega (arith, s .pre .1 .1 .0), omega (arith, s .pre .1 .1 .1)))
+fill-requires : tie.Need-fill-requires
+fill-requires c κs = search needs
 
-fill-bounds-requires : tie.Need-fill-bounds-requires Inv-loop μ-loop
-fill-bounds-requires c κs = let s = c .before .before .before .before .before .before .before .before .before .before .before in let v = s .pre .0 in let d = v .divs in (v .divs, (v .divisions, omega (arith, s .pre .1 .0)))
-
-loop-holds : tie.Need-loop-holds Inv-loop μ-loop
-loop-holds c = (omega arith, ruled-none _ _ _)
-
-mul-c : tie.Need-mul-c Inv-loop μ-loop
-mul-c c = search needs
-
-element-copy-out-c : tie.Need-element-copy-out-c Inv-loop μ-loop
-element-copy-out-c c = search needs
-
-mul-constraint-row : tie.Need-mul-constraint-row Inv-loop μ-loop
-mul-constraint-row c = search needs
-
-add-constraint-row : tie.Need-add-constraint-row Inv-loop μ-loop
-add-constraint-row c = search needs
-
-mul-constraint-row-2 : tie.Need-mul-constraint-row-2 Inv-loop μ-loop
-mul-constraint-row-2 c = search needs
-
-index-1-constraint-row : tie.Need-index-1-constraint-row Inv-loop μ-loop
-index-1-constraint-row c = room (c .before) .0
-
-constraint-row-requires : tie.Need-constraint-row-requires Inv-loop μ-loop
-constraint-row-requires c κs = c .before .before .before .before .before .before .before .before .before .before .before .before .before .before .before .before .before .pre .0 .divs
-
-kind-of-requires : tie.Need-kind-of-requires Inv-loop μ-loop
-kind-of-requires c κs = search needs
-
-mul-kinds : tie.Need-mul-kinds Inv-loop μ-loop
-mul-kinds c = search needs
-
-add-kinds : tie.Need-add-kinds Inv-loop μ-loop
-add-kinds c = search needs
-
-add-kinds-2 : tie.Need-add-kinds-2 Inv-loop μ-loop
-add-kinds-2 c = search needs
-
-slice-write-kinds : tie.Need-slice-write-kinds Inv-loop μ-loop
-slice-write-kinds c = room (c .before .before .before .before) .1
-
-add-i : tie.Need-add-i Inv-loop μ-loop
-add-i c = search needs
-
-loop-less : tie.Need-loop-less Inv-loop μ-loop
-loop-less c = search needs
-
-loop-again : tie.Need-loop-again Inv-loop μ-loop
-loop-again c =
-    let i = c .before .before .before .before in
-    let r = room i in
-    let l = i .before .loop in
-    let t = i .loop-test .taken in
-    (omega arith, ruled-more _ (l .i) _ _ (l .rows) _ (l .kinds) _ _ (r .2) (omega arith) (omega arith) (c .before .constraint-row .ensures) (c .kind-of .ensures) (l .inv .1))
-
-slice-relend-prefix-run-both : tie.Need-slice-relend-prefix-run-both Inv-loop μ-loop
+slice-relend-prefix-run-both : tie.Need-slice-relend-prefix-run-both
 slice-relend-prefix-run-both c = search needs
 
-slice-aggregate-run-both : tie.Need-slice-aggregate-run-both Inv-loop μ-loop
-slice-aggregate-run-both c = sym (rows-taken _ _ _ _ (filled (c .before)))
+slice-aggregate-run-both : tie.Need-slice-aggregate-run-both
+slice-aggregate-run-both c = sym (first-rows _ _ _ _ (filled (filling (c .before))))
 
-add-run-both : tie.Need-add-run-both Inv-loop μ-loop
+add-run-both : tie.Need-add-run-both
 add-run-both c = search needs
 
-slice-relend-prefix-run-both-2 : tie.Need-slice-relend-prefix-run-both-2 Inv-loop μ-loop
+slice-relend-prefix-run-both-2 : tie.Need-slice-relend-prefix-run-both-2
 slice-relend-prefix-run-both-2 c = search needs
 
-slice-aggregate-run-both-2 : tie.Need-slice-aggregate-run-both-2 Inv-loop μ-loop
-slice-aggregate-run-both-2 c = sym (place-long _ _ _ _ (filled (c .before .before)))
+slice-aggregate-run-both-2 : tie.Need-slice-aggregate-run-both-2
+slice-aggregate-run-both-2 c = sym (first-places _ _ _ _ (filled (filling (c .before .before))))
 
-slice-reshare-prefix-run-both : tie.Need-slice-reshare-prefix-run-both Inv-loop μ-loop
+slice-reshare-prefix-run-both : tie.Need-slice-reshare-prefix-run-both
 slice-reshare-prefix-run-both c = search needs
 
-slice-aggregate-run-both-3 : tie.Need-slice-aggregate-run-both-3 Inv-loop μ-loop
-slice-aggregate-run-both-3 c = sym (kinds-long _ _ _ _ (filled (c .before .before .before)))
+slice-aggregate-run-both-3 : tie.Need-slice-aggregate-run-both-3
+slice-aggregate-run-both-3 c = sym (first-kinds _ _ _ _ (filled (running c)))
 
-run-both-requires : tie.Need-run-both-requires Inv-loop μ-loop
-run-both-requires c κs = filled-fine _ _ _ _ (filled (c .before .before .before))
+run-both-requires : tie.Need-run-both-requires
+run-both-requires c κs = first-fine _ _ _ _ (filled (running c))
 
-same-length : tie.Need-same-length Inv-loop μ-loop
+same-length : tie.Need-same-length
 same-length c = search needs
 
-same-length-2 : tie.Need-same-length-2 Inv-loop μ-loop
+same-length-2 : tie.Need-same-length-2
 same-length-2 c = search needs
 
-same-length-3 : tie.Need-same-length-3 Inv-loop μ-loop
+same-length-3 : tie.Need-same-length-3
 same-length-3 c = search needs
 
-returns : tie.Need-returns Inv-loop μ-loop
-returns c = filled-both _ _ _ _ (filled (c .before .before .before .before .before .before .before)) _ (c .before .before .before .run-both .ensures)
+returns : tie.Need-returns
+returns c = let r = c .before .before .before in filled-both _ _ _ _ (filled (running (r .before))) _ (r .run-both .ensures)
 
 pub test-counted-spec : {M : Type 1} → statement M
 test-counted-spec =
     tie.close
     (tie.spec
-    Inv-loop
-    μ-loop
     mul-m
     add-m
     add-n
     add-n-2
-    name-variables-requires
-    fill-bounds-requires
-    loop-holds
-    mul-c
-    element-copy-out-c
-    mul-constraint-row
-    add-constraint-row
-    mul-constraint-row-2
-    index-1-constraint-row
-    constraint-row-requires
-    kind-of-requires
-    mul-kinds
-    add-kinds
-    add-kinds-2
-    slice-write-kinds
-    add-i
-    loop-less
-    loop-again
+    fill-requires
     slice-relend-prefix-run-both
     slice-aggregate-run-both
     add-run-both

@@ -12,7 +12,8 @@ use Rattle.sharing.specs.Past.{through, brought}
 use Rattle.sharing.specs.Trace.{Traced}
 use Rattle.sharing.specs.Working.{onward}
 use Rattle.sharing.proofs.Share.{clash-dropped, clash-long}
-use Rattle.sharing.proofs.Standings.{row-whole, fits-past, wide-stays, wide-any, ended-now, calm-now, onward-is}
+use Rattle.simplex.proofs.Filled.{row-whole}
+use Rattle.sharing.proofs.Standings.{fits-past, wide-stays, wide-any, ended-now, calm-now, onward-is}
 use borrow.Author.Needs.{needs}
 use Rattle.sharing.proofs.working.candidate.Statement.{statement}
 use Rattle.sharing.proofs.working.candidate.Tie as tie
@@ -32,7 +33,7 @@ replay-requires : tie.Need-replay-requires
 replay-requires c κs =
     let st = c .before .before .before .before .before .before in
     let g = st .pre .0 .stands in
-    (subst (Whole (st .args .k + 10)) (sym (c .before .constraint-row .ensures)) (row-whole (st .args .k) (constraintOf (st .args .c)) (g .few)), (fits-past (st .pre .0 .stands), g .kept))
+    (subst (Whole (st .args .k + 10)) (sym (c .before .constraint-row .ensures)) (row-whole (st .args .k) (g .few) (constraintOf (st .args .c))), (fits-past (st .pre .0 .stands), g .kept))
 
 returns : tie.Need-returns
 returns c =

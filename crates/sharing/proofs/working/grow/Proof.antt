@@ -1,6 +1,6 @@
 use mathlib.Core.Path.{_≡_, sym, ap, _∙_, subst}
 use mathlib.Core.Bool.{true, false}
-use Prim.Native.Nat.{ℕ, _+_, _-_}
+use Prim.Native.Nat.{ℕ, _+_}
 use native.Mathlib.Omega.{arith}
 use borrow.Author.Tests.{not-true, not-false}
 use lib.ListN.{take}
@@ -11,7 +11,8 @@ use Rattle.tableau.proofs.Searches.{Whole}
 use Rattle.sharing.specs.Past.{through, brought}
 use Rattle.sharing.specs.Working.{Appended}
 use Rattle.sharing.proofs.Share.{clash-dropped, clash-long}
-use Rattle.sharing.proofs.Standings.{row-whole, fits-past, wide-stays, wide-any, calm-now, grown-wide, grown-ended, grown-on}
+use Rattle.simplex.proofs.Filled.{row-whole}
+use Rattle.sharing.proofs.Standings.{fits-past, wide-stays, wide-any, calm-now, grown-wide, grown-ended, grown-on}
 use borrow.Author.Needs.{needs}
 use Rattle.sharing.proofs.working.grow.Statement.{statement}
 use Rattle.sharing.proofs.working.grow.Tie as tie
@@ -44,7 +45,7 @@ replay-requires : tie.Need-replay-requires
 replay-requires c κs =
     let st = c .before .before .before .before .before .before .before .before .before in
     let g = st .pre .stands in
-    (subst (Whole (st .args .k + 10)) (sym (c .before .before .before .constraint-row .ensures)) (row-whole (st .args .k) (constraintOf (st .args .c)) (g .few)), (fits-past (st .pre .stands), g .kept))
+    (subst (Whole (st .args .k + 10)) (sym (c .before .before .before .constraint-row .ensures)) (row-whole (st .args .k) (g .few) (constraintOf (st .args .c))), (fits-past (st .pre .stands), g .kept))
 
 same-length : tie.Need-same-length
 same-length c = search needs
