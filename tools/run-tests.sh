@@ -54,6 +54,7 @@ step "histogram of 8,000 scripts and calls" $bin/generate histogram 8000 3
 step "meaning, library" $bin/meaning 2000 1
 step "meaning, program" $bin/meaning 100 2 $bin/second calls
 step "meaning, counts" $bin/meaning counts 6000 1
+step "meaning, extremes" $bin/meaning extremes 10000 1
 step "compare, scripts" $bin/compare $bin/second 100 1
 step "compare, calls" $bin/compare calls "$bin/second calls" 500 1
 step "examples with second" ../examples/run.sh $bin/second

@@ -1,4 +1,4 @@
 # Request 9: the carry restarts the count.
 # file src/test.rs
-/carried = Some(pivots);/a\
-            pivots = 0;
+/self\.carried = Some(self\.pivots);/a\
+            self.pivots = 0;

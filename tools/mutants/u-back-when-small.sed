@@ -1,7 +1,7 @@
 # Request 9: back to 64 bits once all numbers are small again.
 # file src/test.rs
-/let (mut pivots, mut built, mut carried) = (0, 0, None);/a\
-    let mut back = false;
-/carried\.is_some() && tableau\.is_wide(row, column, wider)/i\
-        back |= carried.is_some() \&\& tableau.rows.iter().all(|row| !row.is_beyond(first));
-s/tableau\.is_wide(row, column, wider)/tableau.is_wide(row, column, if back { first } else { wider })/
+s/^    pub tableau: Tableau,/&\n    back: bool,/
+s/carried: None, limit, bounds }/carried: None, limit, bounds, back: false }/
+/let wide = self\.carried/i\
+        self.back |= self.carried.is_some() \&\& self.tableau.rows.iter().all(|row| !row.is_beyond(first));
+s/self\.tableau\.is_wide(column, wider)/self.tableau.is_wide(column, if self.back { first } else { wider })/

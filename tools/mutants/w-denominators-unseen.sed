@@ -1,3 +1,3 @@
 # Step 4 without the denominators.
-# file src/test.rs
+# file src/tableau.rs
 s/self\.numbers()\.any(/self.numbers().skip(1).any(/

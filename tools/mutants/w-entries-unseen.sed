@@ -1,3 +1,3 @@
 # Step 4 without the entries.
-# file src/test.rs
+# file src/tableau.rs
 s/self\.numbers()\.any(/self.numbers().take(2).any(/

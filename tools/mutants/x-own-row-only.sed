@@ -1,3 +1,3 @@
 # Step 4 for the exchanged row alone.
-# file src/test.rs
-s/other\.entries\[column\] != 0 && other\.is_beyond(bound)/other.entries[column] != 0 \&\& false/
+# file src/tableau.rs
+s/self\.touched(column)\.any(/self.lowest_violated_row().map(|own| \&self.rows[own]).into_iter().any(/

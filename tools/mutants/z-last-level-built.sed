@@ -1,4 +1,4 @@
 # Request 4: the rows built before the carry forgotten.
 # file src/test.rs
-/carried = Some(pivots);/a\
-            built = 0;
+/self\.carried = Some(self\.pivots);/a\
+            self.built = 0;

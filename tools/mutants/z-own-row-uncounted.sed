@@ -1,3 +1,3 @@
 # Request 4: the exchanged row not counted.
-# file src/test.rs
+# file src/tableau.rs
 s/let mut built = 1;/let mut built = 0;/

@@ -2,6 +2,7 @@
 
 use crate::counting;
 use crate::damage::damaged;
+use crate::extremes;
 use crate::fleets;
 use crate::hard;
 use crate::model::{encode, Set};
@@ -12,9 +13,9 @@ use crate::sets::World;
 use crate::wider;
 use hexscript::tokens::hex;
 
-pub const KINDS: [&str; 13] = [
-    "check", "part", "member", "holder", "fleet", "search", "count", "counts", "test", "union", "intersection",
-    "difference", "complement",
+pub const KINDS: [&str; 15] = [
+    "check", "part", "member", "holder", "fleet", "search", "count", "counts", "test", "greatest", "least", "union",
+    "intersection", "difference", "complement",
 ];
 
 /// Bytes of the set, damaged for a part of the calls.
@@ -172,6 +173,7 @@ pub fn call(seed: u64, index: u64, kinds: &[&str]) -> String {
         "search" => search(rng, world),
         kind @ ("count" | "counts") => counting::call(rng, world, kind),
         "test" => test(rng, world),
+        kind @ ("greatest" | "least") => extremes::call(rng, world, kind),
         kind => operation(rng, world, kind),
     }
 }

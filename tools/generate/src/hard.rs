@@ -1,7 +1,9 @@
 //! The stored basic sets that need about 200 pivots, changes of them, and the same pivots over larger numbers.
 
-use crate::model::{Basic, Division, Rule};
+use crate::model::{encode, Basic, Division, Rule};
 use crate::rng::Rng;
+use second::test::test;
+use second::{parse, Answer};
 
 const TEXT: &str = include_str!("../data/hard-sets.txt");
 
@@ -64,6 +66,26 @@ pub fn near(rng: &mut Rng) -> (usize, Basic) {
         change(rng, n, &mut basic);
     }
     (n, basic)
+}
+
+/// The stored set that has a point, mostly changed into others that have one, its number of axes, and how many pivots
+/// its test makes: with another constant of a late rule they are a few less.
+pub fn with_point(rng: &mut Rng) -> (usize, Basic, u32) {
+    let (n, given) = stored().swap_remove(0);
+    for _ in 0..4 {
+        let mut basic = given.clone();
+        if rng.chance(60) {
+            basic.rules[17 + rng.below(8)].constant += rng.range(-3, 3) as i32;
+        } else {
+            (0..rng.below(3)).for_each(|_| change(rng, n, &mut basic));
+        }
+        let set = parse(n as u8, &encode(std::slice::from_ref(&basic))).expect("a good set");
+        let outcome = test(n, &set.basics[0]);
+        if outcome.answer == Answer::Point {
+            return (n, basic, outcome.pivots);
+        }
+    }
+    (n, given, 199)
 }
 
 /// A coefficient times a factor; nothing where it would leave its range.

@@ -1,6 +1,6 @@
 //! What the generated scripts and calls reach, by `second`.
 
-use crate::{calls, counting, events, fleets, runs, scripts};
+use crate::{calls, counting, events, extremes, fleets, runs, scripts};
 use hexscript::tokens::unhex;
 use second::algebra::{complement, difference, intersection, union, Watch};
 use second::ask::{check_corners, check_limit, Sides};
@@ -60,12 +60,30 @@ fn count_built(basic: &BasicSet, outcome: Outcome, counts: &mut Counts) {
 pub const COUNTING: [&str; 5] = ["refused 19", "count count", "count spent", "counts count", "counts spent"];
 /// What only a call can reach: the fleet is no command of a script.
 pub const FLEET: [&str; 2] = ["refused 16", "fleet seen"];
+/// The same of greatest and least.
+pub const EXTREMES: [&str; 10] = [
+    "greatest value",
+    "greatest empty",
+    "greatest unbounded",
+    "greatest wide",
+    "greatest long",
+    "least value",
+    "least empty",
+    "least unbounded",
+    "least wide",
+    "least long",
+];
+
+/// All that only a call can reach.
+pub fn asked_only() -> impl Iterator<Item = &'static str> {
+    COUNTING.into_iter().chain(FLEET).chain(EXTREMES)
+}
 
 /// Every name that has to occur.
 pub fn wanted() -> Vec<String> {
     let refusals = (1..=15).map(|k| format!("refused {k}"));
     let tests = ANSWERS.iter().map(|answer| format!("test {answer}"));
-    let asking = ["search at", "search none", "search spent"].into_iter().chain(COUNTING).chain(FLEET).chain(SHUT);
+    let asking = ["search at", "search none", "search spent"].into_iter().chain(asked_only()).chain(SHUT);
     let carried = TESTING.iter().flat_map(|kind| ANSWERS.map(|answer| carried(kind, answer)));
     let others = asking.chain(events::EVENTS).chain(runs::EVENTS).map(str::to_string);
     refusals.chain(tests).chain(others).chain(carried).chain(built_names()).collect()
@@ -282,6 +300,13 @@ pub fn of_counts(count: u64, seed: u64) -> Counts {
 pub fn of_fleets(count: u64, seed: u64) -> Counts {
     let mut counts = Counts::new();
     (0..count).for_each(|index| fleets::count(&calls::call(seed, index, &["fleet"]), &mut counts));
+    counts
+}
+
+/// What so many calls of greatest and least reach.
+pub fn of_extremes(count: u64, seed: u64) -> Counts {
+    let mut counts = Counts::new();
+    (0..count).for_each(|index| extremes::count(&calls::call(seed, index, &["greatest", "least"]), &mut counts));
     counts
 }
 

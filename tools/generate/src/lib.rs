@@ -1,11 +1,13 @@
 //! Seeded scripts and calls that reach every refusal, test answer and search outcome, all that tightening does, every
-//! answer of tests that are carried into 128 bits, long runs of failing prefixes, and counts and lists of points of
-//! every kind.
+//! answer of tests that are carried into 128 bits, long runs of failing prefixes, counts and lists of points of every
+//! kind, and every answer of greatest and least in either half.
 
 pub mod calls;
+pub mod corners;
 pub mod counting;
 pub mod damage;
 pub mod events;
+pub mod extremes;
 pub mod fleets;
 pub mod hard;
 pub mod histogram;
@@ -16,4 +18,5 @@ pub mod runs;
 pub mod scripts;
 pub mod sets;
 pub mod slots;
+mod turns;
 pub mod wider;

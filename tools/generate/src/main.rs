@@ -7,15 +7,17 @@
 //!                                       that fail and by where the limit falls
 //! `generate counts COUNT SEED`          what COUNT calls of the count reach: sets, chosen axes, refusals, limits
 //! `generate fleets COUNT SEED`          what COUNT calls of the fleet reach: lists, refusals, which points are in
+//! `generate extremes COUNT SEED`        what COUNT calls of greatest and least reach: expressions, refusals, answers in
+//!                                       either half, turns of the second one
 
 use generate::histogram::Counts;
-use generate::{calls, counting, fleets, histogram, runs, scripts};
+use generate::{calls, counting, extremes, fleets, histogram, runs, scripts};
 use hexscript::tokens::hex;
 use std::io::Write;
 use std::process::ExitCode;
 
-const USAGE: &str =
-    "generate scripts COUNT SEED DIR|- | calls COUNT SEED [KIND..] | histogram|tests|searches|counts|fleets COUNT SEED";
+const USAGE: &str = "generate scripts COUNT SEED DIR|- | calls COUNT SEED [KIND..] | \
+                     histogram|tests|searches|counts|fleets|extremes COUNT SEED";
 
 /// One test in so many has to be wide at 64 bits.
 const CARRIED_ONE_IN: u64 = 25;
@@ -50,8 +52,9 @@ fn count_of(counts: &Counts, name: &str) -> usize {
     counts.get(name).copied().unwrap_or(0)
 }
 
-/// Each wanted name is a check: it must occur among the scripts and among the calls (14 and 15 are of scripts only, a
-/// test of its own, a count and a fleet are of calls only, and what calls of the test build is for `tests` to say).
+/// Each wanted name is a check: it must occur among the scripts and among the calls (14 and 15 are of scripts only; a
+/// test of its own, a count, a fleet, greatest and least are of calls only; what calls of the test build is for `tests`
+/// to say).
 fn print_histogram(count: u64, seed: u64) -> ExitCode {
     let by_scripts = histogram::of_scripts(count, seed);
     let by_calls = histogram::of_calls(count, seed);
@@ -66,7 +69,7 @@ fn print_histogram(count: u64, seed: u64) -> ExitCode {
     for name in &wanted {
         let (s, c) = line(name);
         let script_only = name == "refused 14" || name == "refused 15" || name.starts_with("built");
-        let asked_only = histogram::COUNTING.iter().chain(&histogram::FLEET).any(|asked| asked == name);
+        let asked_only = histogram::asked_only().any(|asked| asked == name);
         let call_only = name.starts_with("test carried") || asked_only;
         passed += usize::from((s > 0 || call_only) && (c > 0 || script_only));
     }
@@ -115,6 +118,10 @@ fn print_fleets(count: u64, seed: u64) -> ExitCode {
     closing(&print_each(&histogram::of_fleets(count, seed), &fleets::EVENTS.map(str::to_string)))
 }
 
+fn print_extremes(count: u64, seed: u64) -> ExitCode {
+    closing(&print_each(&histogram::of_extremes(count, seed), &extremes::EVENTS.map(str::to_string)))
+}
+
 fn closing(checks: &[bool]) -> ExitCode {
     let passed = checks.iter().filter(|&&good| good).count();
     let failed = checks.len() - passed;
@@ -132,6 +139,7 @@ fn run(words: &[&str]) -> Result<ExitCode, String> {
         ["searches", count, seed] => Ok(print_searches(number(count)?, number(seed)?)),
         ["counts", count, seed] => Ok(print_counts(number(count)?, number(seed)?)),
         ["fleets", count, seed] => Ok(print_fleets(number(count)?, number(seed)?)),
+        ["extremes", count, seed] => Ok(print_extremes(number(count)?, number(seed)?)),
         _ => Err(USAGE.to_string()),
     }
 }

@@ -131,7 +131,7 @@ fn spread(rng: &mut Rng) -> (usize, Basic) {
     (n, larger.unwrap_or(basic))
 }
 
-fn shuffle(rng: &mut Rng, rules: &mut [Rule]) {
+pub(crate) fn shuffle(rng: &mut Rng, rules: &mut [Rule]) {
     for i in (1..rules.len()).rev() {
         rules.swap(i, rng.below(i + 1));
     }

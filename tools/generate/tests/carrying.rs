@@ -1,9 +1,10 @@
 //! Document 02, request 9, on generated basic sets: what a carry is the same as, and what is generated to be carried.
 
 use generate::model::{encode, Basic};
-use generate::{hard, rng::Rng, sets::World, wider};
-use second::test::{test, test_bounded, BOUND_128, BOUND_64, PIVOT_LIMIT};
-use second::{parse, Answer, BasicSet, Outcome};
+use generate::{corners, hard, rng::Rng, sets::World, wider};
+use second::extreme::{Aim, ValueSearch};
+use second::test::{test, test_bounded, Steps, BOUND_128, BOUND_64, PIVOT_LIMIT};
+use second::{parse, Answer, BasicSet, Kind, Outcome, Rule};
 use std::collections::BTreeSet;
 
 fn read(n: usize, basic: &Basic) -> BasicSet {
@@ -49,6 +50,30 @@ fn a_carried_test_is_one_test_at_the_larger_bound() {
         }
     }
     assert_eq!(answers.len(), 4, "{answers:?}");
+}
+
+/// The same of the search for a value (request 11), in either half.
+#[test]
+fn a_carried_value_is_one_at_the_larger_bound() {
+    let rng = &mut Rng::of(13, 0);
+    let mut carried = BTreeSet::new();
+    for _ in 0..4_000 {
+        let (n, basic) = if rng.chance(50) { any(rng) } else { corners::steep_corner(rng) };
+        let basic = read(n, &basic);
+        let axes = std::array::from_fn(|axis| if axis < n { rng.range(-9, 9) } else { 0 });
+        let expression = Rule { kind: Kind::Inequality, constant: 0, axes, divs: [0; 8] };
+        let mut whole = ValueSearch::new(n, &basic, Aim::Greatest, &expression);
+        let mut at_128 = ValueSearch::new(n, &basic, Aim::Greatest, &expression);
+        at_128.steps = Steps::new(at_128.steps.tableau, Some(PIVOT_LIMIT), [BOUND_128; 2]);
+        let mut answers = (whole.first_half(), at_128.first_half());
+        let first = whole.steps.pivots;
+        while answers == (None, None) {
+            answers = (whole.turn(), at_128.turn());
+        }
+        assert_eq!((answers.0, whole.steps.pivots), (answers.1, at_128.steps.pivots));
+        carried.extend(whole.steps.carried.map(|pivots| pivots < first));
+    }
+    assert_eq!(carried.len(), 2);
 }
 
 /// The headings say what the test would answer without the limit of 200.

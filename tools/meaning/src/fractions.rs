@@ -5,13 +5,13 @@ use crate::sets::Basic;
 use std::collections::BTreeSet;
 
 /// constant, then one coefficient a variable: constant + coefficients · variables (= or >=) 0.
-type Row = Vec<i128>;
+pub type Row = Vec<i128>;
 
 /// Above this many rows the elimination is given up.
 const MOST_ROWS: usize = 1_000;
 
 /// The rows of a basic set: bounds of divisions and inequalities, and the equalities.
-fn rows(n: usize, basic: &Basic) -> (Vec<Row>, Vec<Row>) {
+pub fn rows(n: usize, basic: &Basic) -> (Vec<Row>, Vec<Row>) {
     let m = basic.divisions.len();
     let (mut inequalities, mut equalities) = (Vec::new(), Vec::new());
     for (i, division) in basic.divisions.iter().enumerate() {

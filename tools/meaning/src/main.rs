@@ -1,12 +1,15 @@
 //! `meaning COUNT SEED`                  checks `second` by meaning on COUNT cases
 //! `meaning COUNT SEED PROGRAM [ARGS..]` checks a program that speaks the line mode
 //! `meaning counts COUNT SEED ..`        the same of COUNT calls of the count, by enumeration of their boxes
+//! `meaning extremes COUNT SEED ..`      the same of COUNT calls of greatest and least, by enumeration of vertices
 
 mod cases;
 mod counting;
+mod extremes;
 mod fractions;
 mod sets;
 mod tight;
+mod vertices;
 mod walk;
 
 use cases::{checks, Check, Verdict};
@@ -35,10 +38,11 @@ fn shortened(answer: &str) -> String {
 fn run(arguments: &[String]) -> Result<ExitCode, String> {
     let (made, arguments): (fn(u64, u64) -> Vec<Check>, &[String]) = match arguments {
         [word, rest @ ..] if word == "counts" => (|seed, index| vec![counting::check(seed, index)], rest),
+        [word, rest @ ..] if word == "extremes" => (|seed, index| vec![extremes::check(seed, index)], rest),
         _ => (checks, arguments),
     };
     let [count, seed, program @ ..] = arguments else {
-        return Err("meaning [counts] COUNT SEED [PROGRAM ARGS..]".to_string());
+        return Err("meaning [counts|extremes] COUNT SEED [PROGRAM ARGS..]".to_string());
     };
     let number = |w: &str| w.parse::<u64>().map_err(|_| format!("'{w}' is no number"));
     let (count, seed) = (number(count)?, number(seed)?);

@@ -18,3 +18,8 @@ fn a_wrong_program_is_found() {
 fn wrong_counts_are_found() {
     found(&["counts", "30", "1", "cat"]);
 }
+
+#[test]
+fn wrong_extremes_are_found() {
+    found(&["extremes", "30", "1", "cat"]);
+}

@@ -102,14 +102,19 @@ fn add_rule(set: &mut Set, kind: Kind, body: &[u8]) -> Result<(), u8> {
     };
     let low = kind == Kind::Equality && rule.constant < LEAST_EQUALITY_CONSTANT;
     refuse_if(low, refusal::NUMBER_RANGE)?;
-    // Reading 3: 7 at any place, absent ones too, before 8.
+    check_coefficients(n, basic, &rule)?;
+    basic.rules.push(rule);
+    Ok(())
+}
+
+/// A rule's 7 and 8 but for its constant. Reading 3: 7 at any place, absent
+/// ones too, before 8.
+pub fn check_coefficients(n: usize, basic: &BasicSet, rule: &Rule) -> Result<(), u8> {
     refuse_if(out_of_range(&rule.axes), refusal::NUMBER_RANGE)?;
     refuse_if(out_of_range(&rule.divs), refusal::NUMBER_RANGE)?;
     refuse_if(not_all_zero(&rule.axes[n..]), refusal::ABSENT_PLACE)?;
     let absent = &rule.divs[basic.divisions.len()..];
-    refuse_if(not_all_zero(absent), refusal::ABSENT_PLACE)?;
-    basic.rules.push(rule);
-    Ok(())
+    refuse_if(not_all_zero(absent), refusal::ABSENT_PLACE)
 }
 
 /// The first four bytes as a signed number.

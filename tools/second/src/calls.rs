@@ -4,8 +4,9 @@ use crate::algebra::{complement, difference, intersection, union, unwatched};
 use crate::ask::{holder, member, part, search, Sides, Table};
 use crate::bytes::{encode, parse};
 use crate::count::{count, counts, Count};
+use crate::extreme::{extreme, Aim, Extreme};
 use crate::fleet::fleet;
-use crate::model::{Point, Set};
+use crate::model::{Kind, Point, Rule, Set};
 use crate::refusal;
 use crate::script::search_words;
 use crate::test::test;
@@ -35,6 +36,8 @@ fn answer(line: &str) -> Option<String> {
         "part" => call_part(n, &mut fields)?,
         "holder" => call_holder(n, &mut fields)?,
         "fleet" => call_fleet(n, &mut fields)?,
+        "greatest" => call_extreme(Aim::Greatest, n, &mut fields)?,
+        "least" => call_extreme(Aim::Least, n, &mut fields)?,
         _ => return None,
     };
     Some(answer)
@@ -140,8 +143,7 @@ fn call_test(n: u8, fields: &mut Fields) -> Option<String> {
         Ok(set) => set,
         Err(number) => return Some(format!("refused {number}")),
     };
-    let index = k.checked_sub(1).and_then(|k| usize::try_from(k).ok());
-    Some(match index.and_then(|index| set.basics.get(index)) {
+    Some(match set.basic(k) {
         None => "none".to_string(),
         Some(basic) => {
             let outcome = test(set.n, basic);
@@ -182,6 +184,21 @@ fn call_fleet(n: u8, fields: &mut Fields) -> Option<String> {
     let coordinates = fields.coordinates()?;
     Some(match parse(n, &set).and_then(|set| fleet(&set, &coordinates)) {
         Ok(found) => format!("{} {}", found.mask, found.count),
+        Err(number) => format!("refused {number}"),
+    })
+}
+
+fn call_extreme(aim: Aim, n: u8, fields: &mut Fields) -> Option<String> {
+    let set = fields.bytes()?;
+    let k = fields.count()?;
+    let expression = fields.expression()?;
+    fields.end()?;
+    Some(match parse(n, &set).and_then(|set| extreme(&set, k, aim, &expression)) {
+        Ok(Extreme::Value(numerator, denominator)) => format!("value {numerator} {denominator}"),
+        Ok(Extreme::Empty) => "empty".to_string(),
+        Ok(Extreme::Unbounded) => "unbounded".to_string(),
+        Ok(Extreme::Wide) => "wide".to_string(),
+        Ok(Extreme::Long) => "long".to_string(),
         Err(number) => format!("refused {number}"),
     })
 }
@@ -236,6 +253,13 @@ impl<'a> Fields<'a> {
 
     fn coordinates(&mut self) -> Option<Vec<i32>> {
         (0..self.0.len()).map(|_| self.coordinate()).collect()
+    }
+
+    /// An inequality's numbers, each of 32 bits.
+    fn expression(&mut self) -> Option<Rule> {
+        let constant = self.coordinate()?.into();
+        let (axes, divs) = (self.point()?, self.point()?);
+        Some(Rule { kind: Kind::Inequality, constant, axes: axes.map(i64::from), divs: divs.map(i64::from) })
     }
 
     fn bytes(&mut self) -> Option<Vec<u8>> {

@@ -9,7 +9,9 @@
 //! * In the test for fractions step 4 lets only numbers of at most 2^31 − 1,
 //!   or 2^63 − 1 after request 9's carry, into an exchange, which makes sums of
 //!   two products: below 2^63, or 2^127. Numbers that are larger are only looked
-//!   at (sign, zero or not, beyond the bound).
+//!   at (sign, zero or not, beyond the bound) or, in request 11's value, divided.
+//! * Request 11 compares the moves at which rows stop a column by products of two
+//!   such numbers, once step 4 has let them pass.
 
 #[inline]
 pub fn add(a: i128, b: i128) -> i128 {

@@ -13,11 +13,13 @@ pub mod bytes;
 pub mod calls;
 pub mod count;
 pub mod exact;
+pub mod extreme;
 pub mod fleet;
 pub mod listing;
 pub mod model;
 pub mod refusal;
 pub mod script;
+pub mod tableau;
 pub mod test;
 
 pub use bytes::{encode, parse};

@@ -102,4 +102,10 @@ impl Set {
     pub fn holds(&self, point: &Point) -> bool {
         self.basics.iter().any(|basic| basic.holds(point))
     }
+
+    /// Basic set number k, from 1.
+    pub fn basic(&self, k: u64) -> Option<&BasicSet> {
+        let index = usize::try_from(k).ok()?.checked_sub(1)?;
+        self.basics.get(index)
+    }
 }

@@ -161,6 +161,9 @@ fn ill_formed_lines() {
         "member 1 - 2147483648 0 0 0 0 0 0 0", "member 1 - - 0 0 0 0 0 0 0",
         "member 1 - --1 0 0 0 0 0 0 0", "union 1 99999999999999999999 - -",
         "union 1 -1 - -", "complement 1 1 11 11", "check 1 é", "check\t1 -",
+        "greatest 1 - 1 0 0 0 0 0 0 0 0 0 0 0 0 0 0 0 0", "least 1 - 1 0 0 0 0 0 0 0 0 0 0 0 0 0 0 0 0 0 0",
+        "greatest 1 - -1 0 0 0 0 0 0 0 0 0 0 0 0 0 0 0 0 0", "least 1 - 1 2147483648 0 0 0 0 0 0 0 0 0 0 0 0 0 0 0 0",
+        "greatest 1 - 1 0 0 0 0 0 0 0 0 0 0 0 0 0 0 0 0 -2147483649", "most 1 - 1 0 0 0 0 0 0 0 0 0 0 0 0 0 0 0 0 0",
         "fleet 1", "fleet 1 - ", "fleet 1 -  0", "fleet 1 - 0 ", "fleet 1 - 2147483648", "fleet 1 - 0 1A",
     ] {
         assert_eq!(call(line.to_string()), "bad line", "{line:?}");

@@ -66,6 +66,12 @@ pub fn counts(n: u8, bytes: &[u8], limit: u32, axis: u64, low: &[i32], high: &[i
     call(format!("counts {n} {set} {limit} {axis} {low} {high}"))
 }
 
+/// Greatest or least of basic set k: the constant, then coefficients of axes and of divisions.
+pub fn extreme(kind: &str, n: u8, bytes: &[u8], k: u64, expression: (i32, &[i32], &[i32])) -> String {
+    let (constant, axes, divisions) = expression;
+    call(format!("{kind} {n} {} {k} {constant} {} {}", hex(bytes), eight(axes), eight(divisions)))
+}
+
 pub fn tested(n: u8, bytes: &[u8]) -> String {
     call(format!("test {n} {} 1", hex(bytes)))
 }

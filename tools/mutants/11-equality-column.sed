@@ -1,0 +1,3 @@
+# Request 11: an equality column enters like any other.
+# file src/extreme.rs
+s/Nature::Zero => false,/Nature::Zero => better > 0,/

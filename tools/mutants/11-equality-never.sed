@@ -1,0 +1,3 @@
+# Request 11: an equality row never stops the column.
+# file src/extreme.rs
+/Nature::Zero if slope != 0/d

@@ -1,0 +1,3 @@
+# Request 11: the lowest-numbered row that stops the column leaves, soonest or not.
+# file src/extreme.rs
+s/a\.compare(b)\.then(a\.variable\.cmp(&b\.variable))/a.variable.cmp(\&b.variable)/
