@@ -1,6 +1,6 @@
 /* The library behind the line mode of tools/second: one call a line, one answer a line, so that `compare calls` can
- * hold both against each other. Every table of bytes lies at an odd address between guard bytes, every table of counts
- * at one aligned as uint32_t is and no better; a guard that changed is told and ends the program. */
+ * hold both against each other. Every table of bytes lies at an odd address between guard bytes, a table of numbers at
+ * one aligned as its numbers are and no better; a guard that changed is told and ends the program. */
 #define _POSIX_C_SOURCE 200809L
 #include <inttypes.h>
 #include <stdio.h>
@@ -68,11 +68,11 @@ static table bytes(char **rest)
     return t;
 }
 
-/* that a call left a given set as it was */
+/* that a call left what it was given as it was */
 static void untouched(const table *t, const table *copy)
 {
     if (memcmp(t->bytes, copy->bytes, t->length)) {
-        puts("a given set changed");
+        puts("a given table changed");
         exit(2);
     }
 }
@@ -219,6 +219,77 @@ static void fleet(char **rest)
     free(read);
 }
 
+/* a number of 128 bits */
+typedef __int128 wide;
+typedef unsigned __int128 unsigned_wide;
+
+static wide wide_of(pitsets_wide w) { return (wide)((unsigned_wide)(uint64_t)w.high << 64 | w.low); }
+
+static void print_wide(wide w)
+{
+    char digits[40], *p = digits + sizeof digits;
+    unsigned_wide size = w < 0 ? -(unsigned_wide)w : (unsigned_wide)w;
+    *--p = 0;
+    do *--p = (char)('0' + (int)(size % 10));
+    while (size /= 10);
+    printf(w < 0 ? " -%s" : " %s", p);
+}
+
+/* the fraction as a double is that of its numbers, but for a few roundings */
+static int near(const pitsets_fraction *f)
+{
+    double there = (double)wide_of(f->numerator) / (double)wide_of(f->denominator);
+    double off = pitsets_double(f) - there, most = there * 2e-15;
+    return most < 0 ? most <= off && off <= -most : -most <= off && off <= most;
+}
+
+static void print_extreme(int64_t r, const pitsets_fraction *f)
+{
+    static const char *const words[] = {[PITSETS_EMPTY] = "empty", [PITSETS_UNBOUNDED] = "unbounded",
+                                        [PITSETS_WIDE] = "wide", [PITSETS_LONG] = "long"};
+    wide numerator = wide_of(f->numerator), denominator = wide_of(f->denominator);
+    if (r != PITSETS_VALUE && (numerator || denominator)) puts("numbers without a value");
+    else if (r < 0) printf("refused %" PRId64 "\n", -r);
+    else if (r < PITSETS_VALUE || r > PITSETS_LONG) puts("bad result");
+    else if (r != PITSETS_VALUE) puts(words[r]);
+    else if (!near(f)) puts("another number as a double");
+    else {
+        printf("value");
+        print_wide(numerator);
+        print_wide(denominator);
+        puts("");
+    }
+}
+
+typedef int64_t extreme(size_t, const uint8_t *, size_t, size_t, int32_t, const int32_t *, const int32_t *,
+                        pitsets_fraction *);
+
+/* eight numbers of the line */
+static table coefficients(char **rest)
+{
+    table t = lend_past(8 * sizeof(int32_t), sizeof(int32_t));
+    for (int i = 0; i < 8; i++) ((int32_t *)t.bytes)[i] = (int32_t)strtol(word(rest), NULL, 10);
+    return t;
+}
+
+static void value(char **rest, extreme *call)
+{
+    size_t n = strtoull(word(rest), NULL, 10);
+    table set = bytes(rest), copy = copy_of(&set);
+    size_t k = strtoull(word(rest), NULL, 10);
+    int32_t constant = (int32_t)strtol(word(rest), NULL, 10);
+    table axes = coefficients(rest), divisions = coefficients(rest), ca = copy_of(&axes), cd = copy_of(&divisions);
+    table out = lend_past(sizeof(pitsets_fraction), sizeof(uint64_t));
+    pitsets_fraction *f = (pitsets_fraction *)out.bytes;
+    int64_t r = call(n, set.bytes, set.length, k, constant, (int32_t *)axes.bytes, (int32_t *)divisions.bytes, f);
+    print_extreme(r, f);
+    untouched(&set, &copy);
+    untouched(&axes, &ca);
+    untouched(&divisions, &cd);
+    table *all[] = {&set, &copy, &axes, &divisions, &ca, &cd, &out};
+    for (size_t i = 0; i < sizeof all / sizeof *all; i++) give_back(all[i]);
+}
+
 typedef int64_t operation(size_t, const uint8_t *, size_t, const uint8_t *, size_t, uint8_t *, size_t);
 
 static void print_table(int64_t r, const table *out)
@@ -264,6 +335,8 @@ int main(void)
         else if (!strcmp(w, "fleet")) fleet(&rest);
         else if (!strcmp(w, "count")) count(&rest);
         else if (!strcmp(w, "counts")) counts(&rest);
+        else if (!strcmp(w, "greatest")) value(&rest, pitsets_greatest);
+        else if (!strcmp(w, "least")) value(&rest, pitsets_least);
         else if (!strcmp(w, "union")) two(&rest, pitsets_union);
         else if (!strcmp(w, "intersection")) two(&rest, pitsets_intersection);
         else if (!strcmp(w, "difference")) two(&rest, pitsets_difference);

@@ -27,6 +27,18 @@ static int counted(const uint8_t *set, size_t length, int round)
     return pitsets_count_in(1, set, length, &low, &high, 63, &tested) == PITSETS_SPENT && tested == 63;
 }
 
+/* over the points with floor(x / 10) = 218, the least 2 x − 5000 is −640 and the greatest −622 */
+static int weighed(int round)
+{
+    const int32_t axes[8] = {2}, divisions[8] = {0};
+    pitsets_fraction v;
+    memset(&v, round & 0xFF, sizeof v);
+    int64_t r = pitsets_least(1, tenth, sizeof tenth, 1, -5000, axes, divisions, &v);
+    if (r != PITSETS_VALUE || pitsets_double(&v) != -640 || v.denominator.low != 1 || v.denominator.high) return 0;
+    r = pitsets_greatest(1, tenth, sizeof tenth, 1, -5000, axes, divisions, &v);
+    return r == PITSETS_VALUE && pitsets_double(&v) == -622 && v.denominator.low == 1 && !v.denominator.high;
+}
+
 static void *work(void *failed)
 {
     uint8_t first[200], again[200];
@@ -40,7 +52,7 @@ static void *work(void *failed)
         if (pitsets_member(1, first, (size_t)length, 2180, 0, 0, 0, 0, 0, 0, 0) != 0) *(int *)failed = 1;
         uint64_t mask = (uint64_t)i;
         if (pitsets_fleet(1, first, (size_t)length, fleet, 4, &mask) != 2 || mask != 5) *(int *)failed = 1;
-        if (!counted(first, (size_t)length, i)) *(int *)failed = 1;
+        if (!counted(first, (size_t)length, i) || !weighed(i)) *(int *)failed = 1;
     }
     return NULL;
 }

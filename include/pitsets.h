@@ -1,5 +1,5 @@
 /* Integer rule sets for the pit board: membership of a point and of a whole fleet, union, intersection, difference and
- * complement of sets, and how many points of a box are in a set.
+ * complement of sets, how many points of a box are in a set, and the greatest and the least value of an expression.
  *
  * A set is bytes in a table of yours (layout: document 01, "Bytes of a set"). n is the number of axes, 1 to 8.
  * Every function
@@ -12,7 +12,7 @@
  *   - needs less than PITSETS_STACK bytes of stack (measured on the deepest calls known, not proved).
  * A table is a pointer and a length in bytes, and may begin at any address; a table of counts is a pointer and how many
  * numbers it has, and is aligned as uint32_t is, as is `tested`. No pointer may be NULL, also where the length is 0.
- * A result table, a table of counts and `tested` may overlap neither a given set nor each other.
+ * A result table, a table of counts, `tested` and `value` may overlap neither what a call is given nor each other.
  */
 #ifndef PITSETS_H
 #define PITSETS_H
@@ -55,6 +55,28 @@ enum pitsets_refusal {
 
 /* As many places as pitsets_counts may need. */
 #define PITSETS_COUNTS 64
+
+/* The most basic sets of a set. */
+#define PITSETS_BASIC_SETS 32
+
+/* A number of 128 bits: high * 2^64 + low. */
+typedef struct {
+    uint64_t low;
+    int64_t high;
+} pitsets_wide;
+
+typedef struct {
+    pitsets_wide numerator, denominator;
+} pitsets_fraction;
+
+/* What pitsets_greatest and pitsets_least say where they do not refuse. */
+enum pitsets_extreme {
+    PITSETS_VALUE = 1,     /* there is one, in *value */
+    PITSETS_EMPTY = 2,     /* no such basic set, or no point with fractions in it */
+    PITSETS_UNBOUNDED = 3, /* the values pass every number */
+    PITSETS_WIDE = 4,      /* not found out: a number on the way was over 2^63 − 1 */
+    PITSETS_LONG = 5       /* not found out: 200 pivots were not enough */
+};
 
 /* A few words for a refusal number or PITSETS_SPENT, for a log line; for any other number "no such refusal". */
 static inline const char *pitsets_reason(int64_t number)
@@ -127,6 +149,36 @@ int64_t pitsets_counts(size_t n, const uint8_t *set, size_t set_length, int32_t 
                        int32_t l5, int32_t l6, int32_t l7, int32_t l8, int32_t h1, int32_t h2, int32_t h3, int32_t h4,
                        int32_t h5, int32_t h6, int32_t h7, int32_t h8, size_t axis, uint32_t limit, uint32_t *counts,
                        size_t counts_length, uint32_t *tested);
+
+/* The greatest and the least value of constant + axes[0]·x1 + .. + axes[7]·x8 + divisions[0]·q1 + .. + divisions[7]·q8
+ * over the points with fractions of basic set number k of the set, from 1: whatever fractions x and q meet its rules
+ * and the bounds of its divisions q. So no integer point of the basic set has a value beyond it, and none need have it.
+ * PITSETS_VALUE: *value is the fraction, in lowest terms and its denominator positive; 0 is 0/1. After any other result
+ * all its numbers are 0. Where the set has no basic set k the result is PITSETS_EMPTY, whatever the expression is.
+ * The constant is any number, coefficients are −32,767 to 32,767, those of absent axes and divisions 0. `axes` and
+ * `divisions` are aligned as int32_t is, `value` as uint64_t. Refusals: 1, the set's 2 to 9, the expression's 7, 8. */
+int64_t pitsets_greatest(size_t n, const uint8_t *set, size_t set_length, size_t k, int32_t constant,
+                         const int32_t axes[8], const int32_t divisions[8], pitsets_fraction *value);
+int64_t pitsets_least(size_t n, const uint8_t *set, size_t set_length, size_t k, int32_t constant,
+                      const int32_t axes[8], const int32_t divisions[8], pitsets_fraction *value);
+
+/* A number of 128 bits as a double, rounded. */
+static inline double pitsets_wide_double(pitsets_wide number)
+{
+    uint64_t low = number.low, high = (uint64_t)number.high;
+    if (number.high < 0) {
+        high = ~high + (low == 0);
+        low = ~low + 1;
+    }
+    double size = (double)high * 18446744073709551616.0 + (double)low;
+    return number.high < 0 ? -size : size;
+}
+
+/* A value as a double, rounded; only of a value, whose denominator is not 0. */
+static inline double pitsets_double(const pitsets_fraction *value)
+{
+    return pitsets_wide_double(value->numerator) / pitsets_wide_double(value->denominator);
+}
 
 /* n coordinates as eight, those of absent axes 0. */
 static inline void pitsets_eight(size_t n, const int32_t *given, int32_t eight[8])

@@ -25,7 +25,8 @@ int64_t probe_coordinate(size_t, const uint8_t *, size_t, uint32_t, EIGHT, EIGHT
 uint64_t probe_count(size_t, const uint8_t *, size_t, uint32_t, EIGHT, EIGHT, uint32_t *, uint32_t *);
 uint64_t probe_counts(size_t, const uint8_t *, size_t, uint32_t, size_t, EIGHT, EIGHT, uint32_t *, size_t, uint32_t *,
                       uint32_t *);
-
+uint64_t probe_greatest(size_t, const uint8_t *, size_t, size_t, int32_t, const int32_t *, const int32_t *, uint64_t *);
+uint64_t probe_least(size_t, const uint8_t *, size_t, size_t, int32_t, const int32_t *, const int32_t *, uint64_t *);
 size_t probe_union(size_t, const uint8_t *, size_t, const uint8_t *, size_t, uint8_t *, size_t);
 size_t probe_intersection(size_t, const uint8_t *, size_t, const uint8_t *, size_t, uint8_t *, size_t);
 size_t probe_difference(size_t, const uint8_t *, size_t, const uint8_t *, size_t, uint8_t *, size_t);
@@ -257,6 +258,46 @@ static void counts(char **rest)
     free(q.set.bytes);
 }
 
+/* a number of 128 bits by its words, the lower one first */
+static void print_wide(const uint64_t *words)
+{
+    char digits[40], *p = digits + sizeof digits;
+    unsigned __int128 number = (unsigned __int128)words[1] << 64 | words[0];
+    int below = words[1] >> 63;
+    if (below) number = -number;
+    *--p = 0;
+    do *--p = (char)('0' + (int)(number % 10));
+    while (number /= 10);
+    printf(below ? " -%s" : " %s", p);
+}
+
+/* The value's four words lie between two that no call writes. */
+static void value(char **rest, uint64_t (*call)(size_t, const uint8_t *, size_t, size_t, int32_t, const int32_t *,
+                                                const int32_t *, uint64_t *))
+{
+    static const char *const words[] = {"value", "empty", "unbounded", "wide", "long"};
+    uint64_t v[6];
+    int32_t axes[8], divisions[8];
+    size_t n = number(rest);
+    table t = bytes(rest);
+    size_t k = number(rest);
+    int32_t constant = (int32_t)strtol(word(rest), NULL, 10);
+    eight(rest, axes);
+    eight(rest, divisions);
+    for (int i = 0; i < 6; i++) v[i] = UNWRITTEN;
+    uint64_t r = call(n, t.bytes, t.length, k, constant, axes, divisions, v + 1);
+    if (v[0] != UNWRITTEN || v[5] != UNWRITTEN) puts("wrote beside the value");
+    else if (r && (v[1] || v[2] || v[3] || v[4])) puts("numbers without a value");
+    else if (r) refused_or(r, words);
+    else {
+        printf("value");
+        print_wide(v + 1);
+        print_wide(v + 3);
+        puts("");
+    }
+    free(t.bytes);
+}
+
 /* The result's table and a guard behind it, full of what no call writes: every byte of the table must come from the call, none of the guard. */
 enum { GUARD = 64, OLD = 0xa5 };
 
@@ -312,6 +353,8 @@ int main(void)
         else if (!strcmp(w, "search")) search(&rest);
         else if (!strcmp(w, "count")) count(&rest);
         else if (!strcmp(w, "counts")) counts(&rest);
+        else if (!strcmp(w, "greatest")) value(&rest, probe_greatest);
+        else if (!strcmp(w, "least")) value(&rest, probe_least);
         else if (!strcmp(w, "union")) of_two(&rest, probe_union);
         else if (!strcmp(w, "intersection")) of_two(&rest, probe_intersection);
         else if (!strcmp(w, "difference")) of_two(&rest, probe_difference);

@@ -4,3 +4,5 @@ pub mod Lengths
 pub mod Meanings
 pub mod Ways
 pub mod Fleets
+pub mod Extremes
+pub mod Valued

@@ -4,7 +4,9 @@ use mathlib.Core.Path.{_≡_}
 use mathlib.Core.Bool.{Bool, true, false}
 use mathlib.Core.List.{List}
 use Prim.Native.Nat.{ℕ, _≤_}
-use lib.IntN.{ℤ, pos, negℤ}
+use lib.IntN.{ℤ, pos, negℤ, _+ℤ_, _*ℤ_}
+use mir.Syntax.{w64}
+use mir.Val.{toZ}
 use Rattle.codec.specs.Bytes.{Answer, refused, gives}
 use Rattle.algebra.specs.Result.{lengthOf, tableOf}
 use Rattle.counting.specs.Counting.{Tally}
@@ -13,6 +15,8 @@ use Rattle.counting.specs.declared.calls.Outcome.{Outcome}
 use Rattle.counting.specs.declared.calls.Outcome.the-variants.{Done, Spent, Refused}
 use Rattle.fleet.specs.Fleet.{Fleet}
 use Rattle.fleet.specs.Looking.{maskIn}
+use Rattle.optimum.specs.Value.{Extreme, empty, unbounded, tooWide, tooLong, attained}
+use Rattle.extremes.specs.Words.{valueWords}
 
 abbrev pub memberNumber : Answer Bool → ℤ
 memberNumber (refused k) = negℤ (pos k)
@@ -61,3 +65,24 @@ fleetNumber (gives f) = pos (f .count)
 pub record Fleeted (a : Answer Fleet) (r : ℤ) (mask : ℕ) : Type 0 where
   pub number : r ≡ fleetNumber a
   pub bits : mask ≡ maskIn a
+
+-- of an extreme value (02, request 11): whether there is one, in which words, or why there is none
+abbrev pub extremeNumber : Extreme → ℤ
+extremeNumber (attained p q) = pos 1
+extremeNumber empty = pos 2
+extremeNumber unbounded = pos 3
+extremeNumber tooWide = pos 4
+extremeNumber tooLong = pos 5
+
+abbrev pub extentNumber : Answer Extreme → ℤ
+extentNumber (refused k) = negℤ (pos k)
+extentNumber (gives x) = extremeNumber x
+
+-- the contract of a call whose answer on bytes is `a`: the number r, and the four words after the call
+pub record ValueHosted (a : Answer Extreme) (r : ℤ) (words : List ℕ) : Type 0 where
+  pub number : r ≡ extentNumber a
+  pub value : words ≡ valueWords a
+
+-- a number of two words as C has it: the higher one signed
+abbrev pub wideOf : ℕ → ℕ → ℤ
+wideOf low high = toZ w64 high *ℤ pos 18446744073709551616 +ℤ pos low

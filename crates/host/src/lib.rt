@@ -3,6 +3,7 @@ mod asking;
 mod counts;
 mod looking;
 mod operating;
+mod values;
 
 pub use asking::pitsets_member;
 pub use counts::pitsets_count;
@@ -12,3 +13,5 @@ pub use operating::pitsets_complement;
 pub use operating::pitsets_difference;
 pub use operating::pitsets_intersection;
 pub use operating::pitsets_union;
+pub use values::pitsets_greatest;
+pub use values::pitsets_least;

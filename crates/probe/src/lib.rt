@@ -6,6 +6,7 @@ mod numbers;
 mod operating;
 mod searching;
 mod testing;
+mod values;
 
 pub use asking::probe_check;
 pub use asking::probe_holder;
@@ -25,3 +26,5 @@ pub use testing::probe_built;
 pub use testing::probe_pivots;
 pub use testing::probe_test;
 pub use testing::probe_tests;
+pub use values::probe_greatest;
+pub use values::probe_least;
