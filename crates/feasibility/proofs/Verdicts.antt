@@ -124,7 +124,7 @@ when-yes false v t = absurd t
 
 pub helps-nonzero : (s : Option Kind) (z a : ℤ) → T (helps s z a) → a ≡ pos 0 → ⊥
 helps-nonzero none z a t e = subst (λ (x : ℤ). T (not (isZero x))) e t
-helps-nonzero (some equality) z a t e = t
+helps-nonzero (some equality) z a t e = subst (λ (x : ℤ). T (helps (some equality) z x)) e t
 helps-nonzero (some inequality) z a t e = subst (λ (x : ℤ). T (not (nonNeg x))) (ap (λ (x : ℤ). z *ℤ x) e ∙ *ℤ-zero z) t
 
 pub zero-calm : (s : Option Kind) → T (violates s (pos 0)) → ⊥
@@ -140,7 +140,7 @@ module _ (sort : ℕ → Option Kind) where
   -- a violated row that was found
   pub found-row : (rs : List Row) (m v : ℕ) → getD (violatedRows sort rs) m none ≡ some v → (m < length rs) × Violated rs m × (getD rs m noRow .var ≡ v)
   found-row [] m v e = some-none (sym e)
-  found-row (r ∷ rs) zero v e = (zero-lt-suc (length rs), when-some (violates (sort (r .var)) (constantOf r)) (r .var) v e, when-is (violates (sort (r .var)) (constantOf r)) (r .var) v e)
+  found-row (r ∷ rs) zero v e = (zero-lt-suc (length rs), when-some (violates (sort (r .var)) (constantOf r)) _ v e, when-is (violates (sort (r .var)) (constantOf r)) (r .var) v e)
   found-row (r ∷ rs) (suc m) v e = let h = found-row rs m v e in (suc-le-suc (h .0), h .1, h .2)
 
   pub listed-row : (rs : List Row) (m : ℕ) → Violated rs m → getD (violatedRows sort rs) m none ≡ some (getD rs m noRow .var)
@@ -152,7 +152,7 @@ module _ (sort : ℕ → Option Kind) where
   pub found-col : (z : ℤ) (cols : List ℕ) (es : List ℤ) (m v : ℕ) → getD (helpfulCols sort z cols es) m none ≡ some v → (m < length cols) × T (helps (sort (getD cols m 0)) z (getD es m (pos 0))) × (getD cols m 0 ≡ v)
   found-col z [] es m v e = some-none (sym e)
   found-col z (c ∷ cols) [] m v e = some-none (sym e)
-  found-col z (c ∷ cols) (a ∷ es) zero v e = (zero-lt-suc (length cols), when-some (helps (sort c) z a) c v e, when-is (helps (sort c) z a) c v e)
+  found-col z (c ∷ cols) (a ∷ es) zero v e = (zero-lt-suc (length cols), when-some (helps (sort c) z a) _ v e, when-is (helps (sort c) z a) c v e)
   found-col z (c ∷ cols) (a ∷ es) (suc m) v e = let h = found-col z cols es m v e in (suc-le-suc (h .0), h .1, h .2)
 
   pub listed-col : (z : ℤ) (cols : List ℕ) (es : List ℤ) (m : ℕ) → m < length cols → T (helps (sort (getD cols m 0)) z (getD es m (pos 0))) → getD (helpfulCols sort z cols es) m none ≡ some (getD cols m 0)
@@ -177,6 +177,10 @@ pub record Turn (sort : ℕ → Option Kind) (i j : ℕ) (t : Tableau) : Type 0 
   pub helpful : T (helps (sort (colVar t j)) (constantOf (getD (t .rows) i noRow)) (entry (getD (t .rows) i noRow) j))
   pub rows-first : (k : ℕ) → Violated sort (t .rows) k → rowVar t i ≤ rowVar t k
   pub cols-first : (k : ℕ) → k < length (t .cols) → T (helps (sort (colVar t k)) (constantOf (getD (t .rows) i noRow)) (entry (getD (t .rows) i noRow) k)) → colVar t j ≤ colVar t k
+
+-- so an equality, once it has left the rows, does not come back
+pub equality-stays : (sort : ℕ → Option Kind) (i j : ℕ) (t : Tableau) → Turn sort i j t → ¬ (sort (colVar t j) ≡ some equality)
+equality-stays sort i j t turn e = subst (λ (s : Option Kind). T (helps s (constantOf (getD (t .rows) i noRow)) (entry (getD (t .rows) i noRow) j))) e (turn .helpful)
 
 pub data Found (sort : ℕ → Option Kind) (t : Tableau) : Look → Type 0 where
   calm : lowest 0 (violatedRows sort (t .rows)) ≡ none → Found sort t noneViolated

@@ -80,7 +80,7 @@ module _ (t : Tableau) (g : Sound t) (j : ℕ) (jin : j < length (t .cols)) (y :
   direction-col : direction (colVar t j) ≡ y *ℤ product (t .rows)
   direction-col = ap (λ (b : Bool). cond b (y *ℤ product (t .rows)) (atPlace (colVar t j) (g .placed .loc (colVar t j)))) (yes (colVar t j))
 
-  direction-others : VanishesBut j direction (t .cols)
+  pub direction-others : VanishesBut j direction (t .cols)
   direction-others m h n =
       ap (λ (b : Bool). cond b (y *ℤ product (t .rows)) (atPlace (colVar t m) (g .placed .loc (colVar t m)))) (no-eqb (colVar t m) (colVar t j) (λ e. n (inj (sym (g .placed .cols-at m h) ∙ ap (g .placed .loc) e ∙ g .placed .cols-at j jin))))
       ∙ ap (atPlace (colVar t m)) (g .placed .cols-at m h)

@@ -31,7 +31,7 @@ use Rattle.optimum.proofs.Moves.{pos-not-zero, meets-eq, meets-ge, eq-m
 pub nonneg-cancel : {a x : ℤ} → pos 0 <ℤ a → pos 0 ≤ℤ (a *ℤ x) → pos 0 ≤ℤ x
 nonneg-cancel {a} {x} h k = ⊎-elim (λ l. absurd (lia-no (a ∷ x ∷ []) (lt (mul-neg-pos l h) ∷ le k ∷ []) (search lin depth 30) (omega arith))) (λ g. g) (lt-or-ge x (pos 0))
 
-nonpos-cancel : {a x : ℤ} → pos 0 <ℤ a → (a *ℤ x) ≤ℤ pos 0 → x ≤ℤ pos 0
+pub nonpos-cancel : {a x : ℤ} → pos 0 <ℤ a → (a *ℤ x) ≤ℤ pos 0 → x ≤ℤ pos 0
 nonpos-cancel {a} {x} h k = ⊎-elim (λ l. absurd (lia-no (a ∷ x ∷ []) (lt (mul-pos-pos h l) ∷ le k ∷ []) (search lin depth 30) (omega arith))) (λ g. g) (lt-or-ge (pos 0) x)
 
 unscale : (s : Option Kind) (c o : ℤ) → pos 0 <ℤ o → T (not (violates s (c *ℤ o))) → T (not (violates s c))
@@ -151,10 +151,10 @@ module _ (sort : ℕ → Option Kind) (k e : ℕ) where
     abbrev x : ℤ
     x = basic t′ g′ (colVar t j)
 
-    solves : Solves (basic t′ g′) (over t′) (t .cols) (t .rows)
+    pub solves : Solves (basic t′ g′) (over t′) (t .cols) (t .rows)
     solves = exchange-back i j t p (g .sound .shaped) (basic t′ g′) (over t′) (basic-solves t′ (g′ .shaped) (g′ .placed))
 
-    vanishes : VanishesBut j (basic t′ g′) (t .cols)
+    pub vanishes : VanishesBut j (basic t′ g′) (t .cols)
     vanishes m h n = ap (basic t′ g′) (sym (col-other i j t m n)) ∙ w-col t′ (g′ .shaped) (g′ .placed) m (subst (λ (l : ℕ). m < l) (sym (length-cols i j t)) h)
 
     gone : basic t′ g′ (rowVar t i) ≡ pos 0
@@ -166,7 +166,7 @@ module _ (sort : ℕ → Option Kind) (k e : ℕ) where
     row-says : (m : ℕ) → m < length (t .rows) → rowOf t m .den *ℤ basic t′ g′ (rowVar t m) ≡ constantOf (rowOf t m) *ℤ over t′ +ℤ change z k j t m *ℤ (y *ℤ x)
     row-says m h = row-one t (g .sound) (basic t′ g′) (over t′) solves m h j (p .col) vanishes ∙ ap (λ (v : ℤ). constantOf (rowOf t m) *ℤ over t′ +ℤ v) (shift (entry (rowOf t m) j))
 
-    left : (size (change z k j t i) *ℤ (y *ℤ x) ≡ constantOf (rowOf t i) *ℤ over t′) × (pos 0 ≤ℤ constantOf (rowOf t i))
+    pub left : (size (change z k j t i) *ℤ (y *ℤ x) ≡ constantOf (rowOf t i) *ℤ over t′) × (pos 0 ≤ℤ constantOf (rowOf t i))
     left =
         leaver (sort (rowVar t i)) (change z k j t i) (constantOf (rowOf t i)) (over t′) (y *ℤ x) (turn .stops) (g .allowed i (p .row))
         (sym (sym (row-says i (p .row)) ∙ ap (λ (v : ℤ). rowOf t i .den *ℤ v) gone ∙ *ℤ-zero (rowOf t i .den)))
@@ -175,7 +175,7 @@ module _ (sort : ℕ → Option Kind) (k e : ℕ) where
     big = size-pos (change z k j t i) (stops-off (sort (rowVar t i)) (change z k j t i) (turn .stops))
 
     -- the move is not backwards
-    forwards : pos 0 ≤ℤ (y *ℤ x)
+    pub forwards : pos 0 ≤ℤ (y *ℤ x)
     forwards = nonneg-cancel big (subst (λ (v : ℤ). pos 0 ≤ℤ v) (sym (left .0)) (mul-nonneg (left .1) (<ℤ-≤ℤ (over-pos t′ g′))))
 
     row-allowed : (m : ℕ) → m < length (t .rows) → T (not (violates (sort (rowVar t m)) (basic t′ g′ (rowVar t m))))

@@ -53,7 +53,7 @@ meets-along none a b m h p q = tt
 meets-along (some equality) a b m h p q = meets-eq (a +ℤ m *ℤ b) (ap₂ (λ (x y : ℤ). x +ℤ m *ℤ y) (eq-meets a p) (eq-meets b q) ∙ ring (m ∷ []) (search quote depth 30) tt)
 meets-along (some inequality) a b m h p q = meets-ge (a +ℤ m *ℤ b) (lia-le (a ∷ b ∷ m ∷ []) (le (ge-meets a p) ∷ le (mul-nonneg h (ge-meets b q)) ∷ []) (search lin depth 30) (omega arith))
 
-at-most : (a : ℤ) → a ≤ℤ pos (natAbs a)
+pub at-most : (a : ℤ) → a ≤ℤ pos (natAbs a)
 at-most (pos n) = lia-le (pos n ∷ []) [] (search lin depth 30) (omega arith)
 at-most (negsuc n) = record { le = tt }
 
