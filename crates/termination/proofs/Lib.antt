@@ -1,0 +1,10 @@
+pub mod Columns
+pub mod Cycle
+pub mod Trail
+pub mod Choices
+pub mod Visits
+pub mod Judged
+pub mod Turning
+pub mod Climbing
+pub mod Settled
+pub mod Candidates
