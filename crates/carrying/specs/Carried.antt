@@ -4,6 +4,7 @@ use mathlib.Core.List.{List}
 use Prim.Native.Nat.{ℕ, _+_, _-_}
 use lib.IntN.{ℤ}
 use Rattle.integers.specs.Size.{bound}
+use Rattle.wide_tableau.specs.Cells.{Turns}
 use Rattle.simplex.specs.Table.{Ending, runTableAt, builtTableAt}
 use mathlib.Core.Bool.{Bool, true, false, cond}
 use Rattle.simplex.specs.declared.Verdict.{Verdict}
@@ -15,6 +16,12 @@ pub record Went (rows : List (List ℤ)) (place kinds : List ℕ) (from : ℕ) (
   pub verdict-is : x .ended .verdict ≡ runTableAt (bound 128) kinds from rows place .verdict
   pub pivots-are : x .ended .pivots ≡ 200 - runTableAt (bound 128) kinds from rows place .left
   pub built-is : x .built ≡ builtTableAt (bound 128) kinds from rows place
+
+-- and leaves this table, with these places
+pub record WentTo (rows : List (List ℤ)) (place kinds : List ℕ) (from : ℕ) (x : Counted) (t : List (List ℕ)) (place′ : List ℕ) : Type 0 where
+  pub went : Went rows place kinds from x
+  pub rows-are : Turns t (runTableAt (bound 128) kinds from rows place .rows)
+  pub place-is : place′ ≡ runTableAt (bound 128) kinds from rows place .place
 
 abbrev pub isWide : Verdict → Bool
 isWide Point = false

@@ -7,7 +7,7 @@ ghost use Prim.Native.Nat.{_≤_};
 ghost use Rattle.integers.specs.Size.{bound};
 ghost use Rattle.wide_tableau.specs.Cells.{rowsOf, Sheets, Turns};
 ghost use Rattle.simplex.specs.Table.{pivotRows, pivotPlace, pivotBuilt, Fine, CrossingAt};
-ghost use Rattle.carrying.specs.Carried.{Went};
+ghost use Rattle.carrying.specs.Carried.{WentTo};
 
 // Step 5: the row of variable v and the column of variable w; the number of rows built.
 pub fn pivot(t: &mut [[u64; 36]], n: usize, place: &mut [usize], v: usize, w: usize) -> usize
@@ -22,7 +22,7 @@ pub fn pivot(t: &mut [[u64; 36]], n: usize, place: &mut [usize], v: usize, w: us
     k
 }
 
-// The steps, with so many pivots left of the 200.
+// The steps, with so many pivots left of the 200: the table and the places are left as they end.
 pub fn go_on(
     t: &mut [[u64; 36]],
     n: usize,
@@ -31,7 +31,7 @@ pub fn go_on(
     from: usize,
 ) -> Counted
     requires { ⌜ Sheets (now t) × Fine n (rowsOf (now t)) (now place) (now kinds) × (from ≤ 200) ⌝ }
-    ensures { λ x. ⌜ Went (rowsOf (now (t .entry))) (now (place .entry)) (now (kinds .entry)) from x ⌝ }
+    ensures { λ x. ⌜ WentTo (rowsOf (now (t .entry))) (now (place .entry)) (now (kinds .entry)) from x (now (t .exit)) (now (place .exit)) ⌝ }
 {
     let mut left = from;
     let mut built: usize = 0;

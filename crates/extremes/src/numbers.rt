@@ -15,7 +15,7 @@ fn is_coefficient(x: i32) -> bool
     -32767 <= x && x <= 32767
 }
 
-fn are_coefficients(a: [i32; 8]) -> bool
+pub fn are_coefficients(a: [i32; 8]) -> bool
     ensures { λ r. ⌜ r ≡ all coefficient a ⌝ }
 {
     let mut i: usize = 0;
@@ -30,7 +30,7 @@ fn are_coefficients(a: [i32; 8]) -> bool
 }
 
 // Whether a has nothing but 0 from place n on.
-fn are_absent(n: usize, a: [i32; 8]) -> bool
+pub fn are_absent(n: usize, a: [i32; 8]) -> bool
     ensures { λ r. ⌜ r ≡ absent n a ⌝ }
 {
     let mut i = n;
@@ -65,7 +65,7 @@ pub fn refusal(n: usize, k: usize, e: Expression) -> u32
     0
 }
 
-fn narrowed(a: [i32; 8]) -> [i16; 8]
+pub fn narrowed(a: [i32; 8]) -> [i16; 8]
     requires { ⌜ T (all coefficient a) ⌝ }
     ensures { λ r. ⌜ r ≡ a ⌝ }
 {

@@ -38,14 +38,14 @@ row-at P [] i d h t = absurd (not-suc-le-zero h)
 row-at P (a ∷ l) zero d h t = t .0
 row-at P (a ∷ l) (suc i) d h t = row-at P l i d (le-of-suc-le-suc h) (t .1)
 
-all-set : {A : Type 0} (P : A → Type 0) (l : List A) (i : ℕ) (a : A) → All P l → P a → All P (set l i a)
+pub all-set : {A : Type 0} (P : A → Type 0) (l : List A) (i : ℕ) (a : A) → All P l → P a → All P (set l i a)
 all-set P [] i a t h = tt
 all-set P (b ∷ l) zero a t h = (h, t .1)
 all-set P (b ∷ l) (suc i) a t h = (t .0, all-set P l i a (t .1) h)
 
 -- ---- rows and constraints of numbers within M
 
-abbrev RowWithin : ℕ → Row → Type 0
+abbrev pub RowWithin : ℕ → Row → Type 0
 RowWithin M r = All (Within M) (numbers r)
 
 abbrev pub ConstraintWithin : ℕ → Constraint → Type 0
@@ -62,7 +62,7 @@ ValueWithin M (attained p q) = Within M p × (q ≤ M)
 pub zero-within : (M : ℕ) → Within M (pos 0)
 zero-within M = record { size = zero-le }
 
-number-at : (M : ℕ) (zs : List ℤ) (i : ℕ) → All (Within M) zs → Within M (getD zs i (pos 0))
+pub number-at : (M : ℕ) (zs : List ℤ) (i : ℕ) → All (Within M) zs → Within M (getD zs i (pos 0))
 number-at M [] i h = zero-within M
 number-at M (z ∷ zs) zero h = h .0
 number-at M (z ∷ zs) (suc i) h = number-at M zs i (h .1)
@@ -90,7 +90,7 @@ reduced-within M r k =
 abbrev fine : ℕ → ℕ → Row → Bool
 fine m j s = isZero (entry s j) || bounded m (numbers s)
 
-bounded-within : (m : ℕ) (zs : List ℤ) → T (bounded m zs) → All (Within m) zs
+pub bounded-within : (m : ℕ) (zs : List ℤ) → T (bounded m zs) → All (Within m) zs
 bounded-within m [] t = tt
 bounded-within m (z ∷ zs) t = (record { size = leb→le (natAbs z) m (and-left (leb (natAbs z) m) (bounded m zs) t) }, bounded-within m zs (and-right (leb (natAbs z) m) (bounded m zs) t))
 
@@ -121,7 +121,7 @@ module _ (W : ℕ) (two : 2 ≤ W) where
   wider [] h = tt
   wider (z ∷ zs) h = (within-mono bound-in (h .0), wider zs (h .1))
 
-  combine-within : (p q : ℤ) (us vs : List ℤ) → Within m p → Within m q → All (Within m) us → All (Within m) vs → All (Within M) (combine p q us vs)
+  pub combine-within : (p q : ℤ) (us vs : List ℤ) → Within m p → Within m q → All (Within m) us → All (Within m) vs → All (Within M) (combine p q us vs)
   combine-within p q [] vs hp hq hu hv = tt
   combine-within p q (u ∷ us) [] hp hq hu hv = tt
   combine-within p q (u ∷ us) (v ∷ vs) hp hq hu hv = (products W two hp (hu .0) hq (hv .0) .difference, combine-within p q us vs hp hq (hu .1) (hv .1))
@@ -156,7 +156,7 @@ module _ (W : ℕ) (two : 2 ≤ W) where
     rows-within [] h t = tt
     rows-within (s ∷ rs) h t = (replaced-within s (h .0) (and-left (fine m j s) (all (fine m j) rs) t), rows-within rs (h .1) (and-right (fine m j s) (all (fine m j) rs) t))
 
-  exchange-within : (i j : ℕ) (t : Tableau) → Pivot i j t → T (narrow m j t) → All (RowWithin M) (t .rows) → All (RowWithin M) (exchange i j t .rows)
+  pub exchange-within : (i j : ℕ) (t : Tableau) → Pivot i j t → T (narrow m j t) → All (RowWithin M) (t .rows) → All (RowWithin M) (exchange i j t .rows)
   unfolding exchange
   exchange-within i j t p n h =
       all-set (RowWithin M) (map (replaced (rowOf t i) j) (t .rows)) i (solved (rowOf t i) j (getD (t .cols) j 0)) (rows-within j (rowOf t i) at-r (t .rows) h n) (solved-within j (rowOf t i) at-r (getD (t .cols) j 0))
@@ -175,18 +175,18 @@ module _ (W : ℕ) (two : 2 ≤ W) where
 
   -- ---- the first tableau
 
-  pad-within : (k : ℕ) (zs : List ℤ) → All (Within M) zs → All (Within M) (pad k zs)
+  pub pad-within : (k : ℕ) (zs : List ℤ) → All (Within M) zs → All (Within M) (pad k zs)
   pad-within zero zs h = tt
   pad-within (suc k) [] h = (zero-within M, pad-within k [] tt)
   pad-within (suc k) (z ∷ zs) h = (h .0, pad-within k zs (h .1))
 
-  one-within : Within M (pos 1)
+  pub one-within : Within M (pos 1)
   one-within = record { size = by (2 ^ (W - 1)) (pow-mono {i = 1} {j = W - 1} (omega arith)) }
     where
       by : (c : ℕ) → 2 ≤ c → 1 ≤ c - 1
       by c h = omega arith
 
-  first-within : (k v : ℕ) (rs : List Constraint) → All (ConstraintWithin M) rs → All (RowWithin M) (firstRows k v rs)
+  pub first-within : (k v : ℕ) (rs : List Constraint) → All (ConstraintWithin M) rs → All (RowWithin M) (firstRows k v rs)
   first-within k v [] h = tt
   first-within k v (r ∷ rs) h =
       ((one-within, (h .0 .0, all-app (Within M) (pad 8 (r .axes)) (pad k (r .divisions)) (pad-within 8 (r .axes) (h .0 .1)) (pad-within k (r .divisions) (h .0 .2)))), first-within k (suc v) rs (h .1))

@@ -35,7 +35,7 @@ pub fn set_cell(r: &mut [u64; 36], i: usize, x: Wide)
     r[i + i + 1] = l;
 }
 
-fn zero() -> Wide
+pub fn zero() -> Wide
     ensures { λ r. ⌜ (valueOf r ≡ pos 0) × (size (r .magnitude) < 2 ^ 127) ⌝ }
 {
     let m = Magnitude { hi: 0, lo: 0 };
@@ -71,7 +71,7 @@ fn common_divisor(r: &[u64; 36], n: usize) -> Magnitude
     g
 }
 
-fn divide(r: &mut [u64; 36], n: usize, d: Magnitude)
+pub fn divide(r: &mut [u64; 36], n: usize, d: Magnitude)
     requires { ⌜ Sheet (now r) × Line n (cells (now r)) × (0 < size d) ⌝ }
     ensures { λ _. ⌜ Becomes (now (r .exit)) (map (λ x. quotZ x (pos (size d))) (cells (now (r .entry)))) ⌝ }
 {
@@ -87,7 +87,7 @@ fn divide(r: &mut [u64; 36], n: usize, d: Magnitude)
 }
 
 // x · m − b · y, place by place, and the common divisor of these numbers.
-fn combine(r: &mut [u64; 36], n: usize, m: Wide, b: Wide, q: &[u64; 36]) -> Magnitude
+pub fn combine(r: &mut [u64; 36], n: usize, m: Wide, b: Wide, q: &[u64; 36]) -> Magnitude
     requires { ⌜ Sheet (now r) × Sheet (now q) × Line n (cells (now r)) × Line n (cells (now q)) × Small (bound 128) (cells (now r)) × Small (bound 128) (cells (now q)) × Bounded m × Bounded b ⌝ }
     ensures { λ g. ⌜ Combined (now (r .exit)) (combineRows (valueOf m) (valueOf b) (cells (now (r .entry))) (cells (now (q .entry)))) (size g) ⌝ }
 {
@@ -136,7 +136,7 @@ pub fn replace(r: &mut [u64; 36], n: usize, j: usize, m: Wide, q: &[u64; 36])
 }
 
 // The row without an entry in column j.
-fn clear(r: &mut [u64; 36], j: usize)
+pub fn clear(r: &mut [u64; 36], j: usize)
     requires { ⌜ Sheet (now r) × (j < 16) ⌝ }
     ensures { λ _. ⌜ Becomes (now (r .exit)) (set (cells (now (r .entry))) (j + 2) (pos 0)) ⌝ }
 {

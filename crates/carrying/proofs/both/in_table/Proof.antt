@@ -30,7 +30,7 @@ same-length-2 c = search needs
 returns : tie.Need-returns
 returns c =
     let g = c .before .before .before in let a = g .before .before .before .before in let s = a .before .before .before .before in
-    subst (λ (r : List (List ℤ)). Went r (s .args .place .now) (s .args .kinds .now) (s .args .from) (g .go-on .result)) (a .carry .ensures .is) (g .go-on .ensures)
+    subst (λ (r : List (List ℤ)). Went r (s .args .place .now) (s .args .kinds .now) (s .args .from) (g .go-on .result)) (a .carry .ensures .is) (g .go-on .ensures .went)
 
 pub in-table-spec : {M : Type 1} → statement M
 in-table-spec =

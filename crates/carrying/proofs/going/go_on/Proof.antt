@@ -83,7 +83,11 @@ returns c =
     let a = c .before .before .before .before .before .before in let l = a .loop in let kinds = begun a .args .kinds .now in
     let q = sym (M.run-stopAt (bound 128) kinds (l .left) (rowsOf (l .t)) (l .place) _ (stops (c .before))) ∙ l .inv .2 in
     let z = built-stop (bound 128) kinds (rowsOf (l .t)) (l .place) (l .left) _ (stops (c .before)) in
-    record { verdict-is = ap (λ o. o .verdict) q; pivots-are = ap (λ o. 200 - o .left) q; built-is = omega (arith, z, l .inv .6) }
+    record {
+      went = record { verdict-is = ap (λ o. o .verdict) q; pivots-are = ap (λ o. 200 - o .left) q; built-is = omega (arith, z, l .inv .6) };
+      rows-are = record { is = ap (λ o. o .rows) q; sheets = l .inv .0 };
+      place-is = ap (λ o. o .place) q;
+    }
 
 enum-known-m-2 : tie.Need-enum-known-m-2 Inv-loop μ-loop
 enum-known-m-2 c = search needs
