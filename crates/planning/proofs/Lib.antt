@@ -1,0 +1,13 @@
+pub mod Answered
+pub mod Columns
+pub mod Settle
+pub mod Places
+pub mod Stage
+pub mod Carried
+pub mod Proper
+pub mod Says
+pub mod Marks
+pub mod Back
+pub mod Beside
+pub mod Reached
+pub mod Ranges
