@@ -1,0 +1,4 @@
+pub mod Sketches
+pub mod Making
+pub mod Draws
+pub mod Bridge
