@@ -1,0 +1,5 @@
+pub mod Divisions
+pub mod Tables
+pub mod Stepping
+pub mod Growing
+pub mod Left

@@ -1,0 +1,42 @@
+-- The numbers of rules and divisions as the calls take them (document 02, request 8).
+use mathlib.Core.Bool.{_&&_}
+use mathlib.Core.List.{List, [], _∷_}
+use Prim.Native.Nat.{ℕ, zero, suc}
+use lib.Dec.{ltb}
+use lib.IntN.{ℤ, pos, negsuc}
+use lib.ListN.{getD, take, drop}
+use Rattle.model.specs.Lists.{all}
+use Rattle.model.specs.Sets.{Division, Constraint, absent}
+use Rattle.model.specs.Values.{kindIs}
+use Rattle.codec.specs.Bytes.{coefficient, constantFits, firstFailing}
+use Rattle.states.specs.declared.Rule.{Rule}
+use Rattle.states.specs.declared.Quotient.{Quotient}
+
+-- a rule "as given"
+abbrev pub ruleOf : Rule → Constraint
+ruleOf r = record { kind = kindIs (r .equality); constant = r .constant; axes = r .axes; divisions = r .divisions }
+
+-- "A 49th rule is 10, after 7 and 8": over n axes and k divisions, with so many rules; 0 for none
+abbrev pub ruleNumber : ℕ → ℕ → ℕ → Constraint → ℕ
+ruleNumber n k rules r =
+    firstFailing
+    ((constantFits (r .kind) (r .constant) && (all coefficient (r .axes) && all coefficient (r .divisions)), 7)
+    ∷ (absent n (r .axes) && absent k (r .divisions), 8)
+    ∷ (ltb rules 48, 10)
+    ∷ [])
+
+-- a divisor below 0 is refused as 0 is
+abbrev pub unsigned : ℤ → ℕ
+unsigned (pos n) = n
+unsigned (negsuc n) = 0
+
+abbrev pub quotientOf : Quotient → Division
+quotientOf q = record { divisor = unsigned (q .divisor); constant = q .constant; axes = q .axes }
+
+-- ten numbers a division: d, c and 8 axes
+abbrev pub divisionBy : List ℤ → Division
+divisionBy xs = record { divisor = unsigned (getD xs 0 (pos 0)); constant = getD xs 1 (pos 0); axes = take 8 (drop 2 xs) }
+
+unfoldable pub divisionsIn : ℕ → List ℤ → List Division
+divisionsIn zero xs = []
+divisionsIn (suc k) xs = divisionBy xs ∷ divisionsIn k (drop 10 xs)
