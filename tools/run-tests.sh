@@ -50,11 +50,12 @@ fi
 step "cargo test" cargo_tests
 step "stored scripts" $bin/hexscript run $bin/second -- ../tests/scripts/*.txt
 step "stored calls" $bin/hexscript calls $bin/second calls -- ../tests/calls/*.txt
-step "histogram of 8,000 scripts and calls" $bin/generate histogram 8000 3
+step "histogram of 16,000 scripts and calls" $bin/generate histogram 16000 3
 step "meaning, library" $bin/meaning 2000 1
 step "meaning, program" $bin/meaning 100 2 $bin/second calls
 step "meaning, counts" $bin/meaning counts 6000 1
 step "meaning, extremes" $bin/meaning extremes 10000 1
+step "meaning, states" $bin/meaning states 5000 1
 step "compare, scripts" $bin/compare $bin/second 100 1
 step "compare, calls" $bin/compare calls "$bin/second calls" 500 1
 step "examples with second" ../examples/run.sh $bin/second

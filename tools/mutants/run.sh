@@ -1,6 +1,6 @@
 #!/usr/bin/env bash
-# Builds each deliberately wrong copy of `second` (one .sed file each) and runs the stored scripts on it, and the stored
-# calls where these have nothing against it: a copy that none of them tells apart is a failure.
+# Builds each deliberately wrong copy of `second` (one .sed file each) and runs the stored calls on it, and the stored
+# scripts where these have nothing against it: a copy that none of them tells apart is a failure.
 # Last line: 'N passed, M failed'.
 #
 #   mutants/run.sh          all of them, in two halves at once
@@ -39,12 +39,13 @@ build() {
     cargo build --quiet --offline -j1 --manifest-path "$work/second/Cargo.toml" --target-dir "$work/target"
 }
 
-# The closing line of the stored scripts or, where all of them pass, of the stored calls.
+# The closing line of the stored calls, which take less time and know every request, or, where all of them pass, of the
+# stored scripts.
 stored_cases() {
     local last
-    last=$("$hexscript" run "$work/target/debug/second" -- "$tools"/../tests/scripts/*.txt 2>&1 | tail -n 1)
+    last=$("$hexscript" calls "$work/target/debug/second" calls -- "$tools"/../tests/calls/*.txt 2>&1 | tail -n 1)
     if [[ $last == *" 0 failed" ]]; then
-        last=$("$hexscript" calls "$work/target/debug/second" calls -- "$tools"/../tests/calls/*.txt 2>&1 | tail -n 1)
+        last=$("$hexscript" run "$work/target/debug/second" -- "$tools"/../tests/scripts/*.txt 2>&1 | tail -n 1)
     fi
     echo "$last"
 }

@@ -2,6 +2,6 @@
 # file src/test.rs
 s/^    pub tableau: Tableau,/&\n    back: bool,/
 s/carried: None, limit, bounds }/carried: None, limit, bounds, back: false }/
-/let wide = self\.carried/i\
+/^        self\.carried\.is_some() && beyond/i\
         self.back |= self.carried.is_some() \&\& self.tableau.rows.iter().all(|row| !row.is_beyond(first));
-s/self\.tableau\.is_wide(column, wider)/self.tableau.is_wide(column, if self.back { first } else { wider })/
+s/beyond(&self\.tableau, wider)/beyond(\&self.tableau, if self.back { first } else { wider })/

@@ -8,6 +8,7 @@
 use generate::{calls, scripts};
 use hexscript::describe;
 use hexscript::runner::{difference, output_of, Score};
+use hexscript::tokens::unhex;
 use std::io::Read;
 use std::process::ExitCode;
 
@@ -54,7 +55,11 @@ fn compare_calls(program: &[String], count: u64, seed: u64, kinds: &[&str]) -> R
             let (expected, found) = (second::run_call(line), answers.next().unwrap_or("(no line)"));
             score.add(found == expected, || {
                 let at = start + i as u64;
-                format!("call {at} of seed {seed}:\n{}\n  expected {expected}\n  found    {found}", describe::call(line))
+                let story = match line.strip_prefix("states ") {
+                    Some(walk) => walk_story(walk, &expected, found),
+                    None => format!("{}\n  expected {expected}\n  found    {found}", describe::call(line)),
+                };
+                format!("call {at} of seed {seed}:\n{story}")
             });
         }
         let more = answers.count();
@@ -63,6 +68,28 @@ fn compare_calls(program: &[String], count: u64, seed: u64, kinds: &[&str]) -> R
         }
     }
     Ok(score.finish())
+}
+
+/// A walk up to the first call that says something else, in the form of a stored case.
+fn walk_story(walk: &str, expected: &str, found: &str) -> String {
+    let (expected, found): (Vec<&str>, Vec<&str>) = (expected.split(" ; ").collect(), found.split(" ; ").collect());
+    let same = expected.iter().zip(&found).take_while(|(e, f)| e == f).count();
+    let last = same.min(expected.len() - 1);
+    let steps: Vec<String> = walk.split(" ; ").take(last + 1).map(step_tokens).collect();
+    let found = found.get(same).unwrap_or(&"(nothing)");
+    format!("call states {}\nanswer {}\n  found at last {found}", steps.join(" ;\n  "), expected[..=last].join(" ; "))
+}
+
+/// A step of a walk with its divisions or its rule in tokens.
+fn step_tokens(step: &str) -> String {
+    let word = |(place, word): (usize, &str)| match (step.split(' ').next(), place) {
+        (Some("start"), 2) | (Some("add"), 1) => {
+            let bytes = unhex(word).unwrap_or_default();
+            format!("[ {} ]", describe::set(&bytes).replace('\n', " "))
+        }
+        _ => word.to_string(),
+    };
+    step.split(' ').enumerate().map(word).collect::<Vec<_>>().join(" ")
 }
 
 fn compare_one(program: &[String]) -> Result<ExitCode, String> {
@@ -93,4 +120,18 @@ fn main() -> ExitCode {
         println!("0 passed, 1 failed");
         ExitCode::FAILURE
     })
+}
+
+#[cfg(test)]
+mod tests {
+    use super::walk_story;
+
+    #[test]
+    fn a_walk_is_told_up_to_the_first_difference() {
+        let rule = format!("1405000000ffff{}", "00".repeat(30));
+        let story = walk_story(&format!("start 1 - ; add {rule} ; mark 3 ; back 3"), "point ; empty ; empty ; empty", "point ; wide");
+        let told = "call states start 1 [  ] ;\n  add [ 14 i32:5 i16:-1,0,0,0,0,0,0,0 i16:0,0,0,0,0,0,0,0 ]";
+        assert_eq!(story, format!("{told}\nanswer point ; empty\n  found at last wide"));
+        assert!(walk_story("start 1 -", "point", "point ; point").ends_with("answer point\n  found at last point"));
+    }
 }

@@ -19,6 +19,11 @@ fn a_wrong_line_program_is_found() {
 }
 
 #[test]
+fn a_wrong_walk_is_found() {
+    assert_eq!(last_line(&["calls", "cat", "20", "1", "states"]), (false, "0 passed, 20 failed".to_string()));
+}
+
+#[test]
 fn a_missing_program_is_found() {
     assert_eq!(last_line(&["./no-such-program", "3", "1"]), (false, "0 passed, 3 failed".to_string()));
 }

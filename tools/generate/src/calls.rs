@@ -10,12 +10,13 @@ use crate::queries::{any_box, any_limit, any_point, widest_box};
 use crate::rng::Rng;
 use crate::runs;
 use crate::sets::World;
+use crate::walks;
 use crate::wider;
 use hexscript::tokens::hex;
 
-pub const KINDS: [&str; 15] = [
-    "check", "part", "member", "holder", "fleet", "search", "count", "counts", "test", "greatest", "least", "union",
-    "intersection", "difference", "complement",
+pub const KINDS: [&str; 16] = [
+    "states", "check", "part", "member", "holder", "fleet", "search", "count", "counts", "test", "greatest", "least",
+    "union", "intersection", "difference", "complement",
 ];
 
 /// Bytes of the set, damaged for a part of the calls.
@@ -174,6 +175,7 @@ pub fn call(seed: u64, index: u64, kinds: &[&str]) -> String {
         kind @ ("count" | "counts") => counting::call(rng, world, kind),
         "test" => test(rng, world),
         kind @ ("greatest" | "least") => extremes::call(rng, world, kind),
+        "states" => walks::call(rng),
         kind => operation(rng, world, kind),
     }
 }

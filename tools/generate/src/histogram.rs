@@ -1,6 +1,6 @@
 //! What the generated scripts and calls reach, by `second`.
 
-use crate::{calls, counting, events, extremes, fleets, runs, scripts};
+use crate::{calls, counting, events, extremes, fleets, runs, scripts, states};
 use hexscript::tokens::unhex;
 use second::algebra::{complement, difference, intersection, union, Watch};
 use second::ask::{check_corners, check_limit, Sides};
@@ -74,9 +74,13 @@ pub const EXTREMES: [&str; 10] = [
     "least long",
 ];
 
+/// The same of named states.
+pub const STATES: [&str; 6] =
+    ["refused 18", "states point", "states empty", "states wide", "states long", "states none"];
+
 /// All that only a call can reach.
 pub fn asked_only() -> impl Iterator<Item = &'static str> {
-    COUNTING.into_iter().chain(FLEET).chain(EXTREMES)
+    COUNTING.into_iter().chain(FLEET).chain(EXTREMES).chain(STATES)
 }
 
 /// Every name that has to occur.
@@ -310,6 +314,19 @@ pub fn of_extremes(count: u64, seed: u64) -> Counts {
     counts
 }
 
+/// What so many walks of named states reach.
+pub fn of_states(count: u64, seed: u64) -> Counts {
+    let mut counts = Counts::new();
+    (0..count).for_each(|index| states::count(&calls::call(seed, index, &["states"]), &mut counts));
+    counts
+}
+
+/// Counts what one call of a walk says.
+fn count_said(said: &str, counts: &mut Counts) {
+    let refused = said.starts_with("refused");
+    bump(counts, &if refused { said.to_string() } else { format!("states {said}") });
+}
+
 pub fn of_calls(count: u64, seed: u64) -> Counts {
     let mut counts = Counts::new();
     for index in 0..count {
@@ -319,6 +336,10 @@ pub fn of_calls(count: u64, seed: u64) -> Counts {
         count_searched(&call, &mut counts);
         let answer = second::run_call(&call);
         let kind = call.split(' ').next().unwrap_or("");
+        if kind == "states" {
+            answer.split(" ; ").for_each(|said| count_said(said, &mut counts));
+            continue;
+        }
         let words: Vec<&str> = answer.split(' ').collect();
         match (kind, words[0]) {
             ("check", "0") => bump(&mut counts, "check 0"),

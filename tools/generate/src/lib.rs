@@ -1,7 +1,8 @@
 //! Seeded scripts and calls that reach every refusal, test answer and search outcome, all that tightening does, every
 //! answer of tests that are carried into 128 bits, long runs of failing prefixes, counts and lists of points of every
-//! kind, and every answer of greatest and least in either half.
+//! kind, every answer of greatest and least in either half, and walks of named states that say every word.
 
+mod additions;
 pub mod calls;
 pub mod corners;
 pub mod counting;
@@ -12,11 +13,14 @@ pub mod fleets;
 pub mod hard;
 pub mod histogram;
 pub mod model;
+pub mod plans;
 pub mod queries;
 pub mod rng;
 pub mod runs;
 pub mod scripts;
 pub mod sets;
 pub mod slots;
+pub mod states;
 mod turns;
+pub mod walks;
 pub mod wider;

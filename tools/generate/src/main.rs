@@ -9,15 +9,17 @@
 //! `generate fleets COUNT SEED`          what COUNT calls of the fleet reach: lists, refusals, which points are in
 //! `generate extremes COUNT SEED`        what COUNT calls of greatest and least reach: expressions, refusals, answers in
 //!                                       either half, turns of the second one
+//! `generate states COUNT SEED`          what COUNT walks of named states reach: starts, additions by their row and their
+//!                                       pivots, marks, refusals
 
 use generate::histogram::Counts;
-use generate::{calls, counting, extremes, fleets, histogram, runs, scripts};
+use generate::{calls, counting, extremes, fleets, histogram, runs, scripts, states};
 use hexscript::tokens::hex;
 use std::io::Write;
 use std::process::ExitCode;
 
 const USAGE: &str = "generate scripts COUNT SEED DIR|- | calls COUNT SEED [KIND..] | \
-                     histogram|tests|searches|counts|fleets|extremes COUNT SEED";
+                     histogram|tests|searches|counts|fleets|extremes|states COUNT SEED";
 
 /// One test in so many has to be wide at 64 bits.
 const CARRIED_ONE_IN: u64 = 25;
@@ -53,8 +55,8 @@ fn count_of(counts: &Counts, name: &str) -> usize {
 }
 
 /// Each wanted name is a check: it must occur among the scripts and among the calls (14 and 15 are of scripts only; a
-/// test of its own, a count, a fleet, greatest and least are of calls only; what calls of the test build is for `tests`
-/// to say).
+/// test of its own, a count, a fleet, greatest and least and walks are of calls only; what calls of the test build is
+/// for `tests` to say).
 fn print_histogram(count: u64, seed: u64) -> ExitCode {
     let by_scripts = histogram::of_scripts(count, seed);
     let by_calls = histogram::of_calls(count, seed);
@@ -122,6 +124,10 @@ fn print_extremes(count: u64, seed: u64) -> ExitCode {
     closing(&print_each(&histogram::of_extremes(count, seed), &extremes::EVENTS.map(str::to_string)))
 }
 
+fn print_states(count: u64, seed: u64) -> ExitCode {
+    closing(&print_each(&histogram::of_states(count, seed), &states::EVENTS.map(str::to_string)))
+}
+
 fn closing(checks: &[bool]) -> ExitCode {
     let passed = checks.iter().filter(|&&good| good).count();
     let failed = checks.len() - passed;
@@ -140,6 +146,7 @@ fn run(words: &[&str]) -> Result<ExitCode, String> {
         ["counts", count, seed] => Ok(print_counts(number(count)?, number(seed)?)),
         ["fleets", count, seed] => Ok(print_fleets(number(count)?, number(seed)?)),
         ["extremes", count, seed] => Ok(print_extremes(number(count)?, number(seed)?)),
+        ["states", count, seed] => Ok(print_states(number(count)?, number(seed)?)),
         _ => Err(USAGE.to_string()),
     }
 }

@@ -23,3 +23,8 @@ fn wrong_counts_are_found() {
 fn wrong_extremes_are_found() {
     found(&["extremes", "30", "1", "cat"]);
 }
+
+#[test]
+fn wrong_walks_are_found() {
+    found(&["states", "30", "1", "cat"]);
+}

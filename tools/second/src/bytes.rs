@@ -76,12 +76,21 @@ fn add_division(set: &mut Set, body: &[u8]) -> Result<(), u8> {
     let n = set.n;
     let basic = set.basics.last_mut().ok_or(refusal::NO_BASIC_SET)?;
     refuse_if(!basic.rules.is_empty(), refusal::DIVISION_AFTER_RULE)?;
-    refuse_if(basic.divisions.len() == MAX_DIVISIONS, refusal::TOO_MANY_GIVEN)?;
-    let division = Division {
+    push_division(n, basic, read_division(body))
+}
+
+/// The numbers of a division command.
+pub fn read_division(body: &[u8]) -> Division {
+    Division {
         d: i64::from(u16::from_le_bytes([body[0], body[1]])),
         c: read_i32(&body[2..]),
         axes: read_coefficients(&body[6..]),
-    };
+    }
+}
+
+/// A further division, or its 9, 6, 7 or 8.
+pub fn push_division(n: usize, basic: &mut BasicSet, division: Division) -> Result<(), u8> {
+    refuse_if(basic.divisions.len() == MAX_DIVISIONS, refusal::TOO_MANY_GIVEN)?;
     refuse_if(division.d == 0 || division.d > LARGEST_DIVISOR, refusal::DIVISOR)?;
     refuse_if(division.c.abs() > LARGEST_DIVISION_CONSTANT, refusal::NUMBER_RANGE)?;
     refuse_if(out_of_range(&division.axes), refusal::NUMBER_RANGE)?;
@@ -94,17 +103,27 @@ fn add_rule(set: &mut Set, kind: Kind, body: &[u8]) -> Result<(), u8> {
     let n = set.n;
     let basic = set.basics.last_mut().ok_or(refusal::NO_BASIC_SET)?;
     refuse_if(basic.rules.len() == MAX_RULES, refusal::TOO_MANY_GIVEN)?;
-    let rule = Rule {
+    let rule = read_rule(kind, body);
+    check_rule(n, basic, &rule)?;
+    basic.rules.push(rule);
+    Ok(())
+}
+
+/// The numbers of a rule command.
+pub fn read_rule(kind: Kind, body: &[u8]) -> Rule {
+    Rule {
         kind,
         constant: read_i32(body),
         axes: read_coefficients(&body[4..]),
         divs: read_coefficients(&body[20..]),
-    };
-    let low = kind == Kind::Equality && rule.constant < LEAST_EQUALITY_CONSTANT;
+    }
+}
+
+/// A rule's 7 and 8.
+pub fn check_rule(n: usize, basic: &BasicSet, rule: &Rule) -> Result<(), u8> {
+    let low = rule.kind == Kind::Equality && rule.constant < LEAST_EQUALITY_CONSTANT;
     refuse_if(low, refusal::NUMBER_RANGE)?;
-    check_coefficients(n, basic, &rule)?;
-    basic.rules.push(rule);
-    Ok(())
+    check_coefficients(n, basic, rule)
 }
 
 /// A rule's 7 and 8 but for its constant. Reading 3: 7 at any place, absent

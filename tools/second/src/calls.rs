@@ -2,13 +2,16 @@
 
 use crate::algebra::{complement, difference, intersection, union, unwatched};
 use crate::ask::{holder, member, part, search, Sides, Table};
-use crate::bytes::{encode, parse};
+use crate::bytes::{
+    encode, parse, read_division, read_rule, DIVISION, DIVISION_BYTES, EQUALITY, INEQUALITY, RULE_BYTES,
+};
 use crate::count::{count, counts, Count};
 use crate::extreme::{extreme, Aim, Extreme};
 use crate::fleet::fleet;
-use crate::model::{Kind, Point, Rule, Set};
+use crate::model::{Division, Kind, Point, Rule, Set};
 use crate::refusal;
 use crate::script::search_words;
+use crate::states::{word, Desk, Said, Step};
 use crate::test::test;
 
 /// A table's size is any up to this; a longer one makes a bad line.
@@ -22,6 +25,9 @@ pub fn run_call(line: &str) -> String {
 /// None for an ill-formed line.
 fn answer(line: &str) -> Option<String> {
     let (name, rest) = line.split_once(' ')?;
+    if name == "states" {
+        return call_states(rest);
+    }
     let mut fields = Fields(rest.split(' ').collect());
     let n = fields.axes()?;
     let answer = match name {
@@ -203,6 +209,40 @@ fn call_extreme(aim: Aim, n: u8, fields: &mut Fields) -> Option<String> {
     })
 }
 
+/// The calls of a walk, on a desk of its own.
+fn call_states(walk: &str) -> Option<String> {
+    let mut desk = Desk::default();
+    let words = read_walk(walk)?.iter().map(|step| state_words(desk.take(step))).collect::<Vec<_>>();
+    Some(words.join(" ; "))
+}
+
+/// The steps of a walk, parted by ` ; `.
+pub fn read_walk(walk: &str) -> Option<Vec<Step>> {
+    walk.split(" ; ").map(read_step).collect()
+}
+
+fn read_step(step: &str) -> Option<Step> {
+    let mut fields = Fields(step.split(' ').collect());
+    let step = match fields.next()? {
+        "start" => Step::Start(fields.axes()?, fields.divisions()?),
+        "add" => Step::Add(fields.rule()?),
+        "mark" => Step::Mark(fields.count()?),
+        "back" => Step::Back(fields.count()?),
+        _ => return None,
+    };
+    fields.end()?;
+    Some(step)
+}
+
+/// The state's word; before the first good start `none`.
+fn state_words(said: Said) -> String {
+    match said {
+        Ok(Some(says)) => word(says).to_string(),
+        Ok(None) => "none".to_string(),
+        Err(number) => format!("refused {number}"),
+    }
+}
+
 /// The fields still to be read, each one giving None where it is ill-formed.
 struct Fields<'a>(std::collections::VecDeque<&'a str>);
 
@@ -265,6 +305,27 @@ impl<'a> Fields<'a> {
     fn bytes(&mut self) -> Option<Vec<u8>> {
         unhex(self.next()?)
     }
+
+    /// Division commands and nothing else.
+    fn divisions(&mut self) -> Option<Vec<Division>> {
+        self.bytes()?.chunks(DIVISION_BYTES).map(division).collect()
+    }
+
+    /// One rule command.
+    fn rule(&mut self) -> Option<Rule> {
+        let bytes = self.bytes()?;
+        let kind = match *bytes.first()? {
+            EQUALITY => Kind::Equality,
+            INEQUALITY => Kind::Inequality,
+            _ => return None,
+        };
+        (bytes.len() == RULE_BYTES).then(|| read_rule(kind, &bytes[1..]))
+    }
+}
+
+fn division(command: &[u8]) -> Option<Division> {
+    let whole = command.len() == DIVISION_BYTES && command[0] == DIVISION;
+    whole.then(|| read_division(&command[1..]))
 }
 
 /// Lower-case hex; `-` for the empty string.

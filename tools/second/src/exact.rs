@@ -10,6 +10,8 @@
 //!   or 2^63 − 1 after request 9's carry, into an exchange, which makes sums of
 //!   two products: below 2^63, or 2^127. Numbers that are larger are only looked
 //!   at (sign, zero or not, beyond the bound) or, in request 11's value, divided.
+//! * Request 8 puts rows into a new rule's row under the same bounds, by the same
+//!   sums of two products.
 //! * Request 11 compares the moves at which rows stop a column by products of two
 //!   such numbers, once step 4 has let them pass.
 

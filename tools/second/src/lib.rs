@@ -12,6 +12,7 @@ pub mod ask;
 pub mod bytes;
 pub mod calls;
 pub mod count;
+pub mod draft;
 pub mod exact;
 pub mod extreme;
 pub mod fleet;
@@ -19,6 +20,7 @@ pub mod listing;
 pub mod model;
 pub mod refusal;
 pub mod script;
+pub mod states;
 pub mod tableau;
 pub mod test;
 

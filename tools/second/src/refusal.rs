@@ -16,4 +16,5 @@ pub const LIMIT: u8 = 13;
 pub const SET_NUMBER: u8 = 14;
 pub const AXES_COMMAND_PLACE: u8 = 15;
 pub const FLEET_LIST: u8 = 16;
+pub const STATE_NAME: u8 = 18;
 pub const CHOSEN_AXIS: u8 = 19;

@@ -12,6 +12,16 @@ pub enum Nature {
     Zero,
 }
 
+impl Nature {
+    /// Of the expression of a rule.
+    pub fn of(kind: Kind) -> Nature {
+        match kind {
+            Kind::Equality => Nature::Zero,
+            Kind::Inequality => Nature::AtLeastZero,
+        }
+    }
+}
+
 /// denominator · variable = constant + entries · column variables.
 #[derive(Clone, Debug, PartialEq, Eq)]
 pub struct Row {
@@ -85,28 +95,38 @@ impl Tableau {
             tableau.begin_row(Nature::AtLeastZero, slack - constant, opposite);
         }
         for rule in &basic.rules {
-            let nature = match rule.kind {
-                Kind::Equality => Nature::Zero,
-                Kind::Inequality => Nature::AtLeastZero,
-            };
-            tableau.begin_expression(nature, n, rule);
+            tableau.begin_expression(Nature::of(rule.kind), n, rule);
         }
         tableau
     }
 
     /// A row that begins as the expression of a rule over n axes.
     pub fn begin_expression(&mut self, nature: Nature, n: usize, rule: &Rule) {
+        let coefficients = self.free_coefficients(n, rule);
+        self.begin_row(nature, i128::from(rule.constant), coefficients);
+    }
+
+    /// What the expression of a rule has of each free variable, by number.
+    pub fn free_coefficients(&self, n: usize, rule: &Rule) -> Vec<i128> {
         let divisions = self.columns.len() - n;
-        let mut entries = widen(&rule.axes[..n]);
-        entries.extend(widen(&rule.divs[..divisions]));
-        self.begin_row(nature, i128::from(rule.constant), entries);
+        [widen(&rule.axes[..n]), widen(&rule.divs[..divisions])].concat()
     }
 
     /// A further variable that begins as a row, with denominator 1.
     fn begin_row(&mut self, nature: Nature, constant: i128, entries: Vec<i128>) {
         let variable = self.natures.len();
+        self.append(nature, Row { variable, denominator: 1, constant, entries });
+    }
+
+    /// A further variable that begins as this row.
+    pub fn append(&mut self, nature: Nature, row: Row) {
         self.natures.push(nature);
-        self.rows.push(Row { variable, denominator: 1, constant, entries });
+        self.rows.push(row);
+    }
+
+    /// The row that gives a variable, unless it is a column.
+    pub fn row_of(&self, variable: usize) -> Option<&Row> {
+        self.rows.iter().find(|row| row.variable == variable)
     }
 
     fn is_violated(&self, row: &Row) -> bool {
@@ -188,7 +208,7 @@ fn solve_for(row: &Row, column: usize, entering: usize) -> Row {
 }
 
 /// Puts the solved row in the place of the column's variable.
-fn substitute(row: &mut Row, solved: &Row, column: usize) {
+pub fn substitute(row: &mut Row, solved: &Row, column: usize) {
     let factor = row.entries[column];
     let scale = solved.denominator;
     let blend = |old: i128, new: i128| add(mul(old, scale), mul(factor, new));

@@ -104,16 +104,20 @@ impl Steps {
 
     /// Steps 3 and 4, before an exchange with this column: long, wide, or neither.
     pub fn hindered(&mut self, column: usize) -> Option<Answer> {
-        let [first, wider] = self.bounds;
         if self.limit == Some(self.pivots) {
             return Some(Answer::Long);
         }
-        if self.carried.is_none() && self.tableau.is_wide(column, first) {
+        self.is_wide(|tableau, bound| tableau.is_wide(column, bound)).then_some(Answer::Wide)
+    }
+
+    /// Whether numbers are beyond step 4's bound, with request 9's carry.
+    pub fn is_wide(&mut self, beyond: impl Fn(&Tableau, i128) -> bool) -> bool {
+        let [first, wider] = self.bounds;
+        if self.carried.is_none() && beyond(&self.tableau, first) {
             // "carry the tableau as it is .. and go on from that very pivot"
             self.carried = Some(self.pivots);
         }
-        let wide = self.carried.is_some() && self.tableau.is_wide(column, wider);
-        wide.then_some(Answer::Wide)
+        self.carried.is_some() && beyond(&self.tableau, wider)
     }
 
     /// Step 5.

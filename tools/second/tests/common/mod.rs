@@ -1,9 +1,10 @@
 //! What the tests share: sets from listing lines, scripts piece by piece.
 #![allow(dead_code)]
 
+use second::bytes::RULE_BYTES;
 use second::calls::hex;
-use second::listing::read_set;
-use second::{encode, run_call, run_script};
+use second::listing::{read_basic, read_set};
+use second::{encode, run_call, run_script, Set};
 
 /// The bytes of a set given as listing lines with `;` between them, each
 /// basic set opened by `basic`.
@@ -70,6 +71,37 @@ pub fn counts(n: u8, bytes: &[u8], limit: u32, axis: u64, low: &[i32], high: &[i
 pub fn extreme(kind: &str, n: u8, bytes: &[u8], k: u64, expression: (i32, &[i32], &[i32])) -> String {
     let (constant, axes, divisions) = expression;
     call(format!("{kind} {n} {} {k} {constant} {} {}", hex(bytes), eight(axes), eight(divisions)))
+}
+
+/// The line of a walk of named states: `start N` with division lines behind `/`, `add` with a rule's line, `mark K`,
+/// `back K`, with `;` between them. A rule is written over the axes and divisions of the last start with 1 to 8 axes.
+pub fn walk_line(steps: &str) -> String {
+    let (mut n, mut divisions) = (1, String::new());
+    let commands = |n: usize, lines: &str| {
+        let basic = read_basic(n, lines).expect("listing lines");
+        encode(&Set { n, basics: vec![basic] })[1..].to_vec()
+    };
+    let mut line = |step: &str| match step.trim().split_once(' ').expect("a step") {
+        ("start", given) => {
+            let (axes, lines) = given.split_once('/').unwrap_or((given, ""));
+            let axes: usize = axes.trim().parse().expect("axes");
+            if (1..=8).contains(&axes) {
+                (n, divisions) = (axes, lines.replace('/', "\n"));
+            }
+            format!("start {axes} {}", hex(&commands(n, &divisions)))
+        }
+        ("add", rule) => {
+            let all = commands(n, &format!("{divisions}\n{rule}"));
+            format!("add {}", hex(&all[all.len() - RULE_BYTES..]))
+        }
+        _ => step.trim().to_string(),
+    };
+    let lines: Vec<String> = steps.split(';').map(&mut line).collect();
+    format!("states {}", lines.join(" ; "))
+}
+
+pub fn walk(steps: &str) -> String {
+    call(walk_line(steps))
 }
 
 pub fn tested(n: u8, bytes: &[u8]) -> String {

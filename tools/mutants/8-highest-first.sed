@@ -1,0 +1,3 @@
+# Request 8: the highest-numbered variable replaced first.
+# file src/draft.rs
+s/self\.waiting()\.iter()\.position(/self.waiting().iter().rposition(/

@@ -1,0 +1,3 @@
+# Request 8: the bound for the replaced row alone.
+# file src/draft.rs
+s/self\.row\.is_beyond(bound) || replacing\.is_beyond(bound)/replacing.is_beyond(bound)/
