@@ -7,7 +7,9 @@
 #include <stdlib.h>
 #include <string.h>
 
+#include "line.h"
 #include "pitsets.h"
+#include "walking.h"
 
 enum { GUARD = 64, SLACK = 8, MARK = 0xA5 };
 
@@ -47,18 +49,6 @@ static void give_back(table *t)
     free(t->memory);
 }
 
-static char *word(char **rest)
-{
-    char *w = strtok_r(NULL, " \n", rest);
-    if (!w) {
-        puts("bad line");
-        exit(2);
-    }
-    return w;
-}
-
-static int digit(char c) { return c <= '9' ? c - '0' : c - 'a' + 10; }
-
 static table bytes(char **rest)
 {
     char *w = word(rest);
@@ -86,7 +76,7 @@ static table copy_of(const table *t)
 
 static void member(char **rest)
 {
-    size_t n = strtoull(word(rest), NULL, 10);
+    size_t n = number(rest);
     table set = bytes(rest), copy = copy_of(&set);
     int32_t x[8];
     for (int i = 0; i < 8; i++) x[i] = (int32_t)strtol(word(rest), NULL, 10);
@@ -106,10 +96,10 @@ typedef struct { int64_t r; uint32_t tested; table counts; } counted;
 
 static counting asked(char **rest, int chosen)
 {
-    counting q = {.n = strtoull(word(rest), NULL, 10), .set = bytes(rest)};
+    counting q = {.n = number(rest), .set = bytes(rest)};
     q.copy = copy_of(&q.set);
     q.limit = (uint32_t)strtoul(word(rest), NULL, 10);
-    if (chosen) q.axis = strtoull(word(rest), NULL, 10);
+    if (chosen) q.axis = number(rest);
     for (int i = 0; i < 8; i++) q.l[i] = (int32_t)strtol(word(rest), NULL, 10);
     for (int i = 0; i < 8; i++) q.h[i] = (int32_t)strtol(word(rest), NULL, 10);
     return q;
@@ -199,10 +189,10 @@ static void counts(char **rest)
 /* the rest of the line as coordinates, copied to a table of just that length, so that a reader past its end is seen */
 static void fleet(char **rest)
 {
-    size_t n = strtoull(word(rest), NULL, 10), numbers = 0;
+    size_t n = number(rest), numbers = 0;
     table set = bytes(rest), copy = copy_of(&set);
     int32_t *read = must(malloc((strlen(*rest) / 2 + 1) * sizeof *read));
-    for (char *w; (w = strtok_r(NULL, " \n", rest)); ) read[numbers++] = (int32_t)strtol(w, NULL, 10);
+    for (char *w; (w = word_or_end(rest)); ) read[numbers++] = (int32_t)strtol(w, NULL, 10);
     int32_t *points = must(malloc(numbers * sizeof *points + 1));
     memcpy(points, read, numbers * sizeof *points);
     uint64_t mask[3] = {MARK, MARK, MARK};
@@ -274,9 +264,9 @@ static table coefficients(char **rest)
 
 static void value(char **rest, extreme *call)
 {
-    size_t n = strtoull(word(rest), NULL, 10);
+    size_t n = number(rest);
     table set = bytes(rest), copy = copy_of(&set);
-    size_t k = strtoull(word(rest), NULL, 10);
+    size_t k = number(rest);
     int32_t constant = (int32_t)strtol(word(rest), NULL, 10);
     table axes = coefficients(rest), divisions = coefficients(rest), ca = copy_of(&axes), cd = copy_of(&divisions);
     table out = lend_past(sizeof(pitsets_fraction), sizeof(uint64_t));
@@ -301,7 +291,7 @@ static void print_table(int64_t r, const table *out)
 
 static void two(char **rest, operation *op)
 {
-    size_t n = strtoull(word(rest), NULL, 10), room = strtoull(word(rest), NULL, 10);
+    size_t n = number(rest), room = number(rest);
     table a = bytes(rest), b = bytes(rest), ca = copy_of(&a), cb = copy_of(&b), out = lend(room);
     print_table(op(n, a.bytes, a.length, b.bytes, b.length, out.bytes, out.length), &out);
     untouched(&a, &ca);
@@ -315,7 +305,7 @@ static void two(char **rest, operation *op)
 
 static void one(char **rest)
 {
-    size_t n = strtoull(word(rest), NULL, 10), room = strtoull(word(rest), NULL, 10);
+    size_t n = number(rest), room = number(rest);
     table a = bytes(rest), ca = copy_of(&a), out = lend(room);
     print_table(pitsets_complement(n, a.bytes, a.length, out.bytes, out.length), &out);
     untouched(&a, &ca);
@@ -337,6 +327,7 @@ int main(void)
         else if (!strcmp(w, "counts")) counts(&rest);
         else if (!strcmp(w, "greatest")) value(&rest, pitsets_greatest);
         else if (!strcmp(w, "least")) value(&rest, pitsets_least);
+        else if (!strcmp(w, "states")) states(&rest);
         else if (!strcmp(w, "union")) two(&rest, pitsets_union);
         else if (!strcmp(w, "intersection")) two(&rest, pitsets_intersection);
         else if (!strcmp(w, "difference")) two(&rest, pitsets_difference);

@@ -39,31 +39,52 @@ static int weighed(int round)
     return r == PITSETS_VALUE && pitsets_double(&v) == -622 && v.denominator.low == 1 && !v.denominator.high;
 }
 
-static void *work(void *failed)
+/* 0 ≤ x ≤ 2186, a mark, x ≥ 2187, and back */
+static int planned(pitsets_state *plan)
 {
+    const int32_t up[8] = {1}, down[8] = {-1}, none[8] = {0};
+    if (pitsets_state_start(plan, 1, NULL, 0) != PITSETS_STATE_POINT) return 0;
+    if (pitsets_state_add(plan, false, 0, up, none) != PITSETS_STATE_POINT) return 0;
+    if (pitsets_state_add(plan, false, 2186, down, none) != PITSETS_STATE_POINT) return 0;
+    if (pitsets_state_mark(plan, 15) != PITSETS_STATE_POINT) return 0;
+    if (pitsets_state_add(plan, false, -2187, up, none) != PITSETS_STATE_EMPTY) return 0;
+    return pitsets_state_back(plan, 15) == PITSETS_STATE_POINT && pitsets_state_back(plan, 0) == -PITSETS_NAME;
+}
+
+/* what a thread has of its own */
+typedef struct {
+    pitsets_state plan;
+    int failed;
+} own;
+
+static void *work(void *given)
+{
+    own *mine = given;
+    int *failed = &mine->failed;
     uint8_t first[200], again[200];
     int64_t length = pitsets_difference(1, range, sizeof range, tenth, sizeof tenth, first, sizeof first);
-    if (length != 135) *(int *)failed = 1;
+    if (length != 135) *failed = 1;
     for (int i = 0; i < ROUNDS; i++) {
         memset(again, i & 0xFF, sizeof again);
-        if (pitsets_difference(1, range, sizeof range, tenth, sizeof tenth, again, sizeof again) != length) *(int *)failed = 1;
-        if (memcmp(first, again, sizeof first)) *(int *)failed = 1;
-        if (pitsets_member(1, first, (size_t)length, 2179, 0, 0, 0, 0, 0, 0, 0) != 1) *(int *)failed = 1;
-        if (pitsets_member(1, first, (size_t)length, 2180, 0, 0, 0, 0, 0, 0, 0) != 0) *(int *)failed = 1;
+        if (pitsets_difference(1, range, sizeof range, tenth, sizeof tenth, again, sizeof again) != length) *failed = 1;
+        if (memcmp(first, again, sizeof first)) *failed = 1;
+        if (pitsets_member(1, first, (size_t)length, 2179, 0, 0, 0, 0, 0, 0, 0) != 1) *failed = 1;
+        if (pitsets_member(1, first, (size_t)length, 2180, 0, 0, 0, 0, 0, 0, 0) != 0) *failed = 1;
         uint64_t mask = (uint64_t)i;
-        if (pitsets_fleet(1, first, (size_t)length, fleet, 4, &mask) != 2 || mask != 5) *(int *)failed = 1;
-        if (!counted(first, (size_t)length, i) || !weighed(i)) *(int *)failed = 1;
+        if (pitsets_fleet(1, first, (size_t)length, fleet, 4, &mask) != 2 || mask != 5) *failed = 1;
+        if (!counted(first, (size_t)length, i) || !weighed(i) || !planned(&mine->plan)) *failed = 1;
     }
     return NULL;
 }
 
 int main(void)
 {
+    static own each[2];
     pthread_t t[2];
-    int failed[2] = {0, 0};
     for (int i = 0; i < 2; i++)
-        if (pthread_create(&t[i], NULL, work, &failed[i])) return 2;
+        if (pthread_create(&t[i], NULL, work, &each[i])) return 2;
     for (int i = 0; i < 2; i++) pthread_join(t[i], NULL);
-    puts(failed[0] || failed[1] ? "threads differ" : "threads agree");
-    return failed[0] || failed[1];
+    int failed = each[0].failed || each[1].failed;
+    puts(failed ? "threads differ" : "threads agree");
+    return failed;
 }

@@ -1,5 +1,6 @@
 /* Integer rule sets for the pit board: membership of a point and of a whole fleet, union, intersection, difference and
- * complement of sets, how many points of a box are in a set, and the greatest and the least value of an expression.
+ * complement of sets, how many points of a box are in a set, the greatest and the least value of an expression, and
+ * states of a plan, to which rules are added one by one and which a planner can go back to.
  *
  * A set is bytes in a table of yours (layout: document 01, "Bytes of a set"). n is the number of axes, 1 to 8.
  * Every function
@@ -7,8 +8,10 @@
  *   - returns minus the number of a refusal (enum pitsets_refusal), so a negative result is a refusal, or of a count
  *     PITSETS_SPENT, and nothing else;
  *   - reads the given sets and never changes them;
- *   - keeps no state and allocates nothing: it may be called from any number of threads at once, as long as no thread
- *     writes to a table that another call uses at the same time;
+ *   - allocates nothing, and keeps nothing between calls but the state of a plan, which is in a buffer of yours
+ *     (pitsets_state) and nowhere else;
+ *   - may be called from any number of threads at once, as long as no thread writes to a table that another call uses at
+ *     the same time, and no two calls use one pitsets_state at the same time, since each may write to it;
  *   - needs less than PITSETS_STACK bytes of stack (measured on the deepest calls known, not proved).
  * A table is a pointer and a length in bytes, and may begin at any address; a table of counts is a pointer and how many
  * numbers it has, and is aligned as uint32_t is, as is `tested`. No pointer may be NULL, also where the length is 0.
@@ -17,6 +20,7 @@
 #ifndef PITSETS_H
 #define PITSETS_H
 
+#include <stdbool.h>
 #include <stddef.h>
 #include <stdint.h>
 
@@ -30,8 +34,8 @@ extern "C" {
 /* The most points of a fleet. */
 #define PITSETS_FLEET 64
 
-/* The numbers of document 01, "Refused", and of document 02. These functions give 1 to 13, 16 and 19; 14 and 15 are the
- * script program's. */
+/* The numbers of document 01, "Refused", and of document 02. These functions give 1 to 13, 16, 18 and 19; 14 and 15 are
+ * the script program's. */
 enum pitsets_refusal {
     PITSETS_AXES = 1,          /* n is not 1 to 8 */
     PITSETS_COMMAND = 2,       /* unknown command byte in a set */
@@ -41,12 +45,13 @@ enum pitsets_refusal {
     PITSETS_DIVISOR = 6,       /* a divisor of 0 or over 32,767 */
     PITSETS_RANGE = 7,         /* another number outside its range */
     PITSETS_ABSENT = 8,        /* a coefficient of an absent axis or division is not 0 */
-    PITSETS_TOO_MANY = 9,      /* over 32 basic sets, 8 divisions or 48 rules in a given set */
-    PITSETS_OVERFLOW = 10,     /* a join over 8 divisions, a candidate over 48 rules, or a 33rd basic set in the result */
+    PITSETS_TOO_MANY = 9,      /* over 32 basic sets, 8 divisions or 48 rules in what is given */
+    PITSETS_OVERFLOW = 10,     /* a join over 8 divisions, a candidate or a state over 48 rules, or a 33rd basic set in the result */
     PITSETS_TABLE = 11,        /* the result is longer than its table, or there are more counts than places */
     PITSETS_POINT = 12,        /* a coordinate of a point or a box out of range, or an absent axis that is not 0 */
     PITSETS_LIMIT = 13,        /* the limit of a count is not 1 to 1,000,000 */
     PITSETS_FLEET_LIST = 16,   /* more than 64 points, or no whole number of points */
+    PITSETS_NAME = 18,         /* the name of a mark is over 15 or, in going back, no mark has it */
     PITSETS_AXIS = 19          /* the chosen axis is not 1 to n, or its side has over 64 values */
 };
 
@@ -91,11 +96,12 @@ static inline const char *pitsets_reason(int64_t number)
     case PITSETS_RANGE: return "number outside its range";
     case PITSETS_ABSENT: return "absent axis or division not 0";
     case PITSETS_TOO_MANY: return "over 32 basic sets, 8 divisions or 48 rules";
-    case PITSETS_OVERFLOW: return "join, candidate or result over its limit";
+    case PITSETS_OVERFLOW: return "join, candidate, state or result over its limit";
     case PITSETS_TABLE: return "result longer than its table";
     case PITSETS_POINT: return "coordinate out of range or absent axis not 0";
     case PITSETS_LIMIT: return "limit not 1 to 1000000";
     case PITSETS_FLEET_LIST: return "more than 64 points or no whole number of points";
+    case PITSETS_NAME: return "name over 15 or no such mark";
     case PITSETS_AXIS: return "chosen axis not 1 to n, or over 64 values";
     case -PITSETS_SPENT: return "limit spent";
     default: return "no such refusal";
@@ -179,6 +185,114 @@ static inline double pitsets_double(const pitsets_fraction *value)
 {
     return pitsets_wide_double(value->numerator) / pitsets_wide_double(value->denominator);
 }
+
+/* The state of a plan: one basic set in the making, to which rules are added one by one, how far the test for fractions
+ * has come with it, and up to 16 marks to go back to, under names 0 to 15.
+ *
+ *     static pitsets_state plan;                          zeros: no state yet
+ *     const int32_t up[8] = {1}, down[8] = {-1}, none[8] = {0};
+ *     pitsets_state_start(&plan, 2, NULL, 0);             two axes, no rule: point
+ *     pitsets_state_add(&plan, false, 240, down, none);   240 − x1 ≥ 0: point
+ *     pitsets_state_mark(&plan, 0);                       still point
+ *     pitsets_state_add(&plan, false, -300, up, none);    x1 − 300 ≥ 0: empty
+ *     pitsets_state_back(&plan, 0);                       point, and x1 goes up to 240 again
+ *
+ * Every call says how the state stands then (enum pitsets_said). That is of points with fractions: of whatever fractions
+ * x and q meet the rules and the bounds of the divisions q. Rules are taken as given and not tightened, so 2·x1 − 1 = 0
+ * is point, by x1 = 1/2, though no whole x1 meets it.
+ *   PITSETS_STATE_POINT   some such point meets all rules; a whole one need not.
+ *   PITSETS_STATE_EMPTY   none does, and so no whole one.
+ *   PITSETS_STATE_WIDE, PITSETS_STATE_LONG   not found out: the rules may leave a point or none.
+ * Once empty, wide or long, the state says so, whatever is added, until it goes back to a mark or is started anew. Rules
+ * added meanwhile are checked and count among the 48, and are not looked at: it may say wide where they leave no point.
+ * So on wide or long go back, and add the rules in another order, or simpler ones.
+ *
+ * A refused call, and one on a buffer without a state, leaves every byte of the buffer as it was. The same calls on
+ * equal buffers leave equal buffers. All is in the buffer, and nothing in it is an address: it may be copied as a whole
+ * (memcpy, assignment, a file), and the copies go on each by itself. Its members are the library's. Any bytes may be in
+ * it: a call comes to an end and stays within it, but what it says is true only of a buffer that these calls alone have
+ * written to since a start that was not refused, and of its copies.
+ * PITSETS_STATE_BYTES is its size, for a board that gets memory in its own way; it is much for a stack. */
+#define PITSETS_STATE_BYTES 326392
+#define PITSETS_STATE_ALIGN 8
+
+typedef struct {
+    uint64_t rows[17 * 64][36];
+    size_t place[17 * 80];
+    size_t heads[17 * 5 + 16];
+    uint8_t kinds[17 * 80];
+} pitsets_state;
+
+/* The most rules of a state, and how many names there are for marks. */
+#define PITSETS_STATE_RULES 48
+#define PITSETS_STATE_NAMES 16
+
+enum pitsets_said {
+    PITSETS_STATE_NONE = 0,  /* no state in the buffer: it was not started */
+    PITSETS_STATE_POINT = 1, /* some point with fractions meets the rules and the divisions' bounds */
+    PITSETS_STATE_EMPTY = 2, /* none does */
+    PITSETS_STATE_WIDE = 3,  /* not found out: a number on the way was over 2^63 − 1 */
+    PITSETS_STATE_LONG = 4   /* not found out: 200 pivots were not enough for one addition */
+};
+
+/* floor((constant + axes[0]·x1 + .. + axes[7]·x8) / divisor): the divisor is 1 to 32,767, the constant −1,000,000,000 to
+ * 1,000,000,000, coefficients are −32,767 to 32,767, those of absent axes 0. */
+typedef struct {
+    int32_t divisor, constant, axes[8];
+} pitsets_division;
+
+/* What the calls below hand the four parts of the buffer to. */
+int64_t pitsets_state_start_in(size_t n, const int32_t *divisions, size_t divisions_length, uint64_t (*rows)[36],
+                               size_t rows_length, size_t *place, size_t place_length, uint8_t *kinds,
+                               size_t kinds_length, size_t *heads, size_t heads_length);
+int64_t pitsets_state_add_in(bool equality, int32_t constant, const int32_t axes[8], const int32_t divisions[8],
+                             uint64_t (*rows)[36], size_t rows_length, size_t *place, size_t place_length,
+                             uint8_t *kinds, size_t kinds_length, size_t *heads, size_t heads_length);
+int64_t pitsets_state_mark_in(size_t name, uint64_t (*rows)[36], size_t rows_length, size_t *place, size_t place_length,
+                              uint8_t *kinds, size_t kinds_length, size_t *heads, size_t heads_length);
+int64_t pitsets_state_back_in(size_t name, uint64_t (*rows)[36], size_t rows_length, size_t *place, size_t place_length,
+                              uint8_t *kinds, size_t kinds_length, size_t *heads, size_t heads_length);
+
+#define PITSETS_STATE_PARTS(s) \
+    (s)->rows, sizeof (s)->rows / sizeof *(s)->rows, (s)->place, sizeof (s)->place / sizeof *(s)->place, \
+    (s)->kinds, sizeof (s)->kinds, (s)->heads, sizeof (s)->heads / sizeof *(s)->heads
+
+/* Starts anew, whatever is in the buffer: n axes, `count` divisions, no rules, no marks. `divisions` may be NULL where
+ * count is 0. Refusals: 1; then of each division as it comes 9 (it is the ninth), 6, 7, 8. */
+static inline int64_t pitsets_state_start(pitsets_state *state, size_t n, const pitsets_division *divisions, size_t count)
+{
+    static const pitsets_division none = {0, 0, {0}};
+    const int32_t *numbers = (const int32_t *)(count ? divisions : &none);
+    return pitsets_state_start_in(n, numbers, count * (sizeof *divisions / sizeof *numbers), PITSETS_STATE_PARTS(state));
+}
+
+/* Adds one rule: constant + axes[0]·x1 + .. + axes[7]·x8 + divisions[0]·q1 + .. + divisions[7]·q8 = 0 where `equality`
+ * is true, else ≥ 0. The test goes on from where the state stands, with 200 pivots for this rule. The constant is any
+ * number, an equality's not −2,147,483,648; coefficients are −32,767 to 32,767, those of absent axes and divisions 0.
+ * `axes` and `divisions` have eight numbers each, also where fewer are there. PITSETS_STATE_NONE comes before all
+ * refusals: 7, 8, 10 (a 49th rule, whatever the state says). */
+static inline int64_t pitsets_state_add(pitsets_state *state, bool equality, int32_t constant, const int32_t axes[8],
+                                        const int32_t divisions[8])
+{
+    return pitsets_state_add_in(equality, constant, axes, divisions, PITSETS_STATE_PARTS(state));
+}
+
+/* Marks the state under a name, 0 to 15, and says how it stands, which may be empty, wide or long. A name in use moves:
+ * its old mark is gone, and it counts as marked now. Refusal: 18, before PITSETS_STATE_NONE. */
+static inline int64_t pitsets_state_mark(pitsets_state *state, size_t name)
+{
+    return pitsets_state_mark_in(name, PITSETS_STATE_PARTS(state));
+}
+
+/* Goes back: the state is in every number the one that was marked, and whatever rule is added next is answered as it
+ * was, or would have been, then. The mark stays; the marks made after it, by the last marking of each name, are
+ * forgotten. Says how the state stood. Refusal: 18, before all else, also for a mark that is forgotten. */
+static inline int64_t pitsets_state_back(pitsets_state *state, size_t name)
+{
+    return pitsets_state_back_in(name, PITSETS_STATE_PARTS(state));
+}
+
+#undef PITSETS_STATE_PARTS
 
 /* n coordinates as eight, those of absent axes 0. */
 static inline void pitsets_eight(size_t n, const int32_t *given, int32_t eight[8])

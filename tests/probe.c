@@ -7,6 +7,9 @@
 #include <stdlib.h>
 #include <string.h>
 
+#include "line.h"
+#include "walking.h"
+
 typedef struct { uint8_t *bytes; size_t length; } table;
 
 #define EIGHT int32_t, int32_t, int32_t, int32_t, int32_t, int32_t, int32_t, int32_t
@@ -32,15 +35,6 @@ size_t probe_intersection(size_t, const uint8_t *, size_t, const uint8_t *, size
 size_t probe_difference(size_t, const uint8_t *, size_t, const uint8_t *, size_t, uint8_t *, size_t);
 size_t probe_complement(size_t, const uint8_t *, size_t, uint8_t *, size_t);
 
-static char *word(char **rest)
-{
-    char *w = strtok_r(NULL, " \n", rest);
-    if (!w) { puts("bad line"); exit(2); }
-    return w;
-}
-
-static int digit(char c) { return c <= '9' ? c - '0' : c - 'a' + 10; }
-
 static table bytes(char **rest)
 {
     char *w = word(rest);
@@ -51,8 +45,6 @@ static table bytes(char **rest)
     for (size_t i = 0; i < t.length; i++) t.bytes[i] = (uint8_t)(digit(w[2 * i]) * 16 + digit(w[2 * i + 1]));
     return t;
 }
-
-static size_t number(char **rest) { return strtoull(word(rest), NULL, 10); }
 
 static void eight(char **rest, int32_t x[8])
 {
@@ -137,7 +129,7 @@ static void fleet(char **rest)
     int32_t *list = malloc((strlen(*rest) / 2 + 1) * sizeof *list);
     uint64_t mask = ~(uint64_t)0;
     if (!list) exit(2);
-    for (char *w; (w = strtok_r(NULL, " \n", rest)); ) list[count++] = (int32_t)strtol(w, NULL, 10);
+    for (char *w; (w = word_or_end(rest)); ) list[count++] = (int32_t)strtol(w, NULL, 10);
     uint64_t r = probe_fleet(n, t.bytes, t.length, list, count, &mask);
     if (r >= 100 && mask) puts("a mask after a refusal");
     else if (r >= 100) printf("refused %" PRIu64 "\n", r - 100);
@@ -355,6 +347,7 @@ int main(void)
         else if (!strcmp(w, "counts")) counts(&rest);
         else if (!strcmp(w, "greatest")) value(&rest, probe_greatest);
         else if (!strcmp(w, "least")) value(&rest, probe_least);
+        else if (!strcmp(w, "states")) states(&rest);
         else if (!strcmp(w, "union")) of_two(&rest, probe_union);
         else if (!strcmp(w, "intersection")) of_two(&rest, probe_intersection);
         else if (!strcmp(w, "difference")) of_two(&rest, probe_difference);

@@ -6,3 +6,4 @@ pub mod Ways
 pub mod Fleets
 pub mod Extremes
 pub mod Valued
+pub mod Plans

@@ -17,6 +17,12 @@ use Rattle.fleet.specs.Fleet.{Fleet}
 use Rattle.fleet.specs.Looking.{maskIn}
 use Rattle.optimum.specs.Value.{Extreme, empty, unbounded, tooWide, tooLong, attained}
 use Rattle.extremes.specs.Words.{valueWords}
+use Rattle.model.specs.Sets.{Constraint}
+use Rattle.model.specs.Values.{kindIs}
+use Rattle.memory.specs.Memory.{Memory}
+use Rattle.states.specs.Calls.{Step}
+use Rattle.states.specs.declared.Said.{Said}
+use Rattle.states.specs.declared.Said.the-variants.{Point, Empty, Wide, Long, Refused as RefusedBy, Misused}
 
 abbrev pub memberNumber : Answer Bool → ℤ
 memberNumber (refused k) = negℤ (pos k)
@@ -86,3 +92,21 @@ pub record ValueHosted (a : Answer Extreme) (r : ℤ) (words : List ℕ) : Type 
 -- a number of two words as C has it: the higher one signed
 abbrev pub wideOf : ℕ → ℕ → ℤ
 wideOf low high = toZ w64 high *ℤ pos 18446744073709551616 +ℤ pos low
+
+-- of a state (02, request 8): its word, 0 where there is no state
+abbrev pub saidNumber : Said → ℤ
+saidNumber Misused = pos 0
+saidNumber Point = pos 1
+saidNumber Empty = pos 2
+saidNumber Wide = pos 3
+saidNumber Long = pos 4
+saidNumber (RefusedBy k) = negℤ (pos k)
+
+-- a rule's numbers
+abbrev pub ruleBy : Bool → ℤ → List ℤ → List ℤ → Constraint
+ruleBy equality constant axes divisions = record { kind = kindIs equality; constant = constant; axes = axes; divisions = divisions }
+
+-- the contract of a call on a state that is `a`: the number r, and every word of the four tables after the call
+pub record StateHosted (a : Step) (r : ℤ) (tables : Memory) : Type 0 where
+  pub number : r ≡ saidNumber (a .said)
+  pub words : tables ≡ a .memory

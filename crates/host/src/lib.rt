@@ -3,6 +3,7 @@ mod asking;
 mod counts;
 mod looking;
 mod operating;
+mod stepping;
 mod values;
 
 pub use asking::pitsets_member;
@@ -13,5 +14,9 @@ pub use operating::pitsets_complement;
 pub use operating::pitsets_difference;
 pub use operating::pitsets_intersection;
 pub use operating::pitsets_union;
+pub use stepping::pitsets_state_add_in;
+pub use stepping::pitsets_state_back_in;
+pub use stepping::pitsets_state_mark_in;
+pub use stepping::pitsets_state_start_in;
 pub use values::pitsets_greatest;
 pub use values::pitsets_least;

@@ -1,0 +1,263 @@
+/* `states STEP ; STEP ..` of the line mode, for calls.c and tests/probe.c: a walk over one pitsets_state, step by step,
+ * and what include/pitsets.h says of the buffer:
+ *   - a call that is refused or finds no state leaves every byte: a second buffer, which gets the other calls alone, has
+ *     the bytes of the first after every step, and says the same;
+ *   - a start needs nothing of what is in the buffer: a third one, full of other bytes, says the same from a start on;
+ *   - going back restores every number: the additions made since the mark, made again on a copy, say what they said and
+ *     lead to the same bytes of the state;
+ *   - nothing is written beside the buffer.
+ * What is broken is told and ends the program. */
+#ifndef WALKING_H
+#define WALKING_H
+
+#include <inttypes.h>
+
+#include "line.h"
+#include "pitsets.h"
+
+enum { DIVISION_BYTES = 23, RULE_BYTES = 37, EDGE = 9, DIRTY = 0xA5 };
+enum step_kind { START, ADD, MARK_AS, BACK_TO };
+
+typedef struct {
+    bool equality;
+    int32_t constant, axes[8], divisions[8];
+} rule;
+
+/* `number` is that of the axes, or a name */
+typedef struct {
+    enum step_kind kind;
+    size_t number, count;
+    pitsets_division *divisions;
+    rule rule;
+} step;
+
+/* A buffer between words that no call writes. Its size is an odd multiple of 8: of two in a row only one is at an
+ * address that 16 divides. */
+typedef struct {
+    uint64_t before[EDGE];
+    pitsets_state state;
+    uint64_t behind[EDGE];
+} lent_state;
+
+/* the state, without its marks */
+typedef struct {
+    uint64_t rows[64][36];
+    size_t place[80];
+    size_t heads[5];
+    uint8_t kinds[80];
+} state_slot;
+
+/* the additions since a mark, what they said, and what they led to */
+typedef struct {
+    bool open;
+    size_t count;
+    rule added[PITSETS_STATE_RULES];
+    int64_t said[PITSETS_STATE_RULES];
+    state_slot after;
+} trail;
+
+/* the header's figures */
+typedef char size_told[sizeof(pitsets_state) == PITSETS_STATE_BYTES ? 1 : -1];
+typedef char alignment_told[__alignof__(pitsets_state) == PITSETS_STATE_ALIGN ? 1 : -1];
+
+static struct {
+    lent_state first, second, third, again;
+    trail since[PITSETS_STATE_NAMES];
+    bool started;
+} walk;
+
+static void broken(const char *what)
+{
+    puts(what);
+    exit(2);
+}
+
+static void lend_state(lent_state *l, int byte)
+{
+    memset(l, DIRTY, sizeof *l);
+    memset(&l->state, byte, sizeof l->state);
+}
+
+static void edges_kept(const lent_state *l)
+{
+    for (int i = 0; i < EDGE; i++)
+        if (l->before[i] != UINT64_C(0xA5A5A5A5A5A5A5A5) || l->behind[i] != l->before[i]) broken("wrote beside a state");
+}
+
+static int64_t little_endian(const uint8_t *p, int bytes)
+{
+    int64_t value = 0;
+    for (int i = 0; i < bytes; i++) value |= (int64_t)p[i] << (8 * i);
+    return value - ((value >> (8 * bytes - 1)) << (8 * bytes));
+}
+
+/* the commands in the next word, each of so many bytes; `-` is none */
+static uint8_t *commands(char **rest, size_t width, size_t *count)
+{
+    char *w = word(rest);
+    size_t length = strcmp(w, "-") ? strlen(w) / 2 : 0;
+    uint8_t *bytes = malloc(length + 1);
+    if (!bytes) exit(2);
+    for (size_t i = 0; i < length; i++) bytes[i] = (uint8_t)(digit(w[2 * i]) * 16 + digit(w[2 * i + 1]));
+    if (length % width) broken("bad line");
+    *count = length / width;
+    return bytes;
+}
+
+static void take_divisions(char **rest, step *s)
+{
+    uint8_t *bytes = commands(rest, DIVISION_BYTES, &s->count);
+    s->divisions = malloc(s->count * sizeof *s->divisions + 1);
+    if (!s->divisions) exit(2);
+    for (size_t k = 0; k < s->count; k++) {
+        const uint8_t *p = bytes + k * DIVISION_BYTES;
+        pitsets_division *d = &s->divisions[k];
+        if (p[0] != 0x12) broken("bad line");
+        d->divisor = p[1] | p[2] << 8;
+        d->constant = (int32_t)little_endian(p + 3, 4);
+        for (int i = 0; i < 8; i++) d->axes[i] = (int32_t)little_endian(p + 7 + 2 * i, 2);
+    }
+    free(bytes);
+}
+
+static void take_rule(char **rest, rule *r)
+{
+    size_t count;
+    uint8_t *p = commands(rest, RULE_BYTES, &count);
+    if (count != 1 || (p[0] != 0x13 && p[0] != 0x14)) broken("bad line");
+    r->equality = p[0] == 0x13;
+    r->constant = (int32_t)little_endian(p + 1, 4);
+    for (int i = 0; i < 8; i++) r->axes[i] = (int32_t)little_endian(p + 5 + 2 * i, 2);
+    for (int i = 0; i < 8; i++) r->divisions[i] = (int32_t)little_endian(p + 21 + 2 * i, 2);
+    free(p);
+}
+
+static step take_step(char **rest)
+{
+    char *w = word(rest);
+    step s = {.kind = START};
+    if (!strcmp(w, "add")) {
+        s.kind = ADD;
+        take_rule(rest, &s.rule);
+        return s;
+    }
+    s.number = number(rest);
+    if (!strcmp(w, "start")) take_divisions(rest, &s);
+    else if (!strcmp(w, "mark")) s.kind = MARK_AS;
+    else if (!strcmp(w, "back")) s.kind = BACK_TO;
+    else broken("bad line");
+    return s;
+}
+
+static int64_t add_rule(pitsets_state *y, const rule *r)
+{
+    return pitsets_state_add(y, r->equality, r->constant, r->axes, r->divisions);
+}
+
+static int64_t make_step(pitsets_state *y, const step *s)
+{
+    switch (s->kind) {
+    case START: return pitsets_state_start(y, s->number, s->divisions, s->count);
+    case ADD: return add_rule(y, &s->rule);
+    case MARK_AS: return pitsets_state_mark(y, s->number);
+    default: return pitsets_state_back(y, s->number);
+    }
+}
+
+static void keep_slot(state_slot *to, const pitsets_state *y)
+{
+    memcpy(to->rows, y->rows, sizeof to->rows);
+    memcpy(to->place, y->place, sizeof to->place);
+    memcpy(to->heads, y->heads, sizeof to->heads);
+    memcpy(to->kinds, y->kinds, sizeof to->kinds);
+}
+
+static bool same_slot(const state_slot *kept, const pitsets_state *y)
+{
+    return !memcmp(kept->rows, y->rows, sizeof kept->rows) && !memcmp(kept->place, y->place, sizeof kept->place) &&
+           !memcmp(kept->heads, y->heads, sizeof kept->heads) && !memcmp(kept->kinds, y->kinds, sizeof kept->kinds);
+}
+
+/* trails end where the state goes elsewhere */
+static void end_trails(const pitsets_state *y)
+{
+    for (trail *t = walk.since; t < walk.since + PITSETS_STATE_NAMES; t++) {
+        if (t->open) keep_slot(&t->after, y);
+        t->open = false;
+    }
+}
+
+static void trail_again(const trail *t)
+{
+    walk.again = walk.first;
+    for (size_t i = 0; i < t->count; i++)
+        if (add_rule(&walk.again.state, &t->added[i]) != t->said[i]) broken("added again, says another word");
+    if (!same_slot(&t->after, &walk.again.state)) broken("added again, other bytes");
+}
+
+static void begin_trail(trail *t)
+{
+    t->open = true;
+    t->count = 0;
+}
+
+/* what was said to a step that is made, for the trails */
+static void remember(const step *s, int64_t said)
+{
+    if (s->kind == BACK_TO) trail_again(&walk.since[s->number]);
+    if (s->kind == BACK_TO || s->kind == MARK_AS) begin_trail(&walk.since[s->number]);
+    if (s->kind != ADD) return;
+    for (trail *t = walk.since; t < walk.since + PITSETS_STATE_NAMES; t++) {
+        if (!t->open) continue;
+        t->added[t->count] = s->rule;
+        t->said[t->count++] = said;
+    }
+}
+
+/* the step on the three buffers */
+static int64_t walk_on(const step *s)
+{
+    int64_t said = make_step(&walk.first.state, s);
+    if (said > 0) {
+        if (s->kind == START || s->kind == BACK_TO) end_trails(&walk.second.state);
+        if (make_step(&walk.second.state, s) != said) broken("the same call says another word");
+        walk.started = true;
+    }
+    if (memcmp(&walk.first, &walk.second, sizeof walk.first)) {
+        broken(said > 0 ? "the same calls, other bytes" : "a call that was not made changed the buffer");
+    }
+    if (walk.started && make_step(&walk.third.state, s) != said) broken("another word over other bytes");
+    edges_kept(&walk.first);
+    edges_kept(&walk.third);
+    if (said > 0) remember(s, said);
+    return said;
+}
+
+static void print_said(int64_t said)
+{
+    static const char *const words[] = {"none", "point", "empty", "wide", "long"};
+    if (said < 0) printf("refused %" PRId64, -said);
+    else if (said > PITSETS_STATE_LONG) broken("bad result");
+    else printf("%s", words[said]);
+}
+
+static void states(char **rest)
+{
+    lend_state(&walk.first, 0);
+    lend_state(&walk.second, 0);
+    lend_state(&walk.third, DIRTY);
+    walk.started = false;
+    for (trail *t = walk.since; t < walk.since + PITSETS_STATE_NAMES; t++) t->open = false;
+    for (;;) {
+        step s = take_step(rest);
+        print_said(walk_on(&s));
+        free(s.divisions);
+        char *w = word_or_end(rest);
+        if (!w) break;
+        if (strcmp(w, ";")) broken("bad line");
+        printf(" ; ");
+    }
+    puts("");
+}
+
+#endif
