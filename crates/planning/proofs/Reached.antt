@@ -97,7 +97,7 @@ added-axes s r = at (s .says)
 add-follows : (r : Constraint) (b : BasicSet) (s s′ : State) → Belongs b s → adds r s ≡ gives s′ → (b′ : BasicSet) × (setAdds r b ≡ gives b′) × Belongs b′ s′
 add-follows r b s s′ h q =
     let u = unless-gives (ruleRefusal s r) (added s r) s′ q in
-    let t = all-passed (ruleTests s r) tt (u .0) in
+    let t = all-passed (ruleTests (s .axes) (s .divisions) (s .rules) r) tt (u .0) in
     let l : s .rules < 48 = ltb→lt (s .rules) 48 (t .1 .1 .0) in
     let e : s .rules ≡ length (b .constraints) = account b s (h .stands) .counts in
     let k = length-append (b .constraints) (r ∷ []) in

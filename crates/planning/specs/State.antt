@@ -101,16 +101,16 @@ divisionsRefusal n i (e ∷ ds) =
 abbrev pub startRefusal : ℕ → List Division → ℕ
 startRefusal n ds = cond (axesFit n) (divisionsRefusal n 0 ds) 1
 
--- "A 49th rule is 10, after 7 and 8"
-abbrev pub ruleTests : State → Constraint → List (Bool × ℕ)
-ruleTests s r =
+-- "A 49th rule is 10, after 7 and 8": over n axes and k divisions, with so many rules
+abbrev pub ruleTests : ℕ → ℕ → ℕ → Constraint → List (Bool × ℕ)
+ruleTests n k rules r =
     (constantFits (r .kind) (r .constant) && (all coefficient (r .axes) && all coefficient (r .divisions)), 7)
-    ∷ (absent (s .axes) (r .axes) && absent (s .divisions) (r .divisions), 8)
-    ∷ (ltb (s .rules) 48, 10)
+    ∷ (absent n (r .axes) && absent k (r .divisions), 8)
+    ∷ (ltb rules 48, 10)
     ∷ []
 
 abbrev pub ruleRefusal : State → Constraint → ℕ
-ruleRefusal s r = firstFailing (ruleTests s r)
+ruleRefusal s r = firstFailing (ruleTests (s .axes) (s .divisions) (s .rules) r)
 
 abbrev pub unless : {A : Type 0} → ℕ → A → Answer A
 unless zero a = gives a

@@ -420,7 +420,7 @@ module _ (d : Desk State) (g : Kept d) (y : Memory) (h : Shows d y) (r : Constra
 
       at : (c : ℕ) → ruleRefusal (d .now) r ≡ c → Meets (λ j. ⊥) (renewed (unless c (addedAt 128 (d .now) r)) d) d y (addStep r y)
       at zero e =
-          let t = all-passed (ruleTests (d .now) r) tt e in
+          let t = all-passed (ruleTests (d .now .axes) (d .now .divisions) (d .now .rules) r) tt e in
           let a = all coefficient (r .axes) in
           let b = all coefficient (r .divisions) in
           let u = and-right (constantFits (r .kind) (r .constant)) (a && b) (t .0) in

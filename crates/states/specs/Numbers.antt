@@ -1,14 +1,12 @@
 -- The numbers of rules and divisions as the calls take them (document 02, request 8).
-use mathlib.Core.Bool.{_&&_}
 use mathlib.Core.List.{List, [], _∷_}
 use Prim.Native.Nat.{ℕ, zero, suc}
-use lib.Dec.{ltb}
 use lib.IntN.{ℤ, pos, negsuc}
 use lib.ListN.{getD, take, drop}
-use Rattle.model.specs.Lists.{all}
-use Rattle.model.specs.Sets.{Division, Constraint, absent}
+use Rattle.model.specs.Sets.{Division, Constraint}
 use Rattle.model.specs.Values.{kindIs}
-use Rattle.codec.specs.Bytes.{coefficient, constantFits, firstFailing}
+use Rattle.codec.specs.Bytes.{firstFailing}
+use Rattle.planning.specs.State.{ruleTests}
 use Rattle.states.specs.declared.Rule.{Rule}
 use Rattle.states.specs.declared.Quotient.{Quotient}
 
@@ -16,14 +14,9 @@ use Rattle.states.specs.declared.Quotient.{Quotient}
 abbrev pub ruleOf : Rule → Constraint
 ruleOf r = record { kind = kindIs (r .equality); constant = r .constant; axes = r .axes; divisions = r .divisions }
 
--- "A 49th rule is 10, after 7 and 8": over n axes and k divisions, with so many rules; 0 for none
+-- over n axes and k divisions, with so many rules; 0 for none
 abbrev pub ruleNumber : ℕ → ℕ → ℕ → Constraint → ℕ
-ruleNumber n k rules r =
-    firstFailing
-    ((constantFits (r .kind) (r .constant) && (all coefficient (r .axes) && all coefficient (r .divisions)), 7)
-    ∷ (absent n (r .axes) && absent k (r .divisions), 8)
-    ∷ (ltb rules 48, 10)
-    ∷ [])
+ruleNumber n k rules r = firstFailing (ruleTests n k rules r)
 
 -- a divisor below 0 is refused as 0 is
 abbrev pub unsigned : ℤ → ℕ
