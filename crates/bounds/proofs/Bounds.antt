@@ -1,11 +1,11 @@
 -- The ends of the values of divisions and constraints, and the loops over those of a basic set.
 use mathlib.Core.Path.{_≡_, refl, sym, ap, ap₂, _∙_, subst}
-use mathlib.Core.Bool.{Bool, true, false, _&&_, _||_}
+use mathlib.Core.Bool.{Bool, true, false, _&&_}
 use mathlib.Core.List.{List, [], _∷_, _++_, map, append-assoc, append-nil}
 use Prim.Native.Nat.{ℕ, _+_, _-_, _*_, _≤_, _<_}
 use native.Mathlib.Numerals.{add-one}
 use native.Mathlib.Omega.{arith}
-use lib.Dec.{ltb→lt, eqb}
+use lib.Dec.{ltb→lt}
 use lib.IntN.{ℤ, pos, negsuc, _+ℤ_, +ℤ-assoc}
 use lib.Signed.{nonNeg, leZ, _<ℤ_, _≤ℤ_}
 use lib.ListN.{length, take, drop, getD, set, length-set, length-take}
@@ -13,14 +13,14 @@ use lib.Seq.{take-suc-set}
 use Rattle.integers.specs.Z.{Within}
 use Rattle.model.specs.Lists.{all}
 use Rattle.model.specs.Sets.{Division, Kind, equality, inequality, Constraint, floorDiv}
-use Rattle.codec.specs.Bytes.{division, constraint, Counts, counted, readDivision, readConstraint, kindOf, Built}
-use Rattle.codec.specs.Places.{built, Checked, opened, Opened}
+use Rattle.codec.specs.Bytes.{division, constraint, isDivision, isConstraint, Counts, counted, Built}
+use Rattle.codec.specs.Places.{built, divisionAt, constraintAt, nextOf, endOf, Checked, opened, Opened, Tail, Past}
+use Rattle.codec.proofs.Standing.{DivisionAt, ConstraintAt, division-at, constraint-at, no-division, no-constraint}
 use Rattle.bounds.specs.Intervals.{Interval, only, plus, quotientSide, valueSide, canMeet, boxOf}
-use Rattle.bounds.specs.Ends.{AllWithin, Tail}
-use Rattle.bounds.specs.Ends.{side, best, gain, Ends, Bounded, Past, meetSide}
+use Rattle.bounds.specs.Ends.{AllWithin}
+use Rattle.bounds.specs.Ends.{side, best, gain, Ends, Bounded, meetSide}
 use Rattle.bounds.specs.Rows.{formsOf, rowForms, Settled}
 use Rattle.bounds.proofs.Reading.{set-within, all-mono}
-use Rattle.bounds.proofs.Standing.{DivisionAt, ConstraintAt, division-at, constraint-at, no-division, no-constraint}
 use Rattle.bounds.proofs.Forms.{formsFrom, few-forms, Headed, headed}
 use Rattle.bounds.proofs.Sides.{from, to, settled-least, settled-greatest}
 use Rattle.bounds.proofs.Extremes.{box-ends}
@@ -100,7 +100,7 @@ pub record Bounding (s : List ℕ) (start : ℕ) (xs : List Interval) (at d : �
   pub here : Checked n s at k
   pub counts : k .divisions ≡ d
   pub few : d ≤ 8
-  pub place : at ≡ start + 23 * d
+  pub end : endOf s at ≡ endOf s start
   pub lows : length low ≡ 8
   pub highs : length high ≡ 8
   pub low-size : AllWithin 549755813888 low
@@ -118,7 +118,7 @@ bounding-start s start xs low high o l h v w =
       here = o .here;
       counts = refl;
       few = omega arith;
-      place = omega arith;
+      end = refl;
       lows = l;
       highs = h;
       low-size = v;
@@ -130,51 +130,51 @@ bounding-start s start xs low high o l h v w =
     }
 
 module _ (s : List ℕ) (start : ℕ) (xs : List Interval) (at d : ℕ) (low high : List ℤ) (g : Bounding s start xs at d low high) where
-  pub bounding-at : getD s at 0 ≡ 18 → DivisionAt (g .n) s at (g .k)
+  pub bounding-at : isDivision (getD s at 0) ≡ true → DivisionAt (g .n) s at (g .k)
   bounding-at e = division-at (g .n) s at (g .k) (g .here) e
 
-  bounding-head : getD s at 0 ≡ 18 → Headed (formsFrom s start) d [] (readDivision (drop (at + 1) s) .axes) (formsFrom s (at + 23))
+  bounding-head : isDivision (getD s at 0) ≡ true → Headed (formsFrom s start) d [] (divisionAt s at .axes) (formsFrom s (nextOf s at))
   bounding-head e = headed (formsFrom s start) d [] _ _ (g .forms ∙ ap (λ (u : Built). formsOf (u .divisions) (u .constraints)) (bounding-at e .builds))
 
-  pub bounding-form : getD s at 0 ≡ 18 → getD (formsFrom s start) d [] ≡ readDivision (drop (at + 1) s) .axes
+  pub bounding-form : isDivision (getD s at 0) ≡ true → getD (formsFrom s start) d [] ≡ divisionAt s at .axes
   bounding-form e = bounding-head e .is
 
-  pub bounding-next : getD s at 0 ≡ 18 → (l h : ℤ) → quotientSide xs (readDivision (drop (at + 1) s)) ≡ side l h → Within 549755813888 l → Within 549755813888 h
-      → Bounding s start xs (at + 23) (d + 1) (set low d l) (set high d h)
+  pub bounding-next : isDivision (getD s at 0) ≡ true → (l h : ℤ) → quotientSide xs (divisionAt s at) ≡ side l h → Within 549755813888 l → Within 549755813888 h
+      → Bounding s start xs (nextOf s at) (d + 1) (set low d l) (set high d h)
   bounding-next e l h p wl wh =
       let b = bounding-at e in
-      let f = b .few in let a = g .counts in let o = g .place in let ll = g .lows in let lh = g .highs in let t = g .total in
+      let f = b .few in let a = g .counts in let ll = g .lows in let lh = g .highs in let t = g .total in
       let jl : d < length low = omega arith in let jh : d < length high = omega arith in
-      let y : map (quotientSide xs) (built (drop at s) .divisions) ≡ side l h ∷ map (quotientSide xs) (built (drop (at + 23) s) .divisions) =
-      ap (λ (u : Built). map (quotientSide xs) (u .divisions)) (b .builds) ∙ ap (λ (i : Interval). i ∷ map (quotientSide xs) (built (drop (at + 23) s) .divisions)) p in
+      let y : map (quotientSide xs) (built (drop at s) .divisions) ≡ side l h ∷ map (quotientSide xs) (built (drop (nextOf s at) s) .divisions) =
+      ap (λ (u : Built). map (quotientSide xs) (u .divisions)) (b .builds) ∙ ap (λ (i : Interval). i ∷ map (quotientSide xs) (built (drop (nextOf s at) s) .divisions)) p in
       let z : length (take d low) ≡ length (take d high) = omega (arith, length-take d low, length-take d high) in
-      let rest : List Interval = map (quotientSide xs) (built (drop (at + 23) s) .divisions) in
+      let rest : List Interval = map (quotientSide xs) (built (drop (nextOf s at) s) .divisions) in
       record {
         n = g .n;
-        k = counted (g .k) (division (readDivision (drop (at + 1) s)));
+        k = counted (g .k) (division (divisionAt s at));
         here = b .there;
         counts = ap (λ (m : ℕ). m + 1) a;
         few = omega arith;
-        place = omega arith;
+        end = b .end ∙ g .end;
         lows = length-set low d l ∙ ll;
         highs = length-set high d h ∙ lh;
         low-size = set-within 549755813888 low d l (g .low-size) wl jl;
         high-size = set-within 549755813888 high d h (g .high-size) wh jh;
         is =
-            ap (λ (m : ℕ). boxOf (take m (set low d l)) (take m (set high d h)) ++ map (quotientSide xs) (built (drop (at + 23) s) .divisions)) (add-one d)
-            ∙ ap₂ (λ (u v : List ℤ). boxOf u v ++ map (quotientSide xs) (built (drop (at + 23) s) .divisions)) (take-suc-set low d l jl) (take-suc-set high d h jh)
-            ∙ ap (λ (u : List Interval). u ++ map (quotientSide xs) (built (drop (at + 23) s) .divisions)) (box-snoc (take d low) (take d high) l h z)
-            ∙ append-assoc (boxOf (take d low) (take d high)) (side l h ∷ []) (map (quotientSide xs) (built (drop (at + 23) s) .divisions))
+            ap (λ (m : ℕ). boxOf (take m (set low d l)) (take m (set high d h)) ++ map (quotientSide xs) (built (drop (nextOf s at) s) .divisions)) (add-one d)
+            ∙ ap₂ (λ (u v : List ℤ). boxOf u v ++ map (quotientSide xs) (built (drop (nextOf s at) s) .divisions)) (take-suc-set low d l jl) (take-suc-set high d h jh)
+            ∙ ap (λ (u : List Interval). u ++ map (quotientSide xs) (built (drop (nextOf s at) s) .divisions)) (box-snoc (take d low) (take d high) l h z)
+            ∙ append-assoc (boxOf (take d low) (take d high)) (side l h ∷ []) (map (quotientSide xs) (built (drop (nextOf s at) s) .divisions))
             ∙ ap (λ (u : List Interval). boxOf (take d low) (take d high) ++ u) (sym y) ∙ g .is;
         forms = bounding-head e .more;
         total = omega (arith, ap (λ (u : Built). length (u .divisions)) (b .builds));
         same = sym (ap (λ (u : Built). u .constraints) (b .builds)) ∙ g .same;
       }
 
-  pub bounding-end : (getD s at 0 ≡ 18 → ⊥) → Bounded s start xs low high d
+  pub bounding-end : isDivision (getD s at 0) ≡ false → Bounded s start xs low high (record { count = d; next = at })
   bounding-end e =
       let z = no-division (g .n) s at (g .k) (g .here) e in
-      let t = g .total in let p = g .place in
+      let t = g .total in
       record {
         few = g .few;
         count = omega (arith, ap (λ (l : List Division). length l) z);
@@ -183,8 +183,7 @@ module _ (s : List ℕ) (start : ℕ) (xs : List Interval) (at d : ℕ) (low hig
         highs = g .highs;
         low-size = g .low-size;
         high-size = g .high-size;
-        there = subst (Tail s) p (record { n = g .n; k = g .k; here = g .here; none = z });
-        same = ap (λ (i : ℕ). built (drop i s) .constraints) (sym p) ∙ g .same;
+        past = record { there = record { n = g .n; k = g .k; here = g .here; none = z }; same = g .same; end = g .end };
       }
 
 -- ---- the constraints
@@ -199,32 +198,32 @@ forms-past : (es : List Division) (cs : List Constraint) → drop (length es) (f
 forms-past [] cs = refl
 forms-past (e ∷ es) cs = forms-past es cs
 
-pub opening-start : (s : List ℕ) (start d : ℕ) (ok : Constraint → Bool) → Opened s start → Past s start d → Opening s start ok (start + 23 * d) d
-opening-start s start d ok o p =
+pub opening-start : (s : List ℕ) (start next d : ℕ) (ok : Constraint → Bool) → Opened s start → Past s start next → d ≡ length (built (drop start s) .divisions) → Opening s start ok next d
+opening-start s start next d ok o p q =
     record {
       tail = p .there;
       few = few-forms s start o;
       forms =
-          ap (λ (m : ℕ). drop m (formsFrom s start)) (p .count) ∙ forms-past (built (drop start s) .divisions) (built (drop start s) .constraints)
+          ap (λ (m : ℕ). drop m (formsFrom s start)) q ∙ forms-past (built (drop start s) .divisions) (built (drop start s) .constraints)
           ∙ ap₂ formsOf (sym (p .there .none)) (sym (p .same));
       is = ap (all ok) (p .same);
       part = λ q e. ap (all q) (sym (p .same)) ∙ e;
     }
 
 module _ (s : List ℕ) (start : ℕ) (ok : Constraint → Bool) (at i : ℕ) (g : Opening s start ok at i) where
-  pub opening-at : (eqb (getD s at 0) 19 || eqb (getD s at 0) 20) ≡ true → ConstraintAt (g .tail .n) s at (g .tail .k)
+  pub opening-at : isConstraint (getD s at 0) ≡ true → ConstraintAt (g .tail .n) s at (g .tail .k)
   opening-at e = constraint-at (g .tail .n) s at (g .tail .k) (g .tail .here) e
 
-  module _ (e : (eqb (getD s at 0) 19 || eqb (getD s at 0) 20) ≡ true) where
+  module _ (e : isConstraint (getD s at 0) ≡ true) where
     abbrev c : Constraint
-    c = readConstraint (kindOf (getD s at 0)) (drop (at + 1) s)
+    c = constraintAt s at
 
-    head : Headed (formsFrom s start) i [] (c .axes) (formsFrom s (at + 37))
+    head : Headed (formsFrom s start) i [] (c .axes) (formsFrom s (nextOf s at))
     head =
         let h = opening-at e in
         headed (formsFrom s start) i [] _ _
-        (g .forms ∙ ap (λ (u : Built). formsOf (u .divisions) (u .constraints)) (h .builds) ∙ ap (λ (es : List Division). formsOf es (c ∷ built (drop (at + 37) s) .constraints)) (h .later)
-        ∙ ap (λ (es : List Division). c .axes ∷ formsOf es (built (drop (at + 37) s) .constraints)) (sym (h .later)))
+        (g .forms ∙ ap (λ (u : Built). formsOf (u .divisions) (u .constraints)) (h .builds) ∙ ap (λ (es : List Division). formsOf es (c ∷ built (drop (nextOf s at) s) .constraints)) (h .later)
+        ∙ ap (λ (es : List Division). c .axes ∷ formsOf es (built (drop (nextOf s at) s) .constraints)) (sym (h .later)))
 
     pub opening-form : getD (formsFrom s start) i [] ≡ c .axes
     opening-form = head .is
@@ -232,26 +231,26 @@ module _ (s : List ℕ) (start : ℕ) (ok : Constraint → Bool) (at i : ℕ) (g
     pub opening-few : i < 56
     opening-few = let a = g .few in let b = head .inside in omega arith
 
-    step : all ok (built (drop start s) .constraints) ≡ (ok c && all ok (built (drop (at + 37) s) .constraints))
+    step : all ok (built (drop start s) .constraints) ≡ (ok c && all ok (built (drop (nextOf s at) s) .constraints))
     step = sym (g .is) ∙ ap (λ (u : Built). all ok (u .constraints)) (opening-at e .builds)
 
     pub opening-stop : ok c ≡ false → false ≡ all ok (built (drop start s) .constraints)
-    opening-stop q = ap (λ (b : Bool). b && all ok (built (drop (at + 37) s) .constraints)) (sym q) ∙ sym step
+    opening-stop q = ap (λ (b : Bool). b && all ok (built (drop (nextOf s at) s) .constraints)) (sym q) ∙ sym step
 
     -- any test that it fails
     pub opening-falls : (p : Constraint → Bool) → p c ≡ false → all p (built (drop start s) .constraints) ≡ false
-    opening-falls p q = g .part p (ap (λ (u : Built). all p (u .constraints)) (opening-at e .builds) ∙ ap (λ (b : Bool). b && all p (built (drop (at + 37) s) .constraints)) q)
+    opening-falls p q = g .part p (ap (λ (u : Built). all p (u .constraints)) (opening-at e .builds) ∙ ap (λ (b : Bool). b && all p (built (drop (nextOf s at) s) .constraints)) q)
 
-    pub opening-next : ok c ≡ true → Opening s start ok (at + 37) (i + 1)
+    pub opening-next : ok c ≡ true → Opening s start ok (nextOf s at) (i + 1)
     opening-next q =
         let h = opening-at e in
         record {
           tail = record { n = g .tail .n; k = counted (g .tail .k) (constraint c); here = h .there; none = h .later };
           few = g .few;
           forms = head .more;
-          is = ap (λ (b : Bool). b && all ok (built (drop (at + 37) s) .constraints)) (sym q) ∙ sym step;
+          is = ap (λ (b : Bool). b && all ok (built (drop (nextOf s at) s) .constraints)) (sym q) ∙ sym step;
           part = λ p f. g .part p (ap (λ (u : Built). all p (u .constraints)) (h .builds) ∙ ap (λ (b : Bool). p c && b) f ∙ and-false (p c));
         }
 
-  pub opening-end : (eqb (getD s at 0) 19 || eqb (getD s at 0) 20) ≡ false → true ≡ all ok (built (drop start s) .constraints)
+  pub opening-end : isConstraint (getD s at 0) ≡ false → true ≡ all ok (built (drop start s) .constraints)
   opening-end e = ap (all ok) (sym (no-constraint (g .tail .n) s at (g .tail .k) (g .tail .here) (g .tail .none) e)) ∙ g .is

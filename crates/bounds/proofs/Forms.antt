@@ -1,26 +1,26 @@
 -- The forms of a basic set in checked bytes: their coefficients, and the one at a place.
-use mathlib.Core.Path.{_≡_, refl, sym, ap, ap₂, _∙_, subst}
-use mathlib.Core.Bool.{Bool, true, false, _&&_, _||_, cond}
+use mathlib.Core.Path.{_≡_, refl, sym, ap, ap₂, _∙_}
+use mathlib.Core.Bool.{true, false, _&&_}
 use mathlib.Core.List.{List, [], _∷_, _++_, map}
+use mathlib.Core.Logic.{⊎-elim}
 use Prim.Native.Nat.{ℕ, zero, suc, _+_, _≤_, _<_}
 use native.Mathlib.Omega.{arith}
-use lib.Dec.{T, eqb, ltb→lt}
+use lib.Dec.{T, ltb→lt}
 use lib.IntN.{ℤ}
 use lib.ListN.{length, drop, getD, length-drop}
 use lib.Seq.{getD-drop, drop-drop}
-use borrow.Author.Tests.{eqb-true, eqb-false, ne-eqb}
 use Rattle.model.specs.Lists.{all}
 use Rattle.model.specs.Sets.{Division, Constraint}
 use Rattle.model.proofs.Count.{and-left, and-right}
-use Rattle.codec.specs.Bytes.{Command, opens, division, constraint, constantFits, coefficient, Counts, testsOf, counted, widthOf, signedList, readDivision, readConstraint, kindOf, Built, build, within}
-use Rattle.codec.specs.Places.{commandsOf, built, basicAt, Checked, opened, Opened}
+use Rattle.codec.specs.Bytes.{Command, opens, division, constraint, isDivision, isConstraint, goesOn, divisionBody, axesIn, constantFits, coefficient, Counts, testsOf, counted, Built, build, within}
+use Rattle.codec.specs.Places.{commandsOf, built, basicAt, bodyAt, divisionAt, constraintAt, nextOf, Whole, Checked, opened, Opened}
 use Rattle.codec.proofs.Parsing.{all-passed}
 use Rattle.codec.proofs.Decoded.{Unrefused}
-use Rattle.codec.proofs.Walking.{checked-unrefused, inside-of}
+use Rattle.codec.proofs.Walking.{checked-unrefused}
+use Rattle.codec.proofs.Standing.{division-at, constraint-at, goes-on-at, ended-at}
 use Rattle.bounds.specs.Ends.{AllWithin}
 use Rattle.bounds.specs.Rows.{formsOf, divisionAxes, constraintAxes}
 use Rattle.bounds.proofs.Reading.{all-nil, all-mono, within-all}
-use Rattle.bounds.proofs.Standing.{division-at, constraint-at, no-division, no-constraint, constraint-code, no-code, known}
 
 -- ---- sizes
 abbrev pub Small : List (List ℤ) → Type 0
@@ -102,65 +102,37 @@ headed {A} l i d x m e =
     }
 
 pub record FormAt (n : ℕ) (s : List ℕ) (at : ℕ) (k : Counts) : Type 0 where
-  pub p : ℕ
-  pub place : cond (eqb (getD s at 0) 18) 6 4 ≡ p
   pub k′ : Counts
-  pub room : at + widthOf (getD s at 0) ≤ length s
-  pub wide : 0 < widthOf (getD s at 0)
-  pub after : p + 16 ≤ length (drop (at + 1) s)
-  pub there : Checked n s (at + widthOf (getD s at 0)) k′
-  pub forms : formsFrom s at ≡ signedList 8 (drop p (drop (at + 1) s)) ∷ formsFrom s (at + widthOf (getD s at 0))
+  pub whole : Whole s at
+  pub body : divisionBody ≤ length (bodyAt s at)
+  pub there : Checked n s (nextOf s at) k′
+  pub forms : formsFrom s at ≡ axesIn (bodyAt s at) ∷ formsFrom s (nextOf s at)
 
 module _ (n : ℕ) (s : List ℕ) (at : ℕ) (k : Counts) (c : Checked n s at k) where
-  form-division : getD s at 0 ≡ 18 → FormAt n s at k
+  form-division : isDivision (getD s at 0) ≡ true → FormAt n s at k
   form-division e =
-      let d = division-at n s at k c e in let w : widthOf (getD s at 0) ≡ 23 = ap widthOf e in let r = d .room in let a = d .after in
-      record {
-        p = 6;
-        place = ap (λ (b : ℕ). cond (eqb b 18) 6 4) e;
-        k′ = counted k (division (readDivision (drop (at + 1) s)));
-        room = omega arith;
-        wide = omega arith;
-        after = a;
-        there = subst (λ (m : ℕ). Checked n s (at + m) (counted k (division (readDivision (drop (at + 1) s))))) (sym w) (d .there);
-        forms = ap (λ (u : Built). formsOf (u .divisions) (u .constraints)) (d .builds) ∙ ap (λ (m : ℕ). signedList 8 (drop 6 (drop (at + 1) s)) ∷ formsFrom s (at + m)) (sym w);
-      }
+      let d = division-at n s at k c e in
+      record { k′ = counted k (division (divisionAt s at)); whole = d .whole; body = d .body; there = d .there; forms = ap (λ (u : Built). formsOf (u .divisions) (u .constraints)) (d .builds) }
 
-  form-constraint : (eqb (getD s at 0) 19 || eqb (getD s at 0) 20) ≡ true → FormAt n s at k
+  form-constraint : isConstraint (getD s at 0) ≡ true → FormAt n s at k
   form-constraint e =
-      let d = constraint-at n s at k c e in let b = constraint-code (getD s at 0) e in let w = b .wide in let r = d .room in let a = d .after in
-      let q : Constraint = readConstraint (kindOf (getD s at 0)) (drop (at + 1) s) in
-      let z : eqb (getD s at 0) 18 ≡ false = ne-eqb (getD s at 0) 18 (b .not-division) in
+      let d = constraint-at n s at k c e in let b = d .body in
+      let q : Constraint = constraintAt s at in
       record {
-        p = 4;
-        place = ap (λ (x : Bool). cond x 6 4) z;
         k′ = counted k (constraint q);
-        room = omega arith;
-        wide = omega arith;
-        after = omega arith;
-        there = subst (λ (m : ℕ). Checked n s (at + m) (counted k (constraint q))) (sym w) (d .there);
+        whole = d .whole;
+        body = omega arith;
+        there = d .there;
         forms =
             ap (λ (u : Built). formsOf (u .divisions) (u .constraints)) (d .builds)
-            ∙ ap (λ (es : List Division). formsOf es (q ∷ built (drop (at + 37) s) .constraints)) (d .later)
-            ∙ ap (λ (es : List Division). q .axes ∷ formsOf es (built (drop (at + 37) s) .constraints)) (sym (d .later))
-            ∙ ap (λ (m : ℕ). signedList 8 (drop 4 (drop (at + 1) s)) ∷ formsFrom s (at + m)) (sym w);
+            ∙ ap (λ (es : List Division). formsOf es (q ∷ built (drop (nextOf s at) s) .constraints)) (d .later)
+            ∙ ap (λ (es : List Division). q .axes ∷ formsOf es (built (drop (nextOf s at) s) .constraints)) (sym (d .later));
       }
 
-  -- a command over 17: a division or a constraint
-  pub form-at : 17 < getD s at 0 → FormAt n s at k
-  form-at h = byte (eqb (getD s at 0) 18) refl (eqb (getD s at 0) 19 || eqb (getD s at 0) 20) refl
-    where
-      byte : (x : Bool) → eqb (getD s at 0) 18 ≡ x → (y : Bool) → (eqb (getD s at 0) 19 || eqb (getD s at 0) 20) ≡ y → FormAt n s at k
-      byte true p y q = form-division (eqb-true (getD s at 0) 18 p)
-      byte false p true q = form-constraint q
-      byte false p false q = absurd (known n s at k c (inside-of s at (getD s at 0) refl (omega arith)) (no-code (getD s at 0) q (λ e. omega arith) (eqb-false (getD s at 0) 18 p)))
+  -- where the basic set goes on: a division or a constraint
+  pub form-at : goesOn (getD s at 0) ≡ true → FormAt n s at k
+  form-at h = ⊎-elim form-division form-constraint (goes-on-at n s at k c h)
 
-  -- another command, or the end: no form is left
-  pub form-end : getD s at 0 ≤ 17 → formsFrom s at ≡ []
-  form-end h =
-      let d = no-division n s at k c (λ e. omega arith) in
-      let z : (eqb (getD s at 0) 19 || eqb (getD s at 0) 20) ≡ false = low (getD s at 0) h in
-      ap₂ formsOf d (no-constraint n s at k c d z)
-    where
-      low : (b : ℕ) → b ≤ 17 → (eqb b 19 || eqb b 20) ≡ false
-      low b l = let x : eqb b 19 ≡ false = ne-eqb b 19 (λ z. omega arith) in let y : eqb b 20 ≡ false = ne-eqb b 20 (λ z. omega arith) in simp (x, y)
+  -- where it does not, no form is left
+  pub form-end : goesOn (getD s at 0) ≡ false → formsFrom s at ≡ []
+  form-end h = let z = ended-at n s at k c h in ap₂ formsOf (z .0) (z .1)

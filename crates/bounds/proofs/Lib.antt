@@ -1,5 +1,4 @@
 pub mod Reading
-pub mod Standing
 pub mod Extremes
 pub mod Bounds
 pub mod Moves

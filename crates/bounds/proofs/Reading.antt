@@ -10,13 +10,13 @@ use lib.IntN.{ℤ, pos, negsuc}
 use lib.Signed.{leZ, nonNeg, _≤ℤ_}
 use lib.ListN.{length, take, getD, set, length-take, List·getD-eq-default}
 use lib.Seq.{getD-set-same, getD-set-other, getD-take}
-use borrow.Author.Tests.{ltb-true, ltb-false, eqb-true, eqb-false, le-leb, ne-eqb}
+use borrow.Author.Tests.{ltb-true, ltb-false, eqb-true, eqb-false, le-leb}
 use Rattle.integers.specs.Z.{Within}
 use Rattle.integers.specs.Size.{within-mono, within-of}
 use Rattle.model.specs.Lists.{all}
-use Rattle.model.specs.Sets.{floorDiv, equality, inequality}
+use Rattle.model.specs.Sets.{floorDiv}
 use Rattle.model.proofs.Count.{and-left, and-right}
-use Rattle.codec.specs.Bytes.{kindOf, within}
+use Rattle.codec.specs.Bytes.{within}
 use Rattle.bounds.specs.Ends.{AllWithin}
 
 pub by : (P : Bool → Type 0) (b : Bool) → (b ≡ true → P true) → (b ≡ false → P false) → P b
@@ -26,12 +26,6 @@ by P false f g = g refl
 pub nonneg-bits : (z : ℤ) → leZ (pos 0) z ≡ nonNeg z
 nonneg-bits (pos n) = le-leb 0 n (omega arith)
 nonneg-bits (negsuc n) = refl
-
-pub kind-equality : (b : ℕ) → b ≡ 19 → kindOf b ≡ equality
-kind-equality b e = rw e
-
-pub kind-inequality : (b : ℕ) → (b ≡ 19 → ⊥) → kindOf b ≡ inequality
-kind-inequality b e = let d : eqb b 19 ≡ false = ne-eqb b 19 e in rw d
 
 pub floor-within : (m : ℕ) (z : ℤ) (d : ℕ) → Within m z → Within m (floorDiv z d)
 floor-within m (pos a) d h = let u = h .size in let v = div-le-self a d in record { size = le-trans v u }

@@ -1,6 +1,6 @@
 -- The loop that moves each end of a row, and a row whose box follows another in one side.
 use mathlib.Core.Path.{_≡_, refl, sym, ap, ap₂, _∙_, subst}
-use mathlib.Core.Bool.{Bool}
+use mathlib.Core.Bool.{Bool, true, false}
 use mathlib.Core.List.{List, [], _∷_}
 use Prim.Native.Nat.{ℕ, zero, suc, _+_, _-_, _≤_, _<_}
 use native.Mathlib.Omega.{arith}
@@ -11,8 +11,8 @@ use lib.Seq.{getD-set-same, getD-set-other}
 use borrow.Author.Tests.{eqb-true, eqb-false, ltb-true, ltb-false}
 use Rattle.integers.specs.Z.{Within}
 use Rattle.integers.specs.Ring.{ring, quote}
-use Rattle.codec.specs.Bytes.{Counts, widthOf, signedList}
-use Rattle.codec.specs.Places.{basicAt, Checked, opened, Opened}
+use Rattle.codec.specs.Bytes.{goesOn, axesIn, Counts}
+use Rattle.codec.specs.Places.{basicAt, bodyAt, nextOf, Checked, opened, Opened}
 use Rattle.bounds.specs.Ends.{best, gain}
 use Rattle.bounds.specs.Rows.{startOf, rowForms, lowsOf, highsOf, Loose, Row, Shifted}
 use Rattle.bounds.proofs.Reading.{by}
@@ -46,30 +46,30 @@ no-gain zero z f t = ring (z ∷ f ∷ []) (search quote depth 30) tt
 no-gain (suc k) z f t = ring (z ∷ f ∷ []) (search quote depth 30) tt
 
 module _ (s : List ℕ) (j : ℕ) (from to : ℤ) (r₀ r : List ℤ) (at i : ℕ) (g : Shifting s j from to r₀ r at i) where
-  pub shifting-at : 17 < getD s at 0 → FormAt (g .n) s at (g .k)
+  pub shifting-at : goesOn (getD s at 0) ≡ true → FormAt (g .n) s at (g .k)
   shifting-at h = form-at (g .n) s at (g .k) (g .here) h
 
-  shifting-head : (h : 17 < getD s at 0) → Headed (rowForms s r₀) i [] (signedList 8 (drop (shifting-at h .p) (drop (at + 1) s))) (formsFrom s (at + widthOf (getD s at 0)))
+  shifting-head : (h : goesOn (getD s at 0) ≡ true) → Headed (rowForms s r₀) i [] (axesIn (bodyAt s at)) (formsFrom s (nextOf s at))
   shifting-head h = headed (rowForms s r₀) i [] _ _ (g .forms ∙ shifting-at h .forms)
 
-  pub shifting-few : 17 < getD s at 0 → i < 56
+  pub shifting-few : goesOn (getD s at 0) ≡ true → i < 56
   shifting-few h = let f = g .few in let c = shifting-head h .inside in omega arith
 
   -- the ends to be moved are those that the row came with
-  pub shifting-sizes : Loose s r₀ → 17 < getD s at 0 → Within 274877906944 (getD r i (pos 0)) × Within 274877906944 (getD r (64 + i) (pos 0))
+  pub shifting-sizes : Loose s r₀ → goesOn (getD s at 0) ≡ true → Within 274877906944 (getD r i (pos 0)) × Within 274877906944 (getD r (64 + i) (pos 0))
   shifting-sizes o h =
       let f = shifting-few h in (
         subst (Within 274877906944) (sym (g .is .kept i (λ q. omega arith) (λ q. omega arith))) (o .least i f),
         subst (Within 274877906944) (sym (g .is .kept (64 + i) (λ q. omega arith) (λ q. omega arith))) (o .greatest i f),
       )
 
-  module _ (h : 17 < getD s at 0) (p : ℕ) (e : shifting-at h .p ≡ p) (l : length r ≡ 129) (a b : ℤ)
-      (ea : a ≡ getD r i (pos 0) +ℤ gain j from to (signedList 8 (drop p (drop (at + 1) s)))) (eb : b ≡ getD r (64 + i) (pos 0) +ℤ gain j to from (signedList 8 (drop p (drop (at + 1) s)))) where
+  module _ (h : goesOn (getD s at 0) ≡ true) (l : length r ≡ 129) (a b : ℤ)
+      (ea : a ≡ getD r i (pos 0) +ℤ gain j from to (axesIn (bodyAt s at))) (eb : b ≡ getD r (64 + i) (pos 0) +ℤ gain j to from (axesIn (bodyAt s at))) where
     abbrev next : List ℤ
     next = set (set r i a) (64 + i) b
 
-    form : getD (rowForms s r₀) i [] ≡ signedList 8 (drop p (drop (at + 1) s))
-    form = shifting-head h .is ∙ ap (λ (q : ℕ). signedList 8 (drop q (drop (at + 1) s))) e
+    form : getD (rowForms s r₀) i [] ≡ axesIn (bodyAt s at)
+    form = shifting-head h .is
 
     other : (x : ℕ) → (x ≡ i → ⊥) → (x ≡ 64 + i → ⊥) → getD next x (pos 0) ≡ getD r x (pos 0)
     other x u v = getD-set-other (set r i a) (64 + i) x b (pos 0) v ∙ getD-set-other r i x a (pos 0) u
@@ -86,7 +86,7 @@ module _ (s : List ℕ) (j : ℕ) (from to : ℤ) (r₀ r : List ℤ) (at i : �
         getD-set-same (set r i a) (64 + i) b (pos 0) (let z = length-set r i a in omega arith) ∙ eb
         ∙ ap₂ (λ (z : ℤ) (cs : List ℤ). z +ℤ gain j to from cs) (g .is .kept (64 + i) (λ q. omega arith) (λ q. omega arith)) (sym form)
 
-    pub shifting-next : Shifting s j from to r₀ next (at + widthOf (getD s at 0)) (i + 1)
+    pub shifting-next : Shifting s j from to r₀ next (nextOf s at) (i + 1)
     shifting-next =
         let f = shifting-at h in let m = shifting-few h in
         record {
@@ -118,7 +118,7 @@ module _ (s : List ℕ) (j : ℕ) (from to : ℤ) (r₀ r : List ℤ) (at i : �
         past′ x u v o = let a = v (omega arith) in omega arith
 
   -- no form is left: those that are not there gain nothing
-  pub shifting-end : getD s at 0 ≤ 17 → Shifted (rowForms s r₀) j from to 56 r₀ r
+  pub shifting-end : goesOn (getD s at 0) ≡ false → Shifted (rowForms s r₀) j from to 56 r₀ r
   shifting-end h = record {
     places = g .is .places;
     least = λ x q. by (λ (y : Bool). getD r x (pos 0) ≡ getD r₀ x (pos 0) +ℤ gain j from to (getD (rowForms s r₀) x [])) (ltb x i)

@@ -2,26 +2,19 @@
 use mathlib.Core.Path.{_≡_}
 use mathlib.Core.Bool.{Bool, cond}
 use mathlib.Core.List.{List, [], _∷_, map}
-use Prim.Native.Nat.{ℕ, _+_, _*_, _≤_, _<_}
+use Prim.Native.Nat.{ℕ, _≤_, _<_}
 use lib.IntN.{ℤ, pos, _+ℤ_, _*ℤ_}
 use lib.Signed.{nonNeg}
 use lib.ListN.{length, take, drop, getD}
 use Rattle.integers.specs.Z.{Within}
 use Rattle.model.specs.Sets.{Constraint}
-use Rattle.codec.specs.Bytes.{Counts}
-use Rattle.codec.specs.Places.{built, Checked}
+use Rattle.codec.specs.Places.{built, Past}
+use Rattle.codec.specs.declared.layout.Passed.{Passed}
 use Rattle.bounds.specs.Intervals.{Interval, quotientSide, valueSide, canMeet, boxOf}
 
 -- every element is at most n in size
 pub record AllWithin (n : ℕ) (xs : List ℤ) : Type 0 where
   pub at : (i : ℕ) → Within n (getD xs i (pos 0))
-
--- at a place of checked bytes where the divisions of a basic set are past
-pub record Tail (s : List ℕ) (at : ℕ) : Type 0 where
-  pub n : ℕ
-  pub k : Counts
-  pub here : Checked n s at k
-  pub none : built (drop at s) .divisions ≡ []
 
 abbrev pub side : ℤ → ℤ → Interval
 side l h = record { low = l; high = h }
@@ -50,23 +43,16 @@ pub record Step (k : ℕ) (from to : ℤ) : Type 0 where
   pub from-size : Within 2097152 from
   pub to-size : Within 2097152 to
 
--- low and high begin with the ends of the values of the d divisions from a place on
-pub record Bounded (s : List ℕ) (start : ℕ) (xs : List Interval) (low high : List ℤ) (d : ℕ) : Type 0 where
-  pub few : d ≤ 8
-  pub count : d ≡ length (built (drop start s) .divisions)
-  pub is : boxOf (take d low) (take d high) ≡ map (quotientSide xs) (built (drop start s) .divisions)
+-- low and high begin with the ends of the values of the divisions from a place on, which d has passed
+pub record Bounded (s : List ℕ) (start : ℕ) (xs : List Interval) (low high : List ℤ) (d : Passed) : Type 0 where
+  pub few : d .count ≤ 8
+  pub count : d .count ≡ length (built (drop start s) .divisions)
+  pub is : boxOf (take (d .count) low) (take (d .count) high) ≡ map (quotientSide xs) (built (drop start s) .divisions)
   pub lows : length low ≡ 8
   pub highs : length high ≡ 8
   pub low-size : AllWithin 549755813888 low
   pub high-size : AllWithin 549755813888 high
-  pub there : Tail s (start + 23 * d)
-  pub same : built (drop (start + 23 * d) s) .constraints ≡ built (drop start s) .constraints
-
--- past the d divisions from a place on
-pub record Past (s : List ℕ) (start d : ℕ) : Type 0 where
-  pub count : d ≡ length (built (drop start s) .divisions)
-  pub there : Tail s (start + 23 * d)
-  pub same : built (drop (start + 23 * d) s) .constraints ≡ built (drop start s) .constraints
+  pub past : Past s start (d .next)
 
 -- the ends of a constraint: l and h those of its axes' part before axis k has moved, ql and qh those of the divisions' values
 abbrev pub meetSide : ℕ → ℤ → ℤ → ℤ → ℤ → List ℤ → List ℤ → Constraint → Interval

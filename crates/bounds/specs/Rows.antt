@@ -7,8 +7,8 @@ use lib.IntN.{ℤ, pos, natAbs, _+ℤ_}
 use lib.ListN.{length, take, drop, getD}
 use Rattle.integers.specs.Z.{Within}
 use Rattle.model.specs.Sets.{Division, Constraint}
-use Rattle.codec.specs.Bytes.{readConstraint, kindOf}
-use Rattle.codec.specs.Places.{basicAt, Opened}
+use Rattle.codec.specs.Bytes.{constraintBody}
+use Rattle.codec.specs.Places.{basicAt, bodyAt, constraintAt, Whole, Opened}
 use Rattle.bounds.specs.Ends.{best, gain}
 
 abbrev pub divisionAxes : Division → List ℤ
@@ -77,12 +77,9 @@ pub record Settled (s : List ℕ) (k : ℕ) (low high r : List ℤ) : Type 0 whe
   pub lows : (i : ℕ) → i < length low → (i ≡ k → ⊥) → getD r (56 + i) (pos 0) ≡ getD low i (pos 0)
   pub highs : (i : ℕ) → i < length low → (i ≡ k → ⊥) → getD r (120 + i) (pos 0) ≡ getD high i (pos 0)
 
--- the constraint at a place
-abbrev pub constraintAt : List ℕ → ℕ → Constraint
-constraintAt s at = readConstraint (kindOf (getD s at 0)) (drop (at + 1) s)
-
 -- number i of the row is that of the constraint at a place
 pub record Numbered (s : List ℕ) (r : List ℤ) (at i : ℕ) : Type 0 where
-  pub room : at + 37 ≤ length s
+  pub whole : Whole s at
+  pub body : constraintBody ≤ length (bodyAt s at)
   pub few : i < 56
   pub form : getD (rowForms s r) i [] ≡ constraintAt s at .axes

@@ -1,17 +1,21 @@
 // The least and the greatest value of one division or constraint over a box, from the ends of its axes' part over a box that differs in one axis.
 ghost use mathlib.Core.Path.{_≡_};
 ghost use mathlib.Core.Bool.{cond};
-ghost use Prim.Native.Nat.{ℕ, _+_, _-_, _*_, _≤_, _<_};
+ghost use Prim.Native.Nat.{ℕ, _+_, _*_, _≤_, _<_};
 ghost use lib.IntN.{_+ℤ_, _*ℤ_};
 ghost use lib.Signed.{nonNeg};
-ghost use lib.ListN.{length, take, drop};
+ghost use lib.ListN.{length, drop};
 ghost use Rattle.integers.specs.Z.{Within};
 ghost use Rattle.model.specs.Sets.{floorDiv};
-ghost use Rattle.codec.specs.Bytes.{valueOf, signed, signedList, readDivision, readConstraint, kindOf};
+ghost use Rattle.codec.specs.Bytes.{signedList, constantIn, axesIn, divisionBody, constraintBody, readConstraint, kindOf};
 ghost use Rattle.bounds.specs.Intervals.{canMeet};
 ghost use Rattle.bounds.specs.Ends.{AllWithin, best, gain, Ends, Step, meetSide};
-use crate::numbers::s16_at;
-use crate::numbers::s32_at;
+use codec::AXES_PLACE;
+use codec::CONSTANT_PLACE;
+use codec::DIVISIONS_PLACE;
+use codec::is_equality;
+use codec::s16_at;
+use codec::s32_at;
 
 pub fn no_values() -> [i64; 8]
     ensures { λ r. ⌜ (length r ≡ 8) × AllWithin 549755813888 r ⌝ }
@@ -47,38 +51,39 @@ pub fn extreme(t: &[u8], p: usize, u: &[i64], v: &[i64], from: i64) -> i64
     s
 }
 
-// The greatest sum z of the coefficients from p on times sides, once the side of axis k has moved by to and from.
-pub fn moved(t: &[u8], p: usize, k: usize, from: i64, to: i64, z: i64) -> i64
-    requires { ⌜ (p + 16 ≤ length (now t)) × Step k from to × Within 274877906944 z ⌝ }
-    ensures is { λ r. ⌜ r ≡ z +ℤ gain k from to (signedList 8 (drop p (now (t .entry)))) ⌝ }
+// The greatest sum z of the axes' coefficients of a body t times sides, once the side of axis k has moved by to and
+// from.
+pub fn moved(t: &[u8], k: usize, from: i64, to: i64, z: i64) -> i64
+    requires { ⌜ (divisionBody ≤ length (now t)) × Step k from to × Within 274877906944 z ⌝ }
+    ensures is { λ r. ⌜ r ≡ z +ℤ gain k from to (axesIn (now (t .entry))) ⌝ }
     ensures size { λ r. ⌜ Within 343597383680 r ⌝ }
 {
-    z + term(s16_at(t, p + 2 * k), from, to)
+    z + term(s16_at(t, AXES_PLACE + 2 * k), from, to)
 }
 
-// The same, with the constant that stands before the coefficients.
-pub fn end_at(t: &[u8], p: usize, k: usize, from: i64, to: i64, z: i64) -> i64
-    requires { ⌜ (4 ≤ p) × (p + 16 ≤ length (now t)) × Step k from to × Within 274877906944 z ⌝ }
-    ensures is { λ r. ⌜ r ≡ signed 4 (valueOf (take 4 (drop (p - 4) (now (t .entry))))) +ℤ (z +ℤ gain k from to (signedList 8 (drop p (now (t .entry))))) ⌝ }
+// The same, with the constant.
+pub fn end_at(t: &[u8], k: usize, from: i64, to: i64, z: i64) -> i64
+    requires { ⌜ (divisionBody ≤ length (now t)) × Step k from to × Within 274877906944 z ⌝ }
+    ensures is { λ r. ⌜ r ≡ constantIn (now (t .entry)) +ℤ (z +ℤ gain k from to (axesIn (now (t .entry)))) ⌝ }
     ensures size { λ r. ⌜ Within 549755813888 r ⌝ }
 {
-    let c = s32_at(t, p - 4);
-    c + moved(t, p, k, from, to, z)
+    let c = s32_at(t, CONSTANT_PLACE);
+    c + moved(t, k, from, to, z)
 }
 
-// The floor of the greatest value of the numerator of the division whose bytes after the first are t; with from and to exchanged of the least.
-pub fn quotient_end(t: &[u8], k: usize, from: i64, to: i64, z: i64) -> i64
-    requires { ⌜ (22 ≤ length (now t)) × (0 < readDivision (now t) .divisor) × Step k from to × Within 274877906944 z ⌝ }
-    ensures is { λ r. ⌜ r ≡ floorDiv (readDivision (now (t .entry)) .constant +ℤ (z +ℤ gain k from to (readDivision (now (t .entry)) .axes))) (readDivision (now (t .entry)) .divisor) ⌝ }
+// The floor of the greatest value of the numerator of the division by d whose body is t; with from and to exchanged of
+// the least.
+pub fn quotient_end(d: u64, t: &[u8], k: usize, from: i64, to: i64, z: i64) -> i64
+    requires { ⌜ (divisionBody ≤ length (now t)) × (0 < d) × (d < 4294967296) × Step k from to × Within 274877906944 z ⌝ }
+    ensures is { λ r. ⌜ r ≡ floorDiv (constantIn (now (t .entry)) +ℤ (z +ℤ gain k from to (axesIn (now (t .entry))))) d ⌝ }
     ensures size { λ r. ⌜ Within 549755813888 r ⌝ }
 {
-    let e = end_at(t, 6, k, from, to, z);
-    let d = integers::u16_at(t, 0);
+    let e = end_at(t, k, from, to, z);
     integers::floor_div(e, d as i64)
 }
 
-// Whether the constraint whose command is b and whose bytes after it are t can hold: l and h are the ends of its axes' part before axis k has moved, ql and qh
-// those of the divisions' values.
+// Whether the constraint whose command is b and whose body is t can hold: l and h are the ends of its axes' part before
+// axis k has moved, ql and qh those of the divisions' values.
 pub fn can_meet(
     b: u8,
     t: &[u8],
@@ -90,16 +95,16 @@ pub fn can_meet(
     ql: &[i64],
     qh: &[i64],
 ) -> bool
-    requires { ⌜ (36 ≤ length (now t)) × Step k from to × Within 274877906944 l × Within 274877906944 h × Ends (now ql) (now qh) 549755813888 ⌝ }
+    requires { ⌜ (constraintBody ≤ length (now t)) × Step k from to × Within 274877906944 l × Within 274877906944 h × Ends (now ql) (now qh) 549755813888 ⌝ }
     ensures { λ r. ⌜ r ≡ canMeet (kindOf b) (meetSide k from to l h (now (ql .entry)) (now (qh .entry)) (readConstraint (kindOf b) (now (t .entry)))) ⌝ }
 {
-    let g = end_at(t, 4, k, to, from, h);
-    if extreme(t, 20, qh, ql, g) < 0 {
+    let g = end_at(t, k, to, from, h);
+    if extreme(t, DIVISIONS_PLACE, qh, ql, g) < 0 {
         return false;
     }
-    if b == 19 {
-        let f = end_at(t, 4, k, from, to, l);
-        return extreme(t, 20, ql, qh, f) <= 0;
+    if is_equality(b) {
+        let f = end_at(t, k, from, to, l);
+        return extreme(t, DIVISIONS_PLACE, ql, qh, f) <= 0;
     }
     true
 }

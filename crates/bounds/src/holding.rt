@@ -3,13 +3,15 @@ ghost use mathlib.Core.Path.{_≡_};
 ghost use lib.ListN.{length};
 ghost use Rattle.bounds.specs.Intervals.{boxOf};
 ghost use Rattle.bounds.specs.Ends.{AllWithin, Ends, Bounded, canStand};
-ghost use Rattle.bounds.specs.Rows.{startOf, Settled, Numbered, constraintAt};
+ghost use Rattle.codec.specs.Places.{constraintAt};
+ghost use Rattle.bounds.specs.Rows.{startOf, Settled, Numbered};
 use crate::ends::can_meet;
 use crate::ends::quotient_end;
 use crate::rows::gap;
 use crate::rows::place;
+use codec::Passed;
 
-// The ends of the values of the divisions, and how many they are.
+// The ends of the values of the divisions; how many these are, and the place after them.
 pub fn bounded(
     s: &[u8],
     k: usize,
@@ -18,7 +20,7 @@ pub fn bounded(
     r: &[i64; 129],
     ql: &mut [i64],
     qh: &mut [i64],
-) -> usize
+) -> Passed
     requires { ⌜ Settled (now s) k (now low) (now high) (now r) × Ends (now low) (now high) 1048576 × (length (now ql) ≡ 8) × AllWithin 549755813888 (now ql) × (length (now qh) ≡ 8) × AllWithin 549755813888 (now qh) ⌝ }
     ensures { λ d. ⌜ Bounded (now (s .entry)) (startOf (now (r .entry))) (boxOf (now (low .entry)) (now (high .entry))) (now (ql .exit)) (now (qh .exit)) d ⌝ }
 {
@@ -26,16 +28,17 @@ pub fn bounded(
     let to = gap(high, k, r, 120);
     let mut at = place(r);
     let mut d = 0;
-    while codec::code(s, at) == 18 {
-        let t = codec::tail(s, at + 1);
-        let l = quotient_end(t, k, from, to, r[d]);
-        let h = quotient_end(t, k, to, from, r[64 + d]);
+    while codec::division_at(s, at) {
+        let e = codec::head(s, at);
+        let t = codec::body(s, at);
+        let l = quotient_end(e, t, k, from, to, r[d]);
+        let h = quotient_end(e, t, k, to, from, r[64 + d]);
         ql[d] = l;
         qh[d] = h;
         d += 1;
-        at += 23;
+        at = codec::next(s, at);
     }
-    d
+    Passed { count: d, next: at }
 }
 
 // Whether the constraint at a place, number i of the row, can hold by itself.
@@ -56,6 +59,6 @@ pub fn can_stand(
     let from = gap(low, k, r, 56);
     let to = gap(high, k, r, 120);
     let b = codec::code(s, at);
-    let t = codec::tail(s, at + 1);
+    let t = codec::body(s, at);
     can_meet(b, t, k, from, to, r[i], r[64 + i], ql, qh)
 }

@@ -2,7 +2,6 @@
 // set, by a row of ends that follows the box from one to the next, one axis at a time.
 mod ends;
 mod holding;
-mod numbers;
 mod rows;
 
 pub use ends::end_at;
@@ -10,9 +9,6 @@ pub use ends::extreme;
 pub use ends::no_values;
 pub use holding::bounded;
 pub use holding::can_stand;
-pub use numbers::is_constraint;
-pub use numbers::s16_at;
-pub use numbers::s32_at;
 pub use rows::fresh;
 pub use rows::gap;
 pub use rows::place;

@@ -1,10 +1,9 @@
 // Rows of ends: at places 0 to 55 the least values of the axes' part of each division and constraint of a basic set over a box, at 64 to 119 the greatest; at
 // 56 to 63 the lows of the box, at 120 to 127 its highs; at 128 the place of the basic set.
 ghost use mathlib.Core.Path.{_≡_};
-ghost use mathlib.Core.Bool.{cond, true};
+ghost use mathlib.Core.Bool.{true};
 ghost use mathlib.Core.List.{List};
 ghost use Prim.Native.Nat.{ℕ, _+_, _≤_, _<_, _^_};
-ghost use lib.Dec.{eqb};
 ghost use lib.IntN.{pos, _-ℤ_};
 ghost use lib.ListN.{length, getD};
 ghost use Rattle.integers.specs.Z.{Within};
@@ -41,16 +40,6 @@ pub fn gap(x: &[i64], k: usize, r: &[i64; 129], p: usize) -> i64
     x[k] - r[p + k]
 }
 
-// Where the coefficients of the axes stand after the command b.
-fn axes_place(b: u8) -> usize
-    ensures { λ r. ⌜ r ≡ cond (eqb b 18) 6 4 ⌝ }
-{
-    if b == 18 {
-        return 6;
-    }
-    4
-}
-
 // Each end once the ends of axis j have moved.
 fn shift(s: &[u8], j: usize, from: i64, to: i64, r: &mut [i64; 129])
     requires { ⌜ Loose (now s) (now r) × Step j from to ⌝ }
@@ -58,15 +47,13 @@ fn shift(s: &[u8], j: usize, from: i64, to: i64, r: &mut [i64; 129])
 {
     let mut at = place(r);
     let mut i = 0;
-    while 17 < codec::code(s, at) {
-        let b = codec::code(s, at);
-        let t = codec::tail(s, at + 1);
-        let p = axes_place(b);
+    while codec::goes_on(s, at) {
+        let t = codec::body(s, at);
         let l = r[i];
         let h = r[64 + i];
-        r[i] = moved(t, p, j, from, to, l);
-        r[64 + i] = moved(t, p, j, to, from, h);
-        at += codec::width(b);
+        r[i] = moved(t, j, from, to, l);
+        r[64 + i] = moved(t, j, to, from, h);
+        at = codec::next(s, at);
         i += 1;
     }
 }

@@ -1,5 +1,5 @@
 -- From one basic set of checked bytes to the next: what a loop over the basic sets of a set goes by.
-use mathlib.Core.Path.{_≡_, refl, sym, ap, ap₂, _∙_, subst}
+use mathlib.Core.Path.{_≡_, refl, sym, ap, _∙_, subst}
 use mathlib.Core.Bool.{Bool, true, false, cond}
 use mathlib.Core.List.{List, [], _∷_}
 use Prim.Native.Nat.{ℕ, zero, suc, _+_, _-_, _≤_, _<_}
@@ -11,12 +11,13 @@ use Rattle.model.specs.Sets as S
 use Rattle.model.specs.Sets.{Set}
 use Rattle.model.specs.Values.{basicSetOf}
 use Rattle.model.specs.declared.BasicSet.{BasicSet}
-use Rattle.codec.specs.Bytes.{refused, gives, Command, division, constraint, Counts, counted, widthOf, readCommand, readDivision, readConstraint, kindOf, Built, build, axesFit, decode, number}
-use Rattle.codec.specs.Places.{commandsOf, built, basicAt, setFrom, endOf, Checked, opened, Opened, after, Decoded, Boundary}
-use Rattle.codec.proofs.Parsing.{start, read-opens, read-division, read-constraint, width-division, width-constraint, decode-bad, decode-good}
+use Rattle.codec.specs.Bytes.{refused, gives, Command, isDivision, Counts, counted, widthOf, Built, build, axesFit, decode, number}
+use Rattle.codec.specs.Places.{commandsOf, built, basicAt, setFrom, endOf, nextOf, Checked, opened, Opened, Decoded, Boundary}
+use Rattle.codec.proofs.Parsing.{start, read-opens, other-code, decode-bad, decode-good}
 use Rattle.codec.proofs.Split.{unless, refusalOf, decode′, decode-split}
 use Rattle.codec.proofs.Decoded.{clean-start}
 use Rattle.codec.proofs.Walking.{added, Head, head, built-end, checked-unrefused}
+use Rattle.codec.proofs.Standing.{division-at, constraint-at, opens-at, known, end-here}
 
 -- ---- the whole
 module _ (n : ℕ) (s : List ℕ) (z : number (decode n s) ≡ 0) where
@@ -48,85 +49,69 @@ pub boundary-end : (s : List ℕ) (at : ℕ) → length s ≤ at → setFrom s a
 boundary-end s at h = ap (λ (b : Built). b .rest) (built-end s at h)
 
 -- ---- past the divisions and constraints at a place
-pub record Past (n : ℕ) (s : List ℕ) (at : ℕ) : Type 0 where
+pub record Onward (n : ℕ) (s : List ℕ) (at : ℕ) : Type 0 where
   pub there : Boundary n s (endOf s at)
   pub rest : setFrom s at ≡ setFrom s (endOf s at)
 
 module _ (n : ℕ) (s : List ℕ) where
-  past-of : (at w : ℕ) (k : Counts) → Head n s at k w → (c : Command) → readCommand (getD s at 0) (drop (at + 1) s) ≡ c → endOf s at ≡ endOf s (at + w)
-      → (added c (built (drop (at + w) s)) .rest ≡ built (drop (at + w) s) .rest) → Past n s (at + w) → Past n s at
-  past-of at w k h c q e r p =
-      let b : setFrom s at ≡ setFrom s (at + w) = ap (λ (x : Built). x .rest) (h .builds ∙ ap (λ (y : Command). added y (built (drop (at + w) s))) q) ∙ r in
-      record { there = subst (Boundary n s) (sym e) (p .there); rest = b ∙ p .rest ∙ ap (setFrom s) (sym e) }
+  -- what adds nothing to the sets behind it
+  past-of : (at next : ℕ) → endOf s next ≡ endOf s at → setFrom s at ≡ setFrom s next → Onward n s next → Onward n s at
+  past-of at next e b p = record { there = subst (Boundary n s) e (p .there); rest = b ∙ p .rest ∙ ap (setFrom s) e }
 
-  stays : (at : ℕ) (k : Counts) → Checked n s at k → built (drop at s) .divisions ≡ [] → built (drop at s) .constraints ≡ [] → Past n s at
+  stays : (at : ℕ) (k : Counts) → Checked n s at k → built (drop at s) .divisions ≡ [] → built (drop at s) .constraints ≡ [] → Onward n s at
   stays at k c d r =
-      let e : at ≡ endOf s at = omega (arith, ap length d, ap length r) in
+      let e : at ≡ endOf s at = sym (end-here s at d r) in
       record { there = subst (Boundary n s) e (record { k = k; here = c; no-divisions = d; no-constraints = r }); rest = ap (setFrom s) e }
 
-  ended : (at : ℕ) (k : Counts) → Checked n s at k → length s ≤ at → Past n s at
+  ended : (at : ℕ) (k : Counts) → Checked n s at k → length s ≤ at → Onward n s at
   ended at k c l = let e = built-end s at l in stays at k c (ap (λ (x : Built). x .divisions) e) (ap (λ (x : Built). x .constraints) e)
 
   -- by the command at the place: what comes behind it is taken as given
-  one : (at : ℕ) (k : Counts) → Checked n s at k → at < length s → ((w : ℕ) (c : Counts) → 0 < w → Checked n s (at + w) c → Past n s (at + w)) → Past n s at
-  one at k c l more = byte (eqb (getD s at 0) 17) refl (eqb (getD s at 0) 18) refl
+  one : (at : ℕ) (k : Counts) → Checked n s at k → at < length s → ((next : ℕ) (c : Counts) → at < next → Checked n s next c → Onward n s next) → Onward n s at
+  one at k c l more = byte (eqb (getD s at 0) 0x11) refl (isDivision (getD s at 0)) refl
     where
-      byte : (x : Bool) → eqb (getD s at 0) 17 ≡ x → (y : Bool) → eqb (getD s at 0) 18 ≡ y → Past n s at
+      byte : (x : Bool) → eqb (getD s at 0) 0x11 ≡ x → (y : Bool) → isDivision (getD s at 0) ≡ y → Onward n s at
       byte true e y g =
-          let i = eqb-true (getD s at 0) 17 e in
-          let h = head n s at k 1 c l (ap widthOf i) in
-          let b = h .builds ∙ ap (λ (y : Command). added y (built (drop (at + 1) s))) (read-opens (getD s at 0) (drop (at + 1) s) i) in
+          let b = opens-at n s at k c (eqb-true (getD s at 0) 0x11 e) in
           stays at k c (ap (λ (x : Built). x .divisions) b) (ap (λ (x : Built). x .constraints) b)
       byte false e true g =
-          let i = eqb-true (getD s at 0) 18 g in
-          let h = head n s at k 23 c l (width-division (getD s at 0) i) in
-          let c′ = read-division (getD s at 0) (drop (at + 1) s) i in
-          let d : Command = division (readDivision (drop (at + 1) s)) in
-          let b : built (drop at s) ≡ added d (built (drop (at + 23) s)) = h .builds ∙ ap (λ (y : Command). added y (built (drop (at + 23) s))) c′ in
-          let u : endOf s at ≡ endOf s (at + 23) = omega (arith, ap (λ (x : Built). length (x .divisions)) b, ap (λ (x : Built). length (x .constraints)) b) in
-          past-of at 23 k h d c′ u refl (more 23 (counted k (readCommand (getD s at 0) (drop (at + 1) s))) (omega arith) (h .there))
+          let h = division-at n s at k c g in let o = h .whole .known in
+          past-of at (nextOf s at) (h .end) (ap (λ (x : Built). x .rest) (h .builds)) (more (nextOf s at) _ (omega arith) (h .there))
       byte false e false g =
-          let i = eqb-false (getD s at 0) 17 e in let j = eqb-false (getD s at 0) 18 g in
-          let o = head n s at k (widthOf (getD s at 0)) c l refl .wide in
-          let h = head n s at k 37 c l (width-constraint (getD s at 0) i j (λ z. omega arith)) in
-          let c′ = read-constraint (getD s at 0) (drop (at + 1) s) i j in
-          let d : Command = constraint (readConstraint (kindOf (getD s at 0)) (drop (at + 1) s)) in
-          let b : built (drop at s) ≡ added d (built (drop (at + 37) s)) = h .builds ∙ ap (λ (y : Command). added y (built (drop (at + 37) s))) c′ in
-          let u : endOf s at ≡ endOf s (at + 37) = omega (arith, ap (λ (x : Built). length (x .divisions)) b, ap (λ (x : Built). length (x .constraints)) b) in
-          past-of at 37 k h d c′ u refl (more 37 (counted k (readCommand (getD s at 0) (drop (at + 1) s))) (omega arith) (h .there))
+          let h = constraint-at n s at k c (other-code (getD s at 0) (eqb-false (getD s at 0) 0x11 e) g (known n s at k c l)) in let o = h .whole .known in
+          past-of at (nextOf s at) (h .end) (ap (λ (x : Built). x .rest) (h .builds)) (more (nextOf s at) _ (omega arith) (h .there))
 
-  past-by : (f at : ℕ) (k : Counts) → length s ≤ at + f → Checked n s at k → Past n s at
+  past-by : (f at : ℕ) (k : Counts) → length s ≤ at + f → Checked n s at k → Onward n s at
   past-by zero at k m c = ended at k c (omega arith)
-  past-by (suc f) at k m c = inside (ltb at (length s)) refl (λ w k′ h c′. past-by f (at + w) k′ (omega arith) c′)
+  past-by (suc f) at k m c = inside (ltb at (length s)) refl (λ next k′ h c′. past-by f next k′ (omega arith) c′)
     where
-      inside : (x : Bool) → ltb at (length s) ≡ x → ((w : ℕ) (c : Counts) → 0 < w → Checked n s (at + w) c → Past n s (at + w)) → Past n s at
+      inside : (x : Bool) → ltb at (length s) ≡ x → ((next : ℕ) (c : Counts) → at < next → Checked n s next c → Onward n s next) → Onward n s at
       inside true q more = one at k c (ltb-true at (length s) q) more
       inside false q more = ended at k c (ltb-false at (length s) q)
 
-  pub past : (at : ℕ) (k : Counts) → Checked n s at k → Past n s at
+  pub past : (at : ℕ) (k : Counts) → Checked n s at k → Onward n s at
   past at k c = past-by (length s) at k (omega arith) c
 
 -- ---- one turn of a loop over the basic sets
 
 -- v is the basic set at the place, and the others start behind it
 pub record Turn (n : ℕ) (s : List ℕ) (at : ℕ) (v : BasicSet) : Type 0 where
-  pub there : Boundary n s (after (at + 1) v)
-  pub set : setFrom s at ≡ basicSetOf v ∷ setFrom s (after (at + 1) v)
+  pub there : Boundary n s (endOf s (at + 1))
+  pub set : setFrom s at ≡ basicSetOf v ∷ setFrom s (endOf s (at + 1))
 
 module _ (n : ℕ) (s : List ℕ) (at : ℕ) (b : Boundary n s at) (l : at < length s) where
-  opens-here : getD s at 0 ≡ 17
-  opens-here = byte (eqb (getD s at 0) 17) refl (eqb (getD s at 0) 18) refl
+  opens-here : getD s at 0 ≡ 0x11
+  opens-here = byte (eqb (getD s at 0) 0x11) refl (isDivision (getD s at 0)) refl
     where
       no : {A : Type 0} {x : A} {l : List A} → x ∷ l ≡ [] → ⊥
       no e = let z : _≡_ {A = ℕ} 0 1 = cc in omega arith
 
-      h : Head n s at (b .k) (widthOf (getD s at 0))
-      h = head n s at (b .k) (widthOf (getD s at 0)) (b .here) l refl
-
-      byte : (x : Bool) → eqb (getD s at 0) 17 ≡ x → (y : Bool) → eqb (getD s at 0) 18 ≡ y → getD s at 0 ≡ 17
-      byte true e y g = eqb-true (getD s at 0) 17 e
-      byte false e true g = absurd (no (ap (λ (x : Built). x .divisions) (sym (h .builds ∙ ap (λ (y : Command). added y (built (drop (at + widthOf (getD s at 0)) s))) (read-division (getD s at 0) (drop (at + 1) s) (eqb-true (getD s at 0) 18 g)))) ∙ b .no-divisions))
-      byte false e false g = absurd (no (ap (λ (x : Built). x .constraints) (sym (h .builds ∙ ap (λ (y : Command). added y (built (drop (at + widthOf (getD s at 0)) s))) (read-constraint (getD s at 0) (drop (at + 1) s) (eqb-false (getD s at 0) 17 e) (eqb-false (getD s at 0) 18 g)))) ∙ b .no-constraints))
+      byte : (x : Bool) → eqb (getD s at 0) 0x11 ≡ x → (y : Bool) → isDivision (getD s at 0) ≡ y → getD s at 0 ≡ 0x11
+      byte true e y g = eqb-true (getD s at 0) 0x11 e
+      byte false e true g = absurd (no (ap (λ (x : Built). x .divisions) (sym (division-at n s at (b .k) (b .here) g .builds)) ∙ b .no-divisions))
+      byte false e false g =
+          let h = constraint-at n s at (b .k) (b .here) (other-code (getD s at 0) (eqb-false (getD s at 0) 0x11 e) g (known n s at (b .k) (b .here) l)) in
+          absurd (no (ap (λ (x : Built). x .constraints) (sym (h .builds)) ∙ b .no-constraints))
 
   opening : Head n s at (b .k) 1
   opening = head n s at (b .k) 1 (b .here) l (ap widthOf opens-here)
@@ -139,7 +124,7 @@ module _ (n : ℕ) (s : List ℕ) (at : ℕ) (b : Boundary n s at) (l : at < len
         here = subst (λ (y : Command). Checked n s (at + 1) (counted (b .k) y)) (read-opens (getD s at 0) (drop (at + 1) s) opens-here) (opening .there);
       }
 
-  behind : Past n s (at + 1)
+  behind : Onward n s (at + 1)
   unfolding boundary-opened
   behind = past n s (at + 1) (opened (b .k .basics + 1)) (boundary-opened .here)
 
@@ -153,8 +138,4 @@ module _ (n : ℕ) (s : List ℕ) (at : ℕ) (b : Boundary n s at) (l : at < len
       ∙ ap (λ (r : Set). basicAt s (at + 1) ∷ r) (behind .rest)
 
   pub turn : (v : BasicSet) → Decoded s (at + 1) v → Turn n s at v
-  turn v d =
-      record {
-        there = subst (Boundary n s) (sym (d .next)) boundary-next;
-        set = boundary-set ∙ ap₂ (λ (x : S.BasicSet) (j : ℕ). x ∷ setFrom s j) (sym (d .basic)) (sym (d .next));
-      }
+  turn v d = record { there = boundary-next; set = boundary-set ∙ ap (λ (x : S.BasicSet). x ∷ setFrom s (endOf s (at + 1))) (sym (d .basic)) }

@@ -216,16 +216,19 @@ list-back (suc m) (a ∷ b ∷ s) p h =
     ∙ ap (λ (l : List ℕ). signedBytes 2 (signed 2 (valueOf (a ∷ b ∷ []))) ++ l) (list-back m s (p .1 .1) (le-of-suc-le-suc (le-of-suc-le-suc h)))
     ∙ signed-back 2 (a ∷ b ∷ s) p (suc-le-suc (suc-le-suc zero-le))
 
-body-12 : (s : List ℕ) → Bytes s → 22 ≤ length s → encodeCommand (division (readDivision s)) ++ drop 22 s ≡ 0x12 ∷ s
+body-12 : (s : List ℕ) → Bytes s → 22 ≤ length s → encodeCommand (division (readDivision (valueOf (take 2 s)) (drop 2 s))) ++ drop 22 s ≡ 0x12 ∷ s
 body-12 s p h =
-    let d₂ : 20 ≤ length (drop 2 s) = omega (arith, lib.ListN.length-drop 2 s) in
-    let d₆ : 16 ≤ length (drop 6 s) = omega (arith, lib.ListN.length-drop 6 s) in
+    let t : List ℕ = drop 2 s in
+    let d₂ : 20 ≤ length t = omega (arith, lib.ListN.length-drop 2 s) in
+    let d₄ : 16 ≤ length (drop 4 t) = omega (arith, lib.ListN.length-drop 4 t) in
+    let c : List ℕ = signedBytes 4 (signed 4 (valueOf (take 4 t))) in
+    let a : List ℕ = concatMap (signedBytes 2) (signedList 8 (drop 4 t)) in
+    let e : drop 22 s ≡ drop 16 (drop 4 t) = sym (lib.Seq.drop-drop 16 6 s) ∙ ap (drop 16) (sym (lib.Seq.drop-drop 4 2 s)) in
     ap (λ (l : List ℕ). 0x12 ∷ l)
-    (append-assoc (bytesOf 2 (valueOf (take 2 s)) ++ signedBytes 4 (signed 4 (valueOf (take 4 (drop 2 s))))) (concatMap (signedBytes 2) (signedList 8 (drop 6 s))) (drop 22 s)
-    ∙ append-assoc (bytesOf 2 (valueOf (take 2 s))) (signedBytes 4 (signed 4 (valueOf (take 4 (drop 2 s))))) (concatMap (signedBytes 2) (signedList 8 (drop 6 s)) ++ drop 22 s)
-    ∙ ap (λ (l : List ℕ). bytesOf 2 (valueOf (take 2 s)) ++ (signedBytes 4 (signed 4 (valueOf (take 4 (drop 2 s)))) ++ l))
-    (ap (λ (l : List ℕ). concatMap (signedBytes 2) (signedList 8 (drop 6 s)) ++ l) (sym (lib.Seq.drop-drop 16 6 s)) ∙ list-back 8 (drop 6 s) (bytes-drop 6 s p) d₆ ∙ sym (lib.Seq.drop-drop 4 2 s))
-    ∙ ap (λ (l : List ℕ). bytesOf 2 (valueOf (take 2 s)) ++ l) (signed-back 4 (drop 2 s) (bytes-drop 2 s p) (omega arith))
+    (append-assoc (bytesOf 2 (valueOf (take 2 s)) ++ c) a (drop 22 s)
+    ∙ append-assoc (bytesOf 2 (valueOf (take 2 s))) c (a ++ drop 22 s)
+    ∙ ap (λ (l : List ℕ). bytesOf 2 (valueOf (take 2 s)) ++ (c ++ l)) (ap (λ (l : List ℕ). a ++ l) e ∙ list-back 8 (drop 4 t) (bytes-drop 4 t (bytes-drop 2 s p)) d₄)
+    ∙ ap (λ (l : List ℕ). bytesOf 2 (valueOf (take 2 s)) ++ l) (signed-back 4 t (bytes-drop 2 s p) (omega arith))
     ∙ value-back 2 s p (omega arith))
 
 body-constraint : (k : Kind) (s : List ℕ) → Bytes s → 36 ≤ length s → encodeCommand (constraint (readConstraint k s)) ++ drop 36 s ≡ opcode k ∷ s
@@ -252,7 +255,7 @@ encode-read b s w l p = at₁ (eqb b 0x11) refl
 
     at₄ : (t : Bool) → eqb b 0x14 ≡ t → eqb b 0x13 ≡ false → eqb b 0x12 ≡ false → eqb b 0x11 ≡ false → encodeCommand (readCommand b s) ++ drop (widthOf b - 1) s ≡ b ∷ s
     at₄ true e z y x = is 0x14 (to-T (eqb b 0x14) e) (λ m. body-constraint inequality s p (le-of-suc-le-suc (leb→le 37 (suc (length s)) m)))
-    at₄ false e z y x = absurd (ap₄ (λ (a c d f : Bool). T (ltb 0 (cond a 1 (cond c 23 (cond (d || f) 37 0))))) x y z e w)
+    at₄ false e z y x = absurd (ap₄ (λ (a c d f : Bool). T (ltb 0 (cond a 1 (cond c (cond c 3 1 + 20) (cond (d || f) (cond c 3 1 + 36) 0))))) x y z e w)
       where
         ap₄ : (Q : Bool → Bool → Bool → Bool → Type 0) {a c d f : Bool} → a ≡ false → c ≡ false → d ≡ false → f ≡ false → Q a c d f → Q false false false false
         ap₄ Q {a} {c} {d} {f} x y z e q = subst (λ (u : Bool). Q false false false u) e (subst (λ (u : Bool). Q false false u f) z (subst (λ (u : Bool). Q false u d f) y (subst (λ (u : Bool). Q u c d f) x q)))

@@ -12,7 +12,7 @@ use lib.ListN.{length, drop}
 use Rattle.integers.specs.LittleEndian.{value-bytes, signed-bytes}
 use Rattle.model.specs.Lists.{all, concatMap}
 use Rattle.model.specs.Sets.{Division, Kind, equality, inequality, Constraint, Set}
-use Rattle.codec.specs.Bytes.{refused, gives, bytesOf, valueOf, signed, signedBytes, Command, opens, division, constraint, opcode, encodeCommand, commands, encode, signedList, readDivision, readConstraint, Counts, coefficient, firstFailing, refusal, counted, widthOf, readCommand, Built, build, after, parse, setOf, axesFit, decode, headRefusal}
+use Rattle.codec.specs.Bytes.{refused, gives, bytesOf, valueOf, signed, signedBytes, Command, opens, division, constraint, opcode, encodeCommand, commands, encode, headOf, signedList, bodyIn, readDivision, readConstraint, Counts, coefficient, firstFailing, refusal, counted, widthOf, readCommand, Built, build, after, parse, setOf, axesFit, decode, headRefusal}
 use Rattle.codec.proofs.Parsing.{parse-next}
 use Rattle.model.proofs.Count.{and-left, and-right, from-T, suc-inj, no-suc}
 
@@ -84,13 +84,13 @@ CommandFits (division e) = DivisionFits e
 CommandFits (constraint r) = ConstraintFits r
 
 -- the bytes after the first
-abbrev divisionBody : Division → List ℕ → List ℕ
-divisionBody e t = bytesOf 2 (e .divisor) ++ (signedBytes 4 (e .constant) ++ (concatMap (signedBytes 2) (e .axes) ++ t))
+abbrev divisionBytes : Division → List ℕ → List ℕ
+divisionBytes e t = bytesOf 2 (e .divisor) ++ (signedBytes 4 (e .constant) ++ (concatMap (signedBytes 2) (e .axes) ++ t))
 
-abbrev ruleBody : Constraint → List ℕ → List ℕ
-ruleBody r t = signedBytes 4 (r .constant) ++ (concatMap (signedBytes 2) (r .axes) ++ (concatMap (signedBytes 2) (r .divisions) ++ t))
+abbrev ruleBytes : Constraint → List ℕ → List ℕ
+ruleBytes r t = signedBytes 4 (r .constant) ++ (concatMap (signedBytes 2) (r .axes) ++ (concatMap (signedBytes 2) (r .divisions) ++ t))
 
-read-division : (e : Division) (t : List ℕ) → DivisionFits e → readDivision (divisionBody e t) ≡ e
+read-division : (e : Division) (t : List ℕ) → DivisionFits e → readDivision (headOf 0x12 (divisionBytes e t)) (bodyIn 0x12 (divisionBytes e t)) ≡ e
 read-division e t f =
     λ i. record {
       divisor = bytes-2 (e .divisor) (f .divisor) i;
@@ -98,7 +98,7 @@ read-division e t f =
       axes = (subst (λ (m : ℕ). signedList m (concatMap (signedBytes 2) (e .axes) ++ t) ≡ e .axes) (f .places) (list-back (e .axes) t (f .axes))) i;
     }
 
-read-constraint : (r : Constraint) (t : List ℕ) → ConstraintFits r → readConstraint (r .kind) (ruleBody r t) ≡ r
+read-constraint : (r : Constraint) (t : List ℕ) → ConstraintFits r → readConstraint (r .kind) (ruleBytes r t) ≡ r
 read-constraint r t f =
     let d : signedList 8 (drop 16 (concatMap (signedBytes 2) (r .axes) ++ (concatMap (signedBytes 2) (r .divisions) ++ t))) ≡ r .divisions =
     ap (signedList 8) (past-8 (r .axes) (concatMap (signedBytes 2) (r .divisions) ++ t) (f .axis-places))
@@ -125,20 +125,20 @@ step n f k b s c t w l q z d =
 parse-command : (n f : ℕ) (k : Counts) (c : Command) (t : List ℕ) → CommandFits c → refusal n k c ≡ 0 → parse n (suc f) k (encodeCommand c ++ t) ≡ after c (parse n f (counted k c) t)
 parse-command n f k opens t h z = step n f k 0x11 t opens t tt (le→leb 1 (suc (length t)) (omega arith)) refl z refl
 parse-command n f k (division e) t h z =
-    step n f k 0x12 (divisionBody e t) (division e) t tt
-    (le→leb 23 (suc (length (divisionBody e t))) (let l = length-coefs (e .axes) 8 t (h .places) in omega arith))
+    step n f k 0x12 (divisionBytes e t) (division e) t tt
+    (le→leb 23 (suc (length (divisionBytes e t))) (let l = length-coefs (e .axes) 8 t (h .places) in omega arith))
     (ap division (read-division e t h)) z (past-8 (e .axes) t (h .places))
 parse-command n f k (constraint r) t h z =
     ap (λ (s : List ℕ). parse n (suc f) k (opcode (r .kind) ∷ (signedBytes 4 (r .constant) ++ s))) (append-assoc (concatMap (signedBytes 2) (r .axes)) (concatMap (signedBytes 2) (r .divisions)) t)
-    ∙ step n f k (opcode (r .kind)) (ruleBody r t) (constraint r) t (known (r .kind))
-    (le→leb (widthOf (opcode (r .kind))) (suc (length (ruleBody r t))) (enough (r .kind)))
-    (as-constraint (r .kind) (ruleBody r t) ∙ ap constraint (read-constraint r t h)) z (past (r .kind))
+    ∙ step n f k (opcode (r .kind)) (ruleBytes r t) (constraint r) t (known (r .kind))
+    (le→leb (widthOf (opcode (r .kind))) (suc (length (ruleBytes r t))) (enough (r .kind)))
+    (as-constraint (r .kind) (ruleBytes r t) ∙ ap constraint (read-constraint r t h)) z (past (r .kind))
   where
     known : (k : Kind) → T (ltb 0 (widthOf (opcode k)))
     known equality = tt
     known inequality = tt
 
-    enough : (k : Kind) → widthOf (opcode k) ≤ suc (length (ruleBody r t))
+    enough : (k : Kind) → widthOf (opcode k) ≤ suc (length (ruleBytes r t))
     enough k = let a = length-coefs (r .axes) 8 (concatMap (signedBytes 2) (r .divisions) ++ t) (h .axis-places) in let b = length-coefs (r .divisions) 8 t (h .division-places) in let w = width k in omega arith
       where
         width : (k : Kind) → widthOf (opcode k) ≡ 37
@@ -152,7 +152,7 @@ parse-command n f k (constraint r) t h z =
     over : drop 16 (drop 16 (concatMap (signedBytes 2) (r .axes) ++ (concatMap (signedBytes 2) (r .divisions) ++ t))) ≡ t
     over = ap (drop 16) (past-8 (r .axes) (concatMap (signedBytes 2) (r .divisions) ++ t) (h .axis-places)) ∙ past-8 (r .divisions) t (h .division-places)
 
-    past : (k : Kind) → drop (widthOf (opcode k) - 1) (ruleBody r t) ≡ t
+    past : (k : Kind) → drop (widthOf (opcode k) - 1) (ruleBytes r t) ≡ t
     past equality = sym (lib.Seq.drop-drop 16 16 (concatMap (signedBytes 2) (r .axes) ++ (concatMap (signedBytes 2) (r .divisions) ++ t))) ∙ over
     past inequality = sym (lib.Seq.drop-drop 16 16 (concatMap (signedBytes 2) (r .axes) ++ (concatMap (signedBytes 2) (r .divisions) ++ t))) ∙ over
 

@@ -1,6 +1,6 @@
 -- From place to place of bytes that are accepted by the way: what one command that is not refused adds.
 use mathlib.Core.Path.{_≡_, refl, sym, ap, ap₂, _∙_, subst}
-use mathlib.Core.Bool.{Bool, true, false, not}
+use mathlib.Core.Bool.{Bool, true, false, not, _&&_}
 use mathlib.Core.List.{List, [], _∷_}
 use mathlib.Core.Logic.{⊎-elim}
 use Prim.Native.Nat.{ℕ, zero, suc, _+_, _-_, _*_, _≤_, _<_}
@@ -15,29 +15,37 @@ use lib.ListN.{length, take, drop, getD, drop-of-length-le, length-drop}
 use lib.Seq.{drop-cons, drop-drop}
 use Rattle.integers.specs.Mach.{clash}
 use Rattle.model.specs.Lists.{all}
-use Rattle.model.specs.Sets.{absent}
-use Rattle.codec.specs.Bytes.{valueOf, signed, signedList, coefficient, within, constantFits, Command, opens, division, constraint, Counts, refusal, counted, widthOf, kindOf, readDivision, readConstraint, readCommand, Built, parse, decode, number, axesFit}
-use Rattle.codec.specs.Places.{commandsOf, built, setFrom, Checked, opened}
+use Rattle.model.specs.Sets.{absent, equality}
+use Rattle.codec.specs.Bytes.{valueOf, signed, signedList, coefficient, within, constantFits, Command, opens, division, constraint, isDivision, bodyOf, headOf, bodyIn, Counts, refusal, counted, widthOf, kindOf, readConstraint, readCommand, Built, parse, decode, number, axesFit}
+use Rattle.codec.specs.Places.{commandsOf, built, setFrom, bodyAt, divisionAt, constraintAt, Checked, opened}
 use Rattle.codec.specs.Accepting.{Over, Upto, InRange, DivisionThere, ConstraintThere, Leads, inBasic, Under, DivisionsTo, ConstraintsTo, Ends, Accepts}
 use Rattle.codec.specs.declared.accepting.Quick.{Quick}
-use Rattle.codec.proofs.Parsing.{start, both, pos-ltb, equality-test, read-opens, read-division, read-constraint, parse-nil, axes-in, decode-good}
+use Rattle.codec.proofs.Parsing.{start, both, pos-ltb, equality-test, divisor-in, body-behind, read-opens, read-division, read-constraint, parse-nil, axes-in, decode-good}
 use Rattle.codec.proofs.Decoded.{Parsed, next}
 use Rattle.codec.proofs.Walking.{added, built-more, built-end, accepted-parsed, parsed-accepted}
 use Rattle.codec.proofs.Ranges.{le-true, coefficients-in, absents-in, under-same, under-more, range-more}
 
--- ---- constants in range
-pub inequality-constant : (b : ℕ) (t : List ℕ) → b ≡ 20 → constantFits (kindOf b) (readConstraint (kindOf b) t .constant) ≡ true
-inequality-constant b t e = ap (λ (k : ℕ). constantFits (kindOf k) (signed 4 (valueOf (take 4 t)))) e
+-- ---- divisors and constants in range
+pub inequality-constant : (b : ℕ) (s : List ℕ) → b ≡ 0x14 → constantFits (kindOf b) (readConstraint (kindOf b) (bodyIn b s) .constant) ≡ true
+inequality-constant b s e = ap (λ (k : ℕ). constantFits (kindOf k) (signed 4 (valueOf (take 4 (bodyIn k s))))) e
 
-pub equality-constant : (b v : ℕ) (t : List ℕ) → b ≡ 19 → v ≡ valueOf (take 4 t) → v < 4294967296 → not (eqb v 2147483648) ≡ true → constantFits (kindOf b) (readConstraint (kindOf b) t .constant) ≡ true
-equality-constant b v t e q h z = ap₂ (λ (k w : ℕ). constantFits (kindOf k) (signed 4 w)) e (sym q) ∙ equality-test v h ∙ z
+pub equality-constant : (b v : ℕ) (s : List ℕ) → b ≡ 0x13 → v ≡ valueOf (take 4 s) → v < 4294967296 → not (eqb v 2147483648) ≡ true → constantFits (kindOf b) (readConstraint (kindOf b) (bodyIn b s) .constant) ≡ true
+equality-constant b v s e q h z =
+    ap (λ (k : ℕ). constantFits (kindOf k) (signed 4 (valueOf (take 4 (bodyIn k s))))) e
+    ∙ ap (λ (w : ℕ). constantFits equality (signed 4 w)) (sym q) ∙ equality-test v h ∙ z
 
-pub division-constant : (z : ℤ) (at : ℕ) (s : List ℕ) → z ≡ signed 4 (valueOf (take 4 (drop (at + 3) s))) → negsuc 999999999 ≤ℤ z → z ≤ℤ pos 1000000000
-    → within (negsuc 999999999) (pos 1000000000) (readDivision (drop (at + 1) s) .constant) ≡ true
-division-constant z at s e l h =
-    let i : at + 1 + 2 ≡ at + 3 = omega arith in
-    ap (λ (t : List ℕ). within (negsuc 999999999) (pos 1000000000) (signed 4 (valueOf (take 4 t)))) (drop-drop 2 (at + 1) s ∙ ap (λ (j : ℕ). drop j s) i)
-    ∙ ap (within (negsuc 999999999) (pos 1000000000)) (sym e) ∙ both (le-true (negsuc 999999999) z l) (le-true z (pos 1000000000) h)
+module _ (at : ℕ) (s : List ℕ) (c : getD s at 0 ≡ 0x12) where
+  pub division-divisor : (d : ℕ) → d ≡ valueOf (take 2 (drop (at + 1) s)) → (d ≡ 0 → ⊥) → d ≤ 32767 → (ltb 0 (divisionAt s at .divisor) && leb (divisionAt s at .divisor) 32767) ≡ true
+  division-divisor d e n h =
+      ap (λ (b : ℕ). ltb 0 (headOf b (drop (at + 1) s)) && leb (headOf b (drop (at + 1) s)) 32767) c ∙ divisor-in d (valueOf (take 2 (drop (at + 1) s))) e n h
+
+  pub division-constant : (z : ℤ) → z ≡ signed 4 (valueOf (take 4 (drop (at + 3) s))) → negsuc 999999999 ≤ℤ z → z ≤ℤ pos 1000000000
+      → within (negsuc 999999999) (pos 1000000000) (divisionAt s at .constant) ≡ true
+  division-constant z e l h =
+      let i : at + 1 + 2 ≡ at + 3 = omega arith in
+      ap (λ (b : ℕ). within (negsuc 999999999) (pos 1000000000) (signed 4 (valueOf (take 4 (bodyIn b (drop (at + 1) s)))))) c
+      ∙ ap (λ (t : List ℕ). within (negsuc 999999999) (pos 1000000000) (signed 4 (valueOf (take 4 t)))) (drop-drop 2 (at + 1) s ∙ ap (λ (j : ℕ). drop j s) i)
+      ∙ ap (within (negsuc 999999999) (pos 1000000000)) (sym e) ∙ both (le-true (negsuc 999999999) z l) (le-true z (pos 1000000000) h)
 
 -- ---- from place to place
 module _ (n : ℕ) (s : List ℕ) where
@@ -84,36 +92,42 @@ module _ (n : ℕ) (s : List ℕ) where
         }
 
   -- ---- each command
-  pub leads-opens : (at : ℕ) (k : Counts) → at < length s → getD s at 0 ≡ 17 → k .basics < 32 → Leads n s at k (at + 1) (opened (k .basics + 1))
+  pub leads-opens : (at : ℕ) (k : Counts) → at < length s → getD s at 0 ≡ 0x11 → k .basics < 32 → Leads n s at k (at + 1) (opened (k .basics + 1))
   leads-opens at k l e f = let x = lt-ltb (k .basics) 32 f in leads-next at 1 k opens (read-opens (getD s at 0) (drop (at + 1) s) e) (ap widthOf e) (omega arith) (omega arith) (rw x)
 
-  -- the eight coefficients at a place inside a command
-  inner : (f : List ℤ → Bool) (at p q : ℕ) → at + 1 + p ≡ q → f (signedList 8 (drop q s)) ≡ true → f (signedList 8 (drop p (drop (at + 1) s))) ≡ true
-  inner f at p q e x = ap (λ (t : List ℕ). f (signedList 8 t)) (drop-drop p (at + 1) s ∙ ap (λ (j : ℕ). drop j s) e) ∙ x
+  -- the eight coefficients at a place inside a body
+  inner : (f : List ℤ → Bool) (at p q : ℕ) → at + bodyOf (getD s at 0) + p ≡ q → f (signedList 8 (drop q s)) ≡ true → f (signedList 8 (drop p (bodyAt s at))) ≡ true
+  inner f at p q e x =
+      let o = body-behind (getD s at 0) in
+      let i : at + 1 + (bodyOf (getD s at 0) - 1) + p ≡ q = omega arith in
+      ap (λ (t : List ℕ). f (signedList 8 t)) (ap (drop p) (drop-drop (bodyOf (getD s at 0) - 1) (at + 1) s) ∙ drop-drop p (at + 1 + (bodyOf (getD s at 0) - 1)) s ∙ ap (λ (j : ℕ). drop j s) i) ∙ x
 
   module _ (at b d : ℕ) (m : n ≤ 8) (g : 0 < b) (low high : List ℤ) (r : InRange n low high) where
     pub leads-division : DivisionThere s at → d < 8 → Over low s (at + 7) → Upto high s (at + 7) → Leads n s at (inBasic b d 0) (at + 23) (inBasic b (d + 1) 0)
     leads-division v f o u =
-        let t : List ℕ = drop (at + 1) s in
+        let i : bodyOf (getD s at 0) ≡ 3 = ap bodyOf (v .command) in
         let x₁ = pos-ltb b (λ y. omega arith) in
         let x₂ = lt-ltb d 8 f in
         let x₃ = v .divisor in
-        let x₄ = both (v .constant) (inner (all coefficient) at 6 (at + 7) (omega arith) (coefficients-in n (at + 7) s low high m r o u)) in
-        let x₅ = inner (absent n) at 6 (at + 7) (omega arith) (absents-in n (at + 7) s low high m r o u) in
-        leads-next at 23 (inBasic b d 0) (division (readDivision t)) (read-division (getD s at 0) t (v .command)) (ap widthOf (v .command)) (omega arith) (v .inside) (simp (x₁, x₂, x₃, x₄, x₅))
+        let x₄ = both (v .constant) (inner (all coefficient) at 4 (at + 7) (omega arith) (coefficients-in n (at + 7) s low high m r o u)) in
+        let x₅ = inner (absent n) at 4 (at + 7) (omega arith) (absents-in n (at + 7) s low high m r o u) in
+        leads-next at 23 (inBasic b d 0) (division (divisionAt s at)) (read-division (getD s at 0) (drop (at + 1) s) (ap isDivision (v .command))) (ap widthOf (v .command)) (omega arith) (v .inside) (simp (x₁, x₂, x₃, x₄, x₅))
 
     pub leads-constraint : (c : ℕ) (below above : List ℤ) → d ≤ 8 → InRange d below above → ConstraintThere s at → c < 48 → Over low s (at + 5) → Upto high s (at + 5) → Over below s (at + 21) → Upto above s (at + 21)
         → Leads n s at (inBasic b d c) (at + 37) (inBasic b d (c + 1))
     leads-constraint c below above w a v f o u p q =
-        let t : List ℕ = drop (at + 1) s in
+        let i : bodyOf (getD s at 0) ≡ 1 = ⊎-elim (λ x. ap bodyOf x) (λ x. ap bodyOf x) (v .command) in
         let x₁ = pos-ltb b (λ y. omega arith) in
         let x₂ = lt-ltb c 48 f in
         let x₃ = both (v .constant) (both (inner (all coefficient) at 4 (at + 5) (omega arith) (coefficients-in n (at + 5) s low high m r o u)) (inner (all coefficient) at 20 (at + 21) (omega arith) (coefficients-in d (at + 21) s below above w a p q))) in
         let x₄ = both (inner (absent n) at 4 (at + 5) (omega arith) (absents-in n (at + 5) s low high m r o u)) (inner (absent d) at 20 (at + 21) (omega arith) (absents-in d (at + 21) s below above w a p q)) in
-        leads-next at 37 (inBasic b d c) (constraint (readConstraint (kindOf (getD s at 0)) t)) (read-constraint (getD s at 0) t (other 17 (omega arith) (omega arith)) (other 18 (omega arith) (omega arith))) wide (omega arith) (v .inside) (simp (x₁, x₂, x₃, x₄))
+        leads-next at 37 (inBasic b d c) (constraint (constraintAt s at)) (read-constraint (getD s at 0) (drop (at + 1) s) not-opens not-division) wide (omega arith) (v .inside) (simp (x₁, x₂, x₃, x₄))
       where
-        other : (k : ℕ) → k < 19 → k < 20 → getD s at 0 ≡ k → ⊥
-        other k l h y = ⊎-elim (λ x. omega arith) (λ x. omega arith) (v .command)
+        not-opens : getD s at 0 ≡ 0x11 → ⊥
+        not-opens y = ⊎-elim (λ x. omega arith) (λ x. omega arith) (v .command)
+
+        not-division : isDivision (getD s at 0) ≡ false
+        not-division = ⊎-elim (λ x. ap isDivision x) (λ x. ap isDivision x) (v .command)
 
         wide : widthOf (getD s at 0) ≡ 37
         wide = ⊎-elim (λ x. ap widthOf x) (λ x. ap widthOf x) (v .command)
@@ -182,7 +196,7 @@ pub record Walked (n : ℕ) (s : List ℕ) (at basics : ℕ) : Type 0 where
 pub walked-start : (n : ℕ) (s : List ℕ) → Walked n s 0 0
 walked-start n s = record { k = start; is = refl; inside = omega arith; few = omega arith; leads = leads-none n s 0 start }
 
-pub walked-next : (n : ℕ) (s : List ℕ) (at basics end : ℕ) → Walked n s at basics → at < length s → getD s at 0 ≡ 17 → basics < 32 → Ends n s (at + 1) end → Walked n s end (basics + 1)
+pub walked-next : (n : ℕ) (s : List ℕ) (at basics end : ℕ) → Walked n s at basics → at < length s → getD s at 0 ≡ 0x11 → basics < 32 → Ends n s (at + 1) end → Walked n s end (basics + 1)
 walked-next n s at basics end w l e f x =
     let q = w .is in
     let k : ℕ = w .k .basics + 1 in

@@ -4,6 +4,7 @@ pub mod Split
 pub mod Encoded
 pub mod Decoded
 pub mod Walking
+pub mod Standing
 pub mod Boundaries
 pub mod Valid
 pub mod Commands

@@ -2,21 +2,19 @@
 use mathlib.Core.Path.{_≡_, refl, sym, ap, ap₂, _∙_}
 use mathlib.Core.Bool.{Bool, true, false, cond}
 use mathlib.Core.List.{List, [], _∷_, _++_}
+use mathlib.Core.Logic.{⊎-elim}
 use Prim.Native.Nat.{ℕ, _+_, _-_, _≤_, _<_}
 use native.Mathlib.Numerals.{add-one}
 use native.Mathlib.Omega.{arith}
-use lib.Dec.{ltb}
 use lib.ListN.{length, take, drop, getD, length-append, length-drop, drop-of-length-le}
 use lib.Seq.{take-all, drop-cons, take-suc}
-use borrow.Author.Tests.{lt-ltb, le-ltb, ltb-true, ltb-false, eqb-true, eqb-false}
-use lib.Dec.{eqb}
+use borrow.Author.Tests.{lt-ltb, le-ltb}
 use Rattle.model.specs.Sets.{BasicSet, Set}
-use Rattle.codec.specs.Bytes.{Answer, refused, gives, Command, Counts, counted, readCommand, widthOf, Built, encode, decode, number}
-use Rattle.codec.specs.Places.{built, basicAt, setFrom, endOf, Checked, Accepted, Opened, opened, Boundary}
+use Rattle.codec.specs.Bytes.{Answer, refused, gives, goesOn, Counts, widthOf, encode, decode, number}
+use Rattle.codec.specs.Places.{basicAt, setFrom, endOf, nextOf, Checked, Accepted, Opened, opened, Boundary}
 use Rattle.codec.specs.Parts.{nowhere, partAt, partIn, partOf, Started}
-use Rattle.codec.proofs.Parsing.{read-opens, read-division, read-constraint, width-division, width-constraint}
 use Rattle.codec.proofs.Decoded.{Bytes}
-use Rattle.codec.proofs.Walking.{added, Head, head, inside-of, built-end}
+use Rattle.codec.proofs.Standing.{division-at, constraint-at, goes-on-at, ended-at, end-here}
 use Rattle.codec.proofs.Boundaries.{boundary-start, boundary-end, boundary-next, boundary-set, decode-is}
 use Rattle.codec.proofs.RoundTrips.{basic-size}
 use Rattle.codec.proofs.Commands.{encode-more}
@@ -33,52 +31,16 @@ ending-start s at o = record { n = o .n; k = opened (o .basics); here = o .here;
 
 module _ (s : List ℕ) (first at : ℕ) (e : Ending s first at) where
   -- a division or a constraint: its width goes on
-  pub ending-next : 17 < getD s at 0 → Ending s first (at + widthOf (getD s at 0)) × (0 < widthOf (getD s at 0))
+  pub ending-next : goesOn (getD s at 0) ≡ true → Ending s first (nextOf s at) × (0 < widthOf (getD s at 0))
   ending-next g =
-      let l = inside-of s at (getD s at 0) refl (omega arith) in
-      let h = head (e .n) s at (e .k) (widthOf (getD s at 0)) (e .here) l refl in
-      (record { n = e .n; k = counted (e .k) (readCommand (getD s at 0) (drop (at + 1) s)); here = h .there; same = by h (eqb (getD s at 0) 18) refl ∙ e .same }, h .wide)
-    where
-      by : Head (e .n) s at (e .k) (widthOf (getD s at 0)) → (x : Bool) → eqb (getD s at 0) 18 ≡ x → endOf s (at + widthOf (getD s at 0)) ≡ endOf s at
-      by h true q =
-          let i = eqb-true (getD s at 0) 18 q in let w = width-division (getD s at 0) i in
-          let b = h .builds ∙ ap (λ (y : Command). added y (built (drop (at + widthOf (getD s at 0)) s))) (read-division (getD s at 0) (drop (at + 1) s) i) in
-          omega (arith, ap (λ (x : Built). length (x .divisions)) b, ap (λ (x : Built). length (x .constraints)) b)
-      by h false q =
-          let i = eqb-false (getD s at 0) 18 q in let o = h .wide in let j : getD s at 0 ≡ 17 → ⊥ = λ z. omega arith in
-          let w = width-constraint (getD s at 0) j i (λ z. omega arith) in
-          let b = h .builds ∙ ap (λ (y : Command). added y (built (drop (at + widthOf (getD s at 0)) s))) (read-constraint (getD s at 0) (drop (at + 1) s) j i) in
-          omega (arith, ap (λ (x : Built). length (x .divisions)) b, ap (λ (x : Built). length (x .constraints)) b)
+      ⊎-elim
+      (λ q. let h = division-at (e .n) s at (e .k) (e .here) q in (record { n = e .n; k = _; here = h .there; same = h .end ∙ e .same }, h .whole .known))
+      (λ q. let h = constraint-at (e .n) s at (e .k) (e .here) q in (record { n = e .n; k = _; here = h .there; same = h .end ∙ e .same }, h .whole .known))
+      (goes-on-at (e .n) s at (e .k) (e .here) g)
 
   -- another `11`, or the end
-  pub ending-end : getD s at 0 ≤ 17 → at ≡ endOf s first
-  ending-end g = go (ltb at (length s)) refl ∙ e .same
-    where
-      go : (x : Bool) → ltb at (length s) ≡ x → at ≡ endOf s at
-      go false q = let b = built-end s at (ltb-false at (length s) q) in omega (arith, ap (λ (x : Built). length (x .divisions)) b, ap (λ (x : Built). length (x .constraints)) b)
-      go true q = byte (eqb (getD s at 0) 17) refl
-        where
-          h : Head (e .n) s at (e .k) (widthOf (getD s at 0))
-          h = head (e .n) s at (e .k) (widthOf (getD s at 0)) (e .here) (ltb-true at (length s) q) refl
-
-          byte : (x : Bool) → eqb (getD s at 0) 17 ≡ x → at ≡ endOf s at
-          byte true p =
-              let b = h .builds ∙ ap (λ (y : Command). added y (built (drop (at + widthOf (getD s at 0)) s))) (read-opens (getD s at 0) (drop (at + 1) s) (eqb-true (getD s at 0) 17 p)) in
-              omega (arith, ap (λ (x : Built). length (x .divisions)) b, ap (λ (x : Built). length (x .constraints)) b)
-          byte false p =
-              let i = eqb-false (getD s at 0) 17 p in let o = h .wide in
-              let w = width-constraint (getD s at 0) i (λ z. omega arith) (λ z. omega arith) in
-              absurd (low (getD s at 0) w g)
-            where
-              low : (b : ℕ) → widthOf b ≡ 37 → b ≤ 17 → ⊥
-              low b w l =
-                  let x : eqb b 19 ≡ false = borrow.Author.Tests.ne-eqb b 19 (λ z. omega arith) in let y : eqb b 20 ≡ false = borrow.Author.Tests.ne-eqb b 20 (λ z. omega arith) in
-                  let u : eqb b 18 ≡ false = borrow.Author.Tests.ne-eqb b 18 (λ z. omega arith) in
-                  at17 (eqb b 17) refl x y u
-                where
-                  at17 : (t : Bool) → eqb b 17 ≡ t → eqb b 19 ≡ false → eqb b 20 ≡ false → eqb b 18 ≡ false → ⊥
-                  at17 true t x y u = let z : widthOf b ≡ 1 = simp t in omega arith
-                  at17 false t x y u = let z : widthOf b ≡ 0 = simp (t, u, x, y) in omega arith
+  pub ending-end : goesOn (getD s at 0) ≡ false → at ≡ endOf s first
+  ending-end g = let z = ended-at (e .n) s at (e .k) (e .here) g in sym (end-here s at (z .0) (z .1)) ∙ e .same
 
 -- ---- basic set number i
 pub started-first : (s : List ℕ) → Accepted s → Started s 0 0

@@ -1,6 +1,6 @@
 -- Laws of the readers, of the tests of numbers, and of the parse from a place on.
-use mathlib.Core.Path.{_≡_, refl, sym, ap, ap₂, _∙_}
-use mathlib.Core.Bool.{Bool, true, false, not, _&&_, cond}
+use mathlib.Core.Path.{_≡_, refl, sym, ap, ap₂, _∙_, subst}
+use mathlib.Core.Bool.{Bool, true, false, not, _&&_, _||_, cond}
 use mathlib.Core.List.{List, [], _∷_}
 use Prim.Native.Nat.{ℕ, zero, suc, _+_, _-_, _*_, _≤_, _<_}
 use native.Mathlib.Numerals.{add-one}
@@ -14,8 +14,9 @@ use lib.Seq.{drop-cons, drop-drop}
 use lib.Dec.{ltb→lt}
 use Rattle.integers.specs.LittleEndian.{signed-ind}
 use Rattle.model.specs.Lists.{all}
-use Rattle.model.specs.Sets.{isZero, absent, equality}
-use Rattle.codec.specs.Bytes.{Answer, refused, gives, valueOf, signed, signedList, coefficient, within, constantFits, Command, opens, division, constraint, kindOf, Counts, firstFailing, testsOf, refusal, counted, widthOf, readDivision, readConstraint, readCommand, headRefusal, after, parse, setOf, axesFit, decode, number}
+use Rattle.model.specs.Sets.{isZero, absent, equality, inequality}
+use Rattle.codec.specs.Bytes.{Answer, refused, gives, valueOf, signed, signedList, coefficient, within, constantFits, Command, opens, division, constraint, isOpening, isDivision, isConstraint, isEquality, goesOn, bodyOf, headOf, divisionBody, constraintBody, kindOf, Counts, firstFailing, testsOf, refusal, counted, widthOf, readDivision, readConstraint, bodyIn, readCommand, headRefusal, after, parse, setOf, axesFit, decode, number}
+use Rattle.codec.specs.Places.{longestConstraint}
 
 -- ---- lists of coefficients
 pub all-more : (f : ℤ → Bool) (left p : ℕ) (s : List ℕ) → (left ≡ 0 → ⊥) → all f (signedList left (drop p s)) ≡ (f (signed 2 (valueOf (take 2 (drop p s)))) && all f (signedList (left - 1) (drop (p + 2) s)))
@@ -181,30 +182,112 @@ module _ (n : ℕ) (k : Counts) (b : ℕ) (s : List ℕ) (at w : ℕ) (h : at < 
       ap₂ (λ (x y : Bool). cond x (cond y (cond (eqb (refusal n k (readCommand b (drop (at + 1) s))) 0) 0 (refusal n k (readCommand b (drop (at + 1) s)))) 3) 2) d f
       ∙ zero-same (refusal n k (readCommand b (drop (at + 1) s)))
 
-  pub room : (m : ℕ) → widthOf b ≡ suc m → w ≤ length s - at → m ≤ length (drop (at + 1) s)
-  room m q l = let r = length-rest in omega arith
-
-pub read-opens : (b : ℕ) (s : List ℕ) → b ≡ 17 → readCommand b s ≡ opens
+-- ---- the command by its first byte
+pub read-opens : (b : ℕ) (s : List ℕ) → b ≡ 0x11 → readCommand b s ≡ opens
 read-opens b s e = rw e
 
-pub read-division : (b : ℕ) (s : List ℕ) → b ≡ 18 → readCommand b s ≡ division (readDivision s)
-read-division b s e = rw e
+pub read-division : (b : ℕ) (s : List ℕ) → isDivision b ≡ true → readCommand b s ≡ division (readDivision (headOf b s) (bodyIn b s))
+read-division b s e = let q : b ≡ 0x12 = eqb-true b 0x12 e in rw q
 
-pub read-constraint : (b : ℕ) (s : List ℕ) → (b ≡ 17 → ⊥) → (b ≡ 18 → ⊥) → readCommand b s ≡ constraint (readConstraint (kindOf b) s)
-read-constraint b s p q = let d : eqb b 17 ≡ false = ne-eqb b 17 p in let f : eqb b 18 ≡ false = ne-eqb b 18 q in simp (d, f)
+pub read-constraint : (b : ℕ) (s : List ℕ) → (b ≡ 0x11 → ⊥) → isDivision b ≡ false → readCommand b s ≡ constraint (readConstraint (kindOf b) (bodyIn b s))
+read-constraint b s p f = let d : eqb b 0x11 ≡ false = ne-eqb b 0x11 p in simp (d, f)
 
-pub width-division : (b : ℕ) → b ≡ 18 → widthOf b ≡ 23
-width-division b e = ap widthOf e
+pub width-division : (b : ℕ) → isDivision b ≡ true → widthOf b ≡ bodyOf b + divisionBody
+width-division b e = let q : b ≡ 0x12 = eqb-true b 0x12 e in rw q
 
-pub width-constraint : (b : ℕ) → (b ≡ 17 → ⊥) → (b ≡ 18 → ⊥) → (widthOf b ≡ 0 → ⊥) → widthOf b ≡ 37
-width-constraint b p q z =
-    let d : eqb b 17 ≡ false = ne-eqb b 17 p in let f : eqb b 18 ≡ false = ne-eqb b 18 q in
-    let g : widthOf b ≡ cond (mathlib.Core.Bool._||_ (eqb b 19) (eqb b 20)) 37 0 = simp (d, f) in
-    g ∙ at (mathlib.Core.Bool._||_ (eqb b 19) (eqb b 20)) (λ y. z (g ∙ y))
+pub width-constraint : (b : ℕ) → (b ≡ 0x11 → ⊥) → isDivision b ≡ false → isConstraint b ≡ true → widthOf b ≡ bodyOf b + constraintBody
+width-constraint b p f e = let d : eqb b 0x11 ≡ false = ne-eqb b 0x11 p in simp (d, f, e)
+
+-- a byte that is the command of a division, of a constraint, of neither
+pub record IsDivision (b : ℕ) : Type 0 where
+  pub not-opens : b ≡ 0x11 → ⊥
+  pub some : 0 < b
+
+pub division-code : (b : ℕ) → isDivision b ≡ true → IsDivision b
+division-code b e = let q : b ≡ 0x12 = eqb-true b 0x12 e in record { not-opens = λ z. omega arith; some = omega arith }
+
+pub record IsConstraint (b : ℕ) : Type 0 where
+  pub not-opens : b ≡ 0x11 → ⊥
+  pub not-division : isDivision b ≡ false
+  pub some : 0 < b
+
+pub constraint-code : (b : ℕ) → isConstraint b ≡ true → IsConstraint b
+constraint-code b e = go (eqb b 0x13) refl (eqb b 0x14) refl e
   where
-    at : (x : Bool) → (_≡_ {A = ℕ} (cond x 37 0) 0 → ⊥) → _≡_ {A = ℕ} (cond x 37 0) 37
-    at true u = refl
-    at false u = absurd (u refl)
+    is : (c : ℕ) → 0x12 < c → b ≡ c → IsConstraint b
+    is c h q = record { not-opens = λ z. omega arith; not-division = ne-eqb b 0x12 (λ z. omega arith); some = omega arith }
+
+    go : (x : Bool) → eqb b 0x13 ≡ x → (y : Bool) → eqb b 0x14 ≡ y → (x || y) ≡ true → IsConstraint b
+    go true p y q e = is 0x13 (omega arith) (eqb-true b 0x13 p)
+    go false p true q e = is 0x14 (omega arith) (eqb-true b 0x14 q)
+    go false p false q e = absurd (subst T (sym e) tt)
+
+pub no-code : (b : ℕ) → isConstraint b ≡ false → (b ≡ 0x11 → ⊥) → isDivision b ≡ false → widthOf b ≡ 0
+no-code b e p f = let d : eqb b 0x11 ≡ false = ne-eqb b 0x11 p in simp (d, f, e)
+
+-- a command that neither opens nor is a division
+pub other-code : (b : ℕ) → (b ≡ 0x11 → ⊥) → isDivision b ≡ false → (widthOf b ≡ 0 → ⊥) → isConstraint b ≡ true
+other-code b p f z = by (λ (x : Bool). isConstraint b ≡ x → isConstraint b ≡ true) (isConstraint b) (λ q e. e) (λ q e. absurd (z (no-code b e p f))) refl
+
+-- a byte at which a basic set goes on, or does not
+pub on-code : (b : ℕ) → goesOn b ≡ true → (b ≡ 0x11 → ⊥) × (0 < b)
+on-code b e = let l = ltb-true 0x11 b e in (λ z. omega arith, omega arith)
+
+pub off-code : (b : ℕ) → goesOn b ≡ false → (isDivision b ≡ false) × (isConstraint b ≡ false)
+off-code b e =
+    let l = borrow.Author.Tests.ltb-false 0x11 b e in
+    let x : eqb b 0x13 ≡ false = ne-eqb b 0x13 (λ z. omega arith) in let y : eqb b 0x14 ≡ false = ne-eqb b 0x14 (λ z. omega arith) in
+    (ne-eqb b 0x12 (λ z. omega arith), simp (x, y))
+
+pub width-most : (b : ℕ) → widthOf b ≤ longestConstraint
+width-most b = go (isOpening b) (isDivision b) (isConstraint b)
+  where
+    go : (x y z : Bool) → cond x 1 (cond y (cond y 3 1 + divisionBody) (cond z (cond y 3 1 + constraintBody) 0)) ≤ longestConstraint
+    go true y z = omega arith
+    go false true z = omega arith
+    go false false true = omega arith
+    go false false false = omega arith
+
+pub kind-equality : (b : ℕ) → isEquality b ≡ true → kindOf b ≡ equality
+kind-equality b e = ap (λ (x : Bool). cond x equality inequality) e
+
+pub kind-inequality : (b : ℕ) → isEquality b ≡ false → kindOf b ≡ inequality
+kind-inequality b e = ap (λ (x : Bool). cond x equality inequality) e
+
+-- what stands before the body
+pub head-division : (b : ℕ) (s : List ℕ) → isDivision b ≡ true → headOf b s ≡ valueOf (take 2 s)
+head-division b s e = ap (λ (x : Bool). valueOf (take (cond x 3 1 - 1) s)) e
+
+pub head-none : (b : ℕ) (s : List ℕ) → isDivision b ≡ false → headOf b s ≡ 0
+head-none b s e = ap (λ (x : Bool). valueOf (take (cond x 3 1 - 1) s)) e
+
+-- the body of a command is behind its first byte, and as long as the command says
+pub body-behind : (b : ℕ) → 0 < bodyOf b
+body-behind b = by (λ (x : Bool). 0 < cond x 3 1) (isDivision b) (λ q. omega arith) (λ q. omega arith)
+
+pub body-division : (b : ℕ) → isDivision b ≡ true → bodyOf b ≡ 3
+body-division b e = ap (λ (x : Bool). cond x 3 1) e
+
+pub body-other : (b : ℕ) → isDivision b ≡ false → bodyOf b ≡ 1
+body-other b e = ap (λ (x : Bool). cond x 3 1) e
+
+pub body-in : (b : ℕ) → 0 < widthOf b → bodyOf b ≤ widthOf b
+body-in b h = go (eqb b 0x11) (isDivision b) (isConstraint b) (λ e. let q : b ≡ 0x11 = eqb-true b 0x11 e in ap isDivision q) h
+  where
+    go : (x y z : Bool) → (x ≡ true → y ≡ false) → 0 < cond x 1 (cond y (cond y 3 1 + divisionBody) (cond z (cond y 3 1 + constraintBody) 0)) → cond y 3 1 ≤ cond x 1 (cond y (cond y 3 1 + divisionBody) (cond z (cond y 3 1 + constraintBody) 0))
+    go true true z d h = absurd (subst T (d refl) tt)
+    go true false z d h = omega arith
+    go false true z d h = omega arith
+    go false false true d h = omega arith
+    go false false false d h = absurd (omega arith)
+
+pub body-drop : (b : ℕ) (s : List ℕ) (at : ℕ) → drop (at + bodyOf b) s ≡ bodyIn b (drop (at + 1) s)
+body-drop b s at =
+    let o = body-behind b in let i : at + 1 + (bodyOf b - 1) ≡ at + bodyOf b = omega arith in
+    sym (drop-drop (bodyOf b - 1) (at + 1) s ∙ ap (λ (j : ℕ). drop j s) i)
+
+pub body-room : (b : ℕ) (s : List ℕ) (at m : ℕ) → widthOf b ≡ bodyOf b + m → at + widthOf b ≤ length s → m ≤ length (bodyIn b (drop (at + 1) s))
+body-room b s at m w h = let o = body-behind b in omega (arith, length-drop (bodyOf b - 1) (drop (at + 1) s), length-drop (at + 1) s)
 
 -- ---- what the tests say where none fails
 abbrev pub Passed : List (Bool × ℕ) → Type 0

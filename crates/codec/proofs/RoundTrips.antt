@@ -1,5 +1,5 @@
 -- What is decoded from checked bytes encodes to those bytes, and what is encoded decodes to what it was: for each basic set.
-use mathlib.Core.Path.{_≡_, sym, ap, ap₂, _∙_, subst}
+use mathlib.Core.Path.{_≡_, refl, sym, ap, ap₂, _∙_, subst}
 use mathlib.Core.List.{List, [], _∷_, _++_, map, append-nil}
 use Prim.Native.Nat.{ℕ, _+_, _-_, _*_, _≤_, _<_}
 use native.Mathlib.Omega.{arith}
@@ -10,7 +10,7 @@ use Rattle.integers.specs.LittleEndian.{bytes-drop}
 use Rattle.model.specs.Lists.{concatMap}
 use Rattle.model.specs.Sets.{Division, Constraint, BasicSet, Set}
 use Rattle.codec.specs.Bytes.{gives, Command, division, constraint, encodeCommand, commands, encode, signedBytes, axesFit, decode, number}
-use Rattle.codec.specs.Places.{commandsOf, built, basicAt, setFrom, endOf, Boundary}
+use Rattle.codec.specs.Places.{commandsOf, built, basicAt, setFrom, divisionWidth, constraintWidth, widths, longestDivision, longestConstraint, longestBasic, longestSet, endOf, Boundary}
 use Rattle.codec.proofs.Decoded.{Bytes, bytes-back, commands-back, encode-decode}
 use Rattle.codec.proofs.Walking.{accepted-parsed, checked-unrefused}
 use Rattle.codec.proofs.Boundaries.{boundary-start, boundary-set, decode-is}
@@ -18,28 +18,41 @@ use Rattle.codec.proofs.Valid.{All, ValidDivision, ValidConstraint, Val
 use Rattle.codec.proofs.Commands.{coefficients-length, concat-map, concat-more, encode-more}
 
 -- ---- how long a basic set is
-concat-size : {A : Type 0} (f : A → List ℕ) (P : A → Type 0) (w : ℕ) → ((a : A) → P a → length (f a) ≡ w) → (l : List A) → All P l → length (concatMap f l) ≡ w * length l
-concat-size f P w h [] p = sym (native.Mathlib.Nat.mul-zero w)
-concat-size f P w h (a ∷ l) p =
-    length-append (f a) (concatMap f l) ∙ ap₂ _+_ (h a (p .0)) (concat-size f P w h l (p .1)) ∙ native.Mathlib.Nat.add-comm w (w * length l) ∙ sym (native.Mathlib.Nat.mul-suc w (length l))
+concat-size : {A : Type 0} (f : A → List ℕ) (P : A → Type 0) (w : A → ℕ) → ((a : A) → P a → length (f a) ≡ w a) → (l : List A) → All P l → length (concatMap f l) ≡ widths w l
+concat-size f P w h [] p = refl
+concat-size f P w h (a ∷ l) p = length-append (f a) (concatMap f l) ∙ ap₂ _+_ (h a (p .0)) (concat-size f P w h l (p .1))
 
-pub division-size : (n : ℕ) (e : Division) → ValidDivision n e → length (encodeCommand (division e)) ≡ 23
+division-size : (n : ℕ) (e : Division) → ValidDivision n e → length (encodeCommand (division e)) ≡ divisionWidth e
 division-size n e v = let l = v .places in let m = coefficients-length (e .axes) in omega arith
 
-pub constraint-size : (n k : ℕ) (r : Constraint) → ValidConstraint n k r → length (encodeCommand (constraint r)) ≡ 37
+constraint-size : (n k : ℕ) (r : Constraint) → ValidConstraint n k r → length (encodeCommand (constraint r)) ≡ constraintWidth r
 constraint-size n k r v =
     let l = v .axis-places in let l′ = v .division-places in let m = coefficients-length (r .axes) in let m′ = coefficients-length (r .divisions) in
     let a = length-append (concatMap (signedBytes 2) (r .axes)) (concatMap (signedBytes 2) (r .divisions)) in omega arith
 
-pub valid-size : (n : ℕ) (b : BasicSet) → Valid n b → length (encode (b ∷ [])) ≡ 1 + 23 * length (b .divisions) + 37 * length (b .constraints)
+pub valid-size : (n : ℕ) (b : BasicSet) → Valid n b → length (encode (b ∷ [])) ≡ 1 + (widths divisionWidth (b .divisions) + widths constraintWidth (b .constraints))
 unfolding encode
 valid-size n b v =
     let D : List Command = map division (b .divisions) in let R : List Command = map constraint (b .constraints) in
     let s : concatMap encodeCommand (D ++ R ++ []) ≡ concatMap encodeCommand D ++ concatMap encodeCommand R = ap (concatMap encodeCommand) (append-nil (D ++ R)) ∙ concat-more encodeCommand D R in
-    let d = concat-size (λ (e : Division). encodeCommand (division e)) (ValidDivision n) 23 (division-size n) (b .divisions) (v .divisions) in
-    let r = concat-size (λ (e : Constraint). encodeCommand (constraint e)) (ValidConstraint n (length (b .divisions))) 37 (constraint-size n (length (b .divisions))) (b .constraints) (v .constraints) in
+    let d = concat-size (λ (e : Division). encodeCommand (division e)) (ValidDivision n) divisionWidth (division-size n) (b .divisions) (v .divisions) in
+    let r = concat-size (λ (e : Constraint). encodeCommand (constraint e)) (ValidConstraint n (length (b .divisions))) constraintWidth (constraint-size n (length (b .divisions))) (b .constraints) (v .constraints) in
     let x = ap length (concat-map encodeCommand division (b .divisions)) in let y = ap length (concat-map encodeCommand constraint (b .constraints)) in
     let z = length-append (concatMap encodeCommand D) (concatMap encodeCommand R) in let w = ap length s in omega arith
+
+-- no more than longestBasic
+divisions-most : (l : List Division) → widths divisionWidth l ≤ longestDivision * length l
+divisions-most [] = omega arith
+divisions-most (e ∷ l) = let h = divisions-most l in omega arith
+
+constraints-most : (l : List Constraint) → widths constraintWidth l ≤ longestConstraint * length l
+constraints-most [] = omega arith
+constraints-most (r ∷ l) = let h = constraints-most l in omega arith
+
+pub valid-short : (n : ℕ) (b : BasicSet) → Valid n b → length (encode (b ∷ [])) ≤ longestBasic
+valid-short n b v =
+    let z = valid-size n b v in let d = v .few-divisions in let r = v .few-constraints in
+    let x = divisions-most (b .divisions) in let y = constraints-most (b .constraints) in omega arith
 
 -- ---- decoded, then encoded: the same bytes
 module _ (n : ℕ) (s : List ℕ) (at : ℕ) (p : Bytes s) (b : Boundary n s at) where
@@ -78,15 +91,15 @@ encoded-decoded n b a v =
     let k = boundary-set n s 0 (boundary-start n s z) l in
     cc
 
--- ---- how long checked bytes can be: 32 basic sets of 8 divisions and 48 constraints
-encode-length : (n : ℕ) (s : Set) → All (Valid n) s → length (encode s) ≤ 1961 * length s
+-- ---- how long checked bytes can be
+encode-length : (n : ℕ) (s : Set) → All (Valid n) s → length (encode s) ≤ longestBasic * length s
 unfolding encode
 encode-length n [] v = omega arith
 encode-length n (b ∷ s) v =
-    let h = encode-length n s (v .1) in let z = valid-size n b (v .0) in let d = v .0 .few-divisions in let r = v .0 .few-constraints in
+    let h = encode-length n s (v .1) in let z = valid-short n b (v .0) in
     let e = ap length (encode-more (b ∷ []) s) in let a = length-append (encode (b ∷ [])) (encode s) in omega arith
 
-pub accepted-length : (n : ℕ) (s : List ℕ) → Bytes s → number (decode n s) ≡ 0 → length s ≤ 62752
+pub accepted-length : (n : ℕ) (s : List ℕ) → Bytes s → number (decode n s) ≡ 0 → length s ≤ longestSet
 accepted-length n s p z =
     let e = decode-is n s z in
     let v = decode-valid n s (setFrom s 0) p e in

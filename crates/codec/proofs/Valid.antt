@@ -10,8 +10,8 @@ use lib.IntN.{ℤ, pos, negsuc}
 use lib.ListN.{length, take, drop, getD}
 use Rattle.integers.specs.LittleEndian.{bytes-drop, signed-mag}
 use Rattle.model.specs.Lists.{all}
-use Rattle.model.specs.Sets.{Division, equality, inequality, Constraint, BasicSet, Set, absent}
-use Rattle.codec.specs.Bytes.{gives, valueOf, signedList, Command, opens, division, constraint, commands, encode, readDivision, readConstraint, readCommand, widthOf, Counts, within, coefficient, constantFits, testsOf, firstFailing, refusal, counted, Built, build, axesFit, decode}
+use Rattle.model.specs.Sets.{Division, Constraint, BasicSet, Set, absent}
+use Rattle.codec.specs.Bytes.{gives, valueOf, signedList, Command, opens, division, constraint, commands, encode, isDivision, bodyOf, headOf, bodyIn, kindOf, readDivision, readConstraint, readCommand, widthOf, Counts, within, coefficient, constantFits, testsOf, firstFailing, refusal, counted, Built, build, axesFit, decode}
 use Rattle.codec.specs.Places.{commandsOf, built, setFrom, Boundary}
 use Rattle.model.proofs.Count.{and-left, and-right, and-make, from-T}
 use Rattle.codec.proofs.Encoded.{Fits, DivisionFits, ConstraintFits, Accepted, decode-encode}
@@ -180,12 +180,13 @@ Read (division e) = length (e .axes) ≡ 8
 Read (constraint r) = (length (r .axes) ≡ 8) × (length (r .divisions) ≡ 8) × Fits 2147483648 (r .constant)
 
 read-shape : (b : ℕ) (s : List ℕ) → Bytes s → Read (readCommand b s)
-read-shape b s p = at (eqb b 0x11) (eqb b 0x12)
+read-shape b s p = at (eqb b 0x11) (isDivision b)
   where
-    at : (x y : Bool) → Read (cond x opens (cond y (division (readDivision s)) (constraint (readConstraint (cond (eqb b 0x13) equality inequality) s))))
+    at : (x y : Bool) → Read (cond x opens (cond y (division (readDivision (headOf b s) (bodyIn b s))) (constraint (readConstraint (kindOf b) (bodyIn b s)))))
     at true y = tt
-    at false true = length-signed 8 (drop 6 s)
-    at false false = (length-signed 8 (drop 4 s), length-signed 8 (drop 20 s), signed-mag 4 2147483648 (valueOf (take 4 s)) refl (value-4 s p))
+    at false true = length-signed 8 (drop 4 (bodyIn b s))
+    at false false =
+        (length-signed 8 (drop 4 (bodyIn b s)), length-signed 8 (drop 20 (bodyIn b s)), signed-mag 4 2147483648 (valueOf (take 4 (bodyIn b s))) refl (value-4 (bodyIn b s) (bytes-drop (bodyOf b - 1) s p)))
 
 -- read, and not refused where it stands
 abbrev Sound : ℕ → Counts → List Command → Type 0

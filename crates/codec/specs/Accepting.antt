@@ -8,8 +8,8 @@ use lib.IntN.{ℤ, pos, negsuc}
 use lib.Dec.{ltb, leb}
 use lib.Signed.{_≤ℤ_}
 use lib.ListN.{length, take, drop, getD, replicate}
-use Rattle.codec.specs.Bytes.{valueOf, signed, within, constantFits, kindOf, readDivision, readConstraint, Counts, decode, number}
-use Rattle.codec.specs.Places.{setFrom, Checked, opened}
+use Rattle.codec.specs.Bytes.{valueOf, signed, within, constantFits, kindOf, Counts, decode, number}
+use Rattle.codec.specs.Places.{setFrom, divisionAt, constraintAt, Checked, opened}
 use Rattle.codec.specs.declared.accepting.Quick.{Quick}
 
 -- number i of those of 2 bytes from p on
@@ -40,14 +40,14 @@ pub record InRange (n : ℕ) (low high : List ℤ) : Type 0 where
 pub record DivisionThere (s : List ℕ) (at : ℕ) : Type 0 where
   pub inside : at + 23 ≤ length s
   pub command : getD s at 0 ≡ 0x12
-  pub divisor : (ltb 0 (readDivision (drop (at + 1) s) .divisor) && leb (readDivision (drop (at + 1) s) .divisor) 32767) ≡ true
-  pub constant : within (negsuc 999999999) (pos 1000000000) (readDivision (drop (at + 1) s) .constant) ≡ true
+  pub divisor : (ltb 0 (divisionAt s at .divisor) && leb (divisionAt s at .divisor) 32767) ≡ true
+  pub constant : within (negsuc 999999999) (pos 1000000000) (divisionAt s at .constant) ≡ true
 
 -- a constraint at a place, with its constant in range
 pub record ConstraintThere (s : List ℕ) (at : ℕ) : Type 0 where
   pub inside : at + 37 ≤ length s
   pub command : (getD s at 0 ≡ 0x13) ⊎ (getD s at 0 ≡ 0x14)
-  pub constant : constantFits (kindOf (getD s at 0)) (readConstraint (kindOf (getD s at 0)) (drop (at + 1) s) .constant) ≡ true
+  pub constant : constantFits (kindOf (getD s at 0)) (constraintAt s at .constant) ≡ true
 
 -- ---- from place to place
 

@@ -15,6 +15,51 @@ pub data Answer {ℓ} (A : Type ℓ) : Type ℓ where
   refused : ℕ → Answer A
   gives : A → Answer A
 
+-- ---- the layout: command bytes, and where the numbers of a command stand
+
+-- the command that opens a basic set, that of a division, of a rule, and of a rule that is an equality
+abbrev pub isOpening : ℕ → Bool
+isOpening b = eqb b 0x11
+
+abbrev pub isDivision : ℕ → Bool
+isDivision b = eqb b 0x12
+
+abbrev pub isConstraint : ℕ → Bool
+isConstraint b = eqb b 0x13 || eqb b 0x14
+
+abbrev pub isEquality : ℕ → Bool
+isEquality b = eqb b 0x13
+
+-- a byte at which a basic set goes on: in checked bytes every command but the one that opens the next
+abbrev pub goesOn : ℕ → Bool
+goesOn b = ltb 0x11 b
+
+-- where the body of a command stands, counted from its first byte: its constant, its axes and, of a rule, its divisions
+abbrev pub bodyOf : ℕ → ℕ
+bodyOf b = cond (isDivision b) 3 1
+
+-- what stands between a command's first byte and its body, as a number (the divisor of a division); 0 where nothing
+-- does
+abbrev pub headOf : ℕ → List ℕ → ℕ
+headOf b s = valueOf (take (bodyOf b - 1) s)
+
+-- every body is a constant of 4 bytes, 8 axes of 2 and, of a rule, 8 divisions of 2
+abbrev pub axesPlace : ℕ
+axesPlace = 4
+
+abbrev pub divisionsPlace : ℕ
+divisionsPlace = 20
+
+abbrev pub divisionBody : ℕ
+divisionBody = 20
+
+abbrev pub constraintBody : ℕ
+constraintBody = 36
+
+-- how many bytes a command has with its first; 0: unknown
+abbrev pub widthOf : ℕ → ℕ
+widthOf b = cond (isOpening b) 1 (cond (isDivision b) (bodyOf b + divisionBody) (cond (isConstraint b) (bodyOf b + constraintBody) 0))
+
 -- ---- commands
 
 pub data Command : Type 0 where
@@ -42,11 +87,21 @@ abbrev pub signedList : ℕ → List ℕ → List ℤ
 signedList zero s = []
 signedList (suc k) s = signed 2 (valueOf (take 2 s)) ∷ signedList k (drop 2 s)
 
-abbrev pub readDivision : List ℕ → Division
-readDivision s = record { divisor = valueOf (take 2 s); constant = signed 4 (valueOf (take 4 (drop 2 s))); axes = signedList 8 (drop 6 s) }
+-- the numbers of a body, and a division and a rule of them
+abbrev pub constantIn : List ℕ → ℤ
+constantIn t = signed 4 (valueOf (take 4 t))
+
+abbrev pub axesIn : List ℕ → List ℤ
+axesIn t = signedList 8 (drop axesPlace t)
+
+abbrev pub divisionsIn : List ℕ → List ℤ
+divisionsIn t = signedList 8 (drop divisionsPlace t)
+
+abbrev pub readDivision : ℕ → List ℕ → Division
+readDivision d t = record { divisor = d; constant = constantIn t; axes = axesIn t }
 
 abbrev pub readConstraint : Kind → List ℕ → Constraint
-readConstraint k s = record { kind = k; constant = signed 4 (valueOf (take 4 s)); axes = signedList 8 (drop 4 s); divisions = signedList 8 (drop 20 s) }
+readConstraint k t = record { kind = k; constant = constantIn t; axes = axesIn t; divisions = divisionsIn t }
 
 -- ---- the refusals of one command, in their order; 0 is none
 
@@ -98,15 +153,16 @@ counted k (constraint r) = record { basics = k .basics; divisions = k .divisions
 
 -- ---- decoding
 
--- the command at the head of the bytes after its first; how many it has with its first; 0: unknown
-abbrev pub widthOf : ℕ → ℕ
-widthOf b = cond (eqb b 0x11) 1 (cond (eqb b 0x12) 23 (cond (eqb b 0x13 || eqb b 0x14) 37 0))
-
 abbrev pub kindOf : ℕ → Kind
-kindOf b = cond (eqb b 0x13) equality inequality
+kindOf b = cond (isEquality b) equality inequality
 
+-- the body of the command b whose bytes after the first are s
+abbrev pub bodyIn : ℕ → List ℕ → List ℕ
+bodyIn b s = drop (bodyOf b - 1) s
+
+-- the command b whose bytes after the first are s
 abbrev pub readCommand : ℕ → List ℕ → Command
-readCommand b s = cond (eqb b 0x11) opens (cond (eqb b 0x12) (division (readDivision s)) (constraint (readConstraint (kindOf b) s)))
+readCommand b s = cond (isOpening b) opens (cond (isDivision b) (division (readDivision (headOf b s) (bodyIn b s))) (constraint (readConstraint (kindOf b) (bodyIn b s))))
 
 -- divisions and rules that follow, up to the next basic set, and the basic sets from there on
 pub record Built : Type 0 where

@@ -1,13 +1,13 @@
 -- The bytes of a set from a place on: what the commands there build, and the records by which code goes through checked bytes.
 use mathlib.Core.Path.{_≡_}
 use mathlib.Core.List.{List, [], _∷_}
-use Prim.Native.Nat.{ℕ, zero, suc, _+_, _-_, _*_, _≤_}
-use lib.ListN.{length, drop}
+use Prim.Native.Nat.{ℕ, zero, suc, _+_, _-_, _≤_, _<_}
+use lib.ListN.{length, drop, getD}
 use Rattle.model.specs.Sets as S
-use Rattle.model.specs.Sets.{Set}
+use Rattle.model.specs.Sets.{Division, Constraint, Set}
 use Rattle.model.specs.Values.{basicSetOf}
 use Rattle.model.specs.declared.BasicSet.{BasicSet}
-use Rattle.codec.specs.Bytes.{Command, Counts, widthOf, readCommand, Built, build, parse, decode, number}
+use Rattle.codec.specs.Bytes.{Command, Counts, headOf, bodyIn, widthOf, kindOf, readDivision, readConstraint, readCommand, Built, build, parse, decode, number}
 
 -- the commands of the bytes, whether or not they are refused; the first number bounds the length
 unfoldable pub commandsOf : ℕ → List ℕ → List Command
@@ -27,9 +27,56 @@ basicAt s at = record { divisions = built (drop at s) .divisions; constraints = 
 abbrev pub setFrom : List ℕ → ℕ → Set
 setFrom s at = built (drop at s) .rest
 
+-- how many bytes a division and a rule are written with
+abbrev pub divisionWidth : Division → ℕ
+divisionWidth e = 23
+
+abbrev pub constraintWidth : Constraint → ℕ
+constraintWidth r = 37
+
+abbrev pub widths : {A : Type 0} → (A → ℕ) → List A → ℕ
+widths f [] = 0
+widths f (a ∷ l) = f a + widths f l
+
+-- the most that they have
+abbrev pub longestDivision : ℕ
+longestDivision = 23
+
+abbrev pub longestConstraint : ℕ
+longestConstraint = 37
+
+-- the most that a basic set of 8 divisions and 48 rules has, and a set of 32 of them
+abbrev pub longestBasic : ℕ
+longestBasic = 1961
+
+abbrev pub longestSet : ℕ
+longestSet = 62752
+
 -- the place after that basic set
 abbrev pub endOf : List ℕ → ℕ → ℕ
-endOf s at = at + 23 * length (built (drop at s) .divisions) + 37 * length (built (drop at s) .constraints)
+endOf s at = at + (widths divisionWidth (built (drop at s) .divisions) + widths constraintWidth (built (drop at s) .constraints))
+
+-- ---- the command at a place: its head, its body, and what it reads as
+abbrev pub headAt : List ℕ → ℕ → ℕ
+headAt s at = headOf (getD s at 0) (drop (at + 1) s)
+
+abbrev pub bodyAt : List ℕ → ℕ → List ℕ
+bodyAt s at = bodyIn (getD s at 0) (drop (at + 1) s)
+
+abbrev pub divisionAt : List ℕ → ℕ → Division
+divisionAt s at = readDivision (headAt s at) (bodyAt s at)
+
+abbrev pub constraintAt : List ℕ → ℕ → Constraint
+constraintAt s at = readConstraint (kindOf (getD s at 0)) (bodyAt s at)
+
+-- the place after it
+abbrev pub nextOf : List ℕ → ℕ → ℕ
+nextOf s at = at + widthOf (getD s at 0)
+
+-- a command at a place, with all its bytes
+pub record Whole (s : List ℕ) (at : ℕ) : Type 0 where
+  pub known : 0 < widthOf (getD s at 0)
+  pub room : nextOf s at ≤ length s
 
 -- at a place of checked bytes, after the counts k, the commands that are left are accepted
 pub record Checked (n : ℕ) (s : List ℕ) (at : ℕ) (k : Counts) : Type 0 where
@@ -57,15 +104,23 @@ pub record Boundary (n : ℕ) (s : List ℕ) (at : ℕ) : Type 0 where
   pub no-divisions : built (drop at s) .divisions ≡ []
   pub no-constraints : built (drop at s) .constraints ≡ []
 
--- the place after a decoded basic set whose commands start at a place
-abbrev pub after : ℕ → BasicSet → ℕ
-after at b = at + 23 * b .divs + 37 * b .cons
+-- at a place of checked bytes where the divisions of a basic set are past
+pub record Tail (s : List ℕ) (at : ℕ) : Type 0 where
+  pub n : ℕ
+  pub k : Counts
+  pub here : Checked n s at k
+  pub none : built (drop at s) .divisions ≡ []
 
--- b is the basic set there, and says how far it goes
+-- `next` is past the divisions of the basic set whose commands start at a place, at its constraints
+pub record Past (s : List ℕ) (start next : ℕ) : Type 0 where
+  pub there : Tail s next
+  pub same : built (drop next s) .constraints ≡ built (drop start s) .constraints
+  pub end : endOf s next ≡ endOf s start
+
+-- b is the basic set there
 pub record Decoded (s : List ℕ) (at : ℕ) (b : BasicSet) : Type 0 where
   pub basic : basicSetOf b ≡ basicAt s at
   pub divs : b .divs ≤ 8
   pub cons : b .cons ≤ 48
   pub divisions : length (b .divisions) ≡ 8
   pub constraints : length (b .constraints) ≡ 48
-  pub next : after at b ≡ endOf s at

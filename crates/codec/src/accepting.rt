@@ -6,10 +6,34 @@ ghost use Prim.Native.Nat.{_+_, _≤_};
 ghost use lib.Signed.{_≤ℤ_};
 ghost use lib.ListN.{length};
 ghost use Rattle.codec.specs.Accepting.{Under, Over, Upto, rangesAllowed, InRange, DivisionsTo, ConstraintsTo, Ends, Accepts, DivisionThere, ConstraintThere};
+use crate::layout::DIVISION;
+use crate::layout::EQUALITY;
+use crate::layout::INEQUALITY;
+use crate::layout::OPENS;
 use integers::i16_at;
 use integers::i32_at;
 use integers::u16_at;
 use integers::u32_at;
+
+// A `12`, and a `13` or `14`, read whole where they stand: their widths, and the places of their numbers.
+const DIVISION_WIDTH: usize = 23;
+
+const DIVISION_DIVISOR: usize = 1;
+
+const DIVISION_CONSTANT: usize = 3;
+
+const DIVISION_AXES: usize = 7;
+
+const CONSTRAINT_WIDTH: usize = 37;
+
+const CONSTRAINT_CONSTANT: usize = 1;
+
+const CONSTRAINT_AXES: usize = 5;
+
+const CONSTRAINT_DIVISIONS: usize = 21;
+
+// The width of 48 constraints.
+const CONSTRAINTS_WIDTH: usize = 1776;
 
 // Divisions in a row: the place after them, how many they are, and the least and the greatest coefficient at each place, 0 among them.
 pub struct DivisionRun {
@@ -157,20 +181,20 @@ fn division_there(s: &[u8], at: usize) -> bool
     requires { ⌜ at ≤ length (now s) ⌝ }
     ensures { λ r. ⌜ (r ≡ true → DivisionThere (now (s .entry)) at) ⌝ }
 {
-    if s.len() - at < 23 {
+    if s.len() - at < DIVISION_WIDTH {
         return false;
     }
-    if s[at] != 18 {
+    if s[at] != DIVISION {
         return false;
     }
-    let d = u16_at(s, at + 1);
+    let d = u16_at(s, at + DIVISION_DIVISOR);
     if d == 0 {
         return false;
     }
     if 32767 < d {
         return false;
     }
-    let k = i32_at(s, at + 3);
+    let k = i32_at(s, at + DIVISION_CONSTANT);
     if k < -1000000000 {
         return false;
     }
@@ -182,16 +206,16 @@ fn constraint_there(s: &[u8], at: usize) -> bool
     requires { ⌜ at ≤ length (now s) ⌝ }
     ensures { λ r. ⌜ (r ≡ true → ConstraintThere (now (s .entry)) at) ⌝ }
 {
-    if s.len() - at < 37 {
+    if s.len() - at < CONSTRAINT_WIDTH {
         return false;
     }
-    if s[at] == 20 {
+    if s[at] == INEQUALITY {
         return true;
     }
-    if s[at] != 19 {
+    if s[at] != EQUALITY {
         return false;
     }
-    u32_at(s, at + 1) != 2147483648
+    u32_at(s, at + CONSTRAINT_CONSTANT) != 2147483648
 }
 
 fn divisions(s: &[u8], start: usize) -> DivisionRun
@@ -203,12 +227,12 @@ fn divisions(s: &[u8], start: usize) -> DivisionRun
     let mut low = [0i16; 8];
     let mut high = [0i16; 8];
     while division_there(s, at) {
-        let l = lowered(low, s, at + 7);
+        let l = lowered(low, s, at + DIVISION_AXES);
         low = l;
-        let h = raised(high, s, at + 7);
+        let h = raised(high, s, at + DIVISION_AXES);
         high = h;
         count += 1;
-        at += 23;
+        at += DIVISION_WIDTH;
     }
     DivisionRun {
         at,
@@ -229,15 +253,15 @@ fn constraints(s: &[u8], start: usize, least: [i16; 8], greatest: [i16; 8]) -> C
     let mut below = [0i16; 8];
     let mut above = [0i16; 8];
     while constraint_there(s, at) {
-        let l = lowered(low, s, at + 5);
+        let l = lowered(low, s, at + CONSTRAINT_AXES);
         low = l;
-        let h = raised(high, s, at + 5);
+        let h = raised(high, s, at + CONSTRAINT_AXES);
         high = h;
-        let b = lowered(below, s, at + 21);
+        let b = lowered(below, s, at + CONSTRAINT_DIVISIONS);
         below = b;
-        let a = raised(above, s, at + 21);
+        let a = raised(above, s, at + CONSTRAINT_DIVISIONS);
         above = a;
-        at += 37;
+        at += CONSTRAINT_WIDTH;
     }
     ConstraintRun {
         at,
@@ -248,7 +272,7 @@ fn constraints(s: &[u8], start: usize, least: [i16; 8], greatest: [i16; 8]) -> C
     }
 }
 
-// The place after the basic set whose commands start at `start`; 0 where it is not accepted. 48 constraints have 1,776 bytes.
+// The place after the basic set whose commands start at `start`; 0 where it is not accepted.
 fn accepted_end(n: usize, s: &[u8], start: usize, ranges: &[i16]) -> usize
     requires { ⌜ (n ≤ 8) × (start ≤ length (now s)) × (now ranges ≡ rangesAllowed) ⌝ }
     ensures { λ r. ⌜ ((r ≡ 0 → ⊥) → Ends n (now (s .entry)) start r) ⌝ }
@@ -261,7 +285,7 @@ fn accepted_end(n: usize, s: &[u8], start: usize, ranges: &[i16]) -> usize
     let least = d.low;
     let greatest = d.high;
     let c = constraints(s, d.at, least, greatest);
-    if 1776 < c.at - d.at {
+    if CONSTRAINTS_WIDTH < c.at - d.at {
         return 0;
     }
     let low = c.low;
@@ -299,7 +323,7 @@ pub fn accepts(n: usize, s: &[u8]) -> Quick
     let mut at = 0;
     let mut basics = 0;
     while at < s.len() {
-        if s[at] != 17 {
+        if s[at] != OPENS {
             return undecided();
         }
         if 32 <= basics {

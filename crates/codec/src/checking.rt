@@ -7,11 +7,17 @@ ghost use lib.IntN.{pos, negsuc};
 ghost use Rattle.model.specs.Lists.{all};
 ghost use Rattle.model.specs.Sets.{isZero};
 ghost use Rattle.codec.specs.Bytes as B;
-ghost use Rattle.codec.specs.Bytes.{signed, signedList, coefficient, within, constantFits, readDivision, readConstraint, readCommand, constraint, division, opens, refusal, headRefusal, decode, number, kindOf};
+ghost use Rattle.codec.specs.Bytes.{signed, signedList, coefficient, within, constantFits, divisionBody, constraintBody, readDivision, readConstraint, readCommand, constraint, division, opens, refusal, headRefusal, decode, number, kindOf};
 ghost use Rattle.codec.specs.Checking.{countsOf, bitsAllowed};
 use crate::accepting::accepts;
-use crate::readers::tail;
-use crate::readers::width;
+use crate::layout::AXES_PLACE;
+use crate::layout::DIVISIONS_PLACE;
+use crate::layout::OPENS;
+use crate::layout::body;
+use crate::layout::head;
+use crate::layout::is_division;
+use crate::layout::is_equality;
+use crate::layout::width;
 use integers::u16_at;
 use integers::u32_at;
 
@@ -96,7 +102,7 @@ fn constraint_constant_in(b: u8, v: u64) -> bool
     requires { ⌜ v < 4294967296 ⌝ }
     ensures { λ r. ⌜ r ≡ constantFits (kindOf b) (signed 4 v) ⌝ }
 {
-    if b == 19 {
+    if is_equality(b) {
         return v != 2147483648;
     }
     true
@@ -111,10 +117,10 @@ fn opens_refusal(n: usize, k: Counts) -> u32
     9
 }
 
-// The refusal of a division whose bytes after the first are t.
-fn division_refusal(n: usize, k: Counts, t: &[u8], bits: &[u16]) -> u32
-    requires { ⌜ (22 ≤ length (now t)) × (n ≤ 8) × (now bits ≡ bitsAllowed) ⌝ }
-    ensures { λ r. ⌜ r ≡ refusal n (countsOf k) (division (readDivision (now (t .entry)))) ⌝ }
+// The refusal of a division by d whose body is t.
+fn division_refusal(n: usize, k: Counts, d: u64, t: &[u8], bits: &[u16]) -> u32
+    requires { ⌜ (divisionBody ≤ length (now t)) × (n ≤ 8) × (now bits ≡ bitsAllowed) ⌝ }
+    ensures { λ r. ⌜ r ≡ refusal n (countsOf k) (division (readDivision d (now (t .entry)))) ⌝ }
 {
     if k.basics == 0 {
         return 4;
@@ -125,28 +131,27 @@ fn division_refusal(n: usize, k: Counts, t: &[u8], bits: &[u16]) -> u32
     if 8 <= k.divisions {
         return 9;
     }
-    let d = u16_at(t, 0);
     if d == 0 {
         return 6;
     }
     if 32767 < d {
         return 6;
     }
-    if !constant_in(u32_at(t, 2)) {
+    if !constant_in(u32_at(t, 0)) {
         return 7;
     }
-    if !plain(t, 6) {
+    if !plain(t, AXES_PLACE) {
         return 7;
     }
-    if !zeros(t, 6, n, bits) {
+    if !zeros(t, AXES_PLACE, n, bits) {
         return 8;
     }
     0
 }
 
-// The refusal of a constraint whose command is b and whose bytes after it are t.
+// The refusal of a constraint whose command is b and whose body is t.
 fn constraint_refusal(n: usize, k: Counts, b: u8, t: &[u8], bits: &[u16]) -> u32
-    requires { ⌜ (36 ≤ length (now t)) × (n ≤ 8) × (k .divisions ≤ 8) × (now bits ≡ bitsAllowed) ⌝ }
+    requires { ⌜ (constraintBody ≤ length (now t)) × (n ≤ 8) × (k .divisions ≤ 8) × (now bits ≡ bitsAllowed) ⌝ }
     ensures { λ r. ⌜ r ≡ refusal n (countsOf k) (constraint (readConstraint (kindOf b) (now (t .entry)))) ⌝ }
 {
     let d = k.divisions;
@@ -159,16 +164,16 @@ fn constraint_refusal(n: usize, k: Counts, b: u8, t: &[u8], bits: &[u16]) -> u32
     if !constraint_constant_in(b, u32_at(t, 0)) {
         return 7;
     }
-    if !plain(t, 4) {
+    if !plain(t, AXES_PLACE) {
         return 7;
     }
-    if !plain(t, 20) {
+    if !plain(t, DIVISIONS_PLACE) {
         return 7;
     }
-    if !zeros(t, 4, n, bits) {
+    if !zeros(t, AXES_PLACE, n, bits) {
         return 8;
     }
-    if !zeros(t, 20, d, bits) {
+    if !zeros(t, DIVISIONS_PLACE, d, bits) {
         return 8;
     }
     0
@@ -187,12 +192,12 @@ fn head_refusal(n: usize, k: Counts, s: &[u8], at: usize, bits: &[u16]) -> u32
     if s.len() - at < w {
         return 3;
     }
-    let t = tail(s, at + 1);
-    if b == 17 {
+    if b == OPENS {
         return opens_refusal(n, k);
     }
-    if b == 18 {
-        return division_refusal(n, k, t, bits);
+    let t = body(s, at);
+    if is_division(b) {
+        return division_refusal(n, k, head(s, at), t, bits);
     }
     constraint_refusal(n, k, b, t, bits)
 }
@@ -202,14 +207,14 @@ fn counted(k: Counts, b: u8) -> Counts
     requires { ⌜ (k .basics < 18446744073709551615) × (k .divisions < 18446744073709551615) × (k .constraints < 18446744073709551615) ⌝ }
     ensures { λ r. ⌜ ((t : List ℕ) → countsOf r ≡ B.counted (countsOf k) (readCommand b t)) ⌝ }
 {
-    if b == 17 {
+    if b == OPENS {
         return Counts {
             basics: k.basics + 1,
             divisions: 0,
             constraints: 0,
         };
     }
-    if b == 18 {
+    if is_division(b) {
         return Counts {
             basics: k.basics,
             divisions: k.divisions + 1,

@@ -8,8 +8,9 @@ ghost use Rattle.codec.specs.Parts.{partOf, held, Started};
 use crate::accepting::accepts;
 use crate::checking::check;
 use crate::checking::scanned;
+use crate::layout::goes_on;
+use crate::layout::width;
 use crate::readers::code;
-use crate::readers::width;
 
 // The place after the basic set of checked bytes whose commands start at `start`.
 pub fn end_of(s: &[u8], start: usize) -> usize
@@ -17,7 +18,7 @@ pub fn end_of(s: &[u8], start: usize) -> usize
     ensures { λ r. ⌜ r ≡ endOf (now (s .entry)) start ⌝ }
 {
     let mut at = start;
-    while 17 < code(s, at) {
+    while goes_on(s, at) {
         at += width(code(s, at));
     }
     at

@@ -1,32 +1,15 @@
-// Commands and parts of lent bytes.
+// Bytes and numbers of lent bytes.
 ghost use mathlib.Core.Path.{_≡_};
-ghost use Prim.Native.Nat.{_≤_, _<_};
-ghost use lib.ListN.{length, drop, getD};
-ghost use Rattle.codec.specs.Bytes.{widthOf};
+ghost use Prim.Native.Nat.{_+_, _≤_};
+ghost use lib.ListN.{length, take, drop, getD};
+ghost use Rattle.integers.specs.Z.{Within};
+ghost use Rattle.codec.specs.Bytes.{valueOf, signed};
 
 pub fn tail<'a>(s: &'a [u8], p: usize) -> &'a [u8]
     requires { ⌜ p ≤ length (now s) ⌝ }
     ensures { λ r. ⌜ now r ≡ drop p (now (s .entry)) ⌝ }
 {
     &s[p..]
-}
-
-pub fn width(b: u8) -> usize
-    ensures { λ r. ⌜ r ≡ widthOf b ⌝ }
-{
-    if b == 17 {
-        return 1;
-    }
-    if b == 18 {
-        return 23;
-    }
-    if b == 19 {
-        return 37;
-    }
-    if b == 20 {
-        return 37;
-    }
-    0
 }
 
 // The byte at a place, 0 past the end.
@@ -37,4 +20,20 @@ pub fn code(s: &[u8], at: usize) -> u8
         return s[at];
     }
     0
+}
+
+pub fn s16_at(t: &[u8], p: usize) -> i64
+    requires { ⌜ p + 2 ≤ length (now t) ⌝ }
+    ensures is { λ r. ⌜ r ≡ signed 2 (valueOf (take 2 (drop p (now (t .entry))))) ⌝ }
+    ensures size { λ r. ⌜ Within 32768 r ⌝ }
+{
+    integers::i16_at(t, p) as i64
+}
+
+pub fn s32_at(t: &[u8], p: usize) -> i64
+    requires { ⌜ p + 4 ≤ length (now t) ⌝ }
+    ensures is { λ r. ⌜ r ≡ signed 4 (valueOf (take 4 (drop p (now (t .entry))))) ⌝ }
+    ensures size { λ r. ⌜ Within 2147483648 r ⌝ }
+{
+    integers::i32_at(t, p) as i64
 }

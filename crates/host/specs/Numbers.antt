@@ -7,6 +7,7 @@ use Prim.Native.Nat.{ℕ, _≤_}
 use lib.IntN.{ℤ, pos, negℤ, _+ℤ_, _*ℤ_}
 use mir.Syntax.{w64}
 use mir.Val.{toZ}
+use Rattle.codec.specs.Places.{longestSet}
 use Rattle.codec.specs.Bytes.{Answer, refused, gives}
 use Rattle.algebra.specs.Result.{lengthOf, tableOf}
 use Rattle.counting.specs.Counting.{Tally}
@@ -41,7 +42,7 @@ pub record Hosted (room : ℕ) (a : Answer (List ℕ)) (r : ℤ) (table : List �
 -- no accepted set has more bytes: the length of a result is a number of the host
 abbrev pub Short : Answer ℕ → Type 0
 Short (refused k) = Unit {0}
-Short (gives l) = l ≤ 62752
+Short (gives l) = l ≤ longestSet
 
 -- a count: the number of members w; −1000 for spent
 abbrev pub outcomeNumber : Outcome → ℕ → ℤ

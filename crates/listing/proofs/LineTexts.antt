@@ -6,7 +6,7 @@ use lib.IntN.{ℤ, pos}
 use lib.ListN.{take, drop}
 use Rattle.model.specs.Lists.{concatMap}
 use Rattle.model.specs.Sets.{Kind}
-use Rattle.codec.specs.Bytes.{valueOf, signed, signedList, readDivision, readConstraint}
+use Rattle.codec.specs.Bytes.{valueOf, signedList, axesPlace, divisionsPlace, constantIn, axesIn, divisionsIn, readDivision, readConstraint}
 use Rattle.listing.specs.Text.{codes, number, line, word, divisionLine, constraintLine}
 use Rattle.listing.specs.Written.{signedIn}
 use Rattle.listing.proofs.Writing.{concat-append, signed-take}
@@ -15,22 +15,22 @@ use Rattle.listing.proofs.Writing.{concat-append, signed-take}
 pub one-number : (w : List ℕ) (k : ℕ) → w ++ (number (pos k) ++ (10 ∷ [])) ≡ w ++ (concatMap number (pos k ∷ []) ++ (10 ∷ []))
 one-number w k = ap (λ (x : List ℕ). w ++ (x ++ (10 ∷ []))) (sym (append-nil (number (pos k))))
 
-pub division-text : (n d c : ℕ) (t : List ℕ) → n ≤ 8 → d ≡ valueOf (take 2 t) → c ≡ valueOf (take 4 (drop 2 t))
-    → codes "div" ++ ((number (pos d) ++ (number (signedIn 4294967296 c) ++ concatMap number (signedList n (drop 6 t)))) ++ (10 ∷ [])) ≡ divisionLine n (readDivision t)
-division-text n d c t h p q =
-    ap₂ (λ (d c : ℕ). codes "div" ++ ((number (pos d) ++ (number (signedIn 4294967296 c) ++ concatMap number (signedList n (drop 6 t)))) ++ (10 ∷ []))) p q
-    ∙ ap (λ (l : List ℤ). line "div" (pos (valueOf (take 2 t)) ∷ signed 4 (valueOf (take 4 (drop 2 t))) ∷ l)) (sym (signed-take n 8 (drop 6 t) h))
+pub division-text : (n d c : ℕ) (t : List ℕ) → n ≤ 8 → c ≡ valueOf (take 4 t)
+    → codes "div" ++ ((number (pos d) ++ (number (signedIn 4294967296 c) ++ concatMap number (signedList n (drop axesPlace t)))) ++ (10 ∷ [])) ≡ divisionLine n (readDivision d t)
+division-text n d c t h q =
+    ap (λ (c : ℕ). codes "div" ++ ((number (pos d) ++ (number (signedIn 4294967296 c) ++ concatMap number (signedList n (drop axesPlace t)))) ++ (10 ∷ []))) q
+    ∙ ap (λ (l : List ℤ). line "div" (pos d ∷ constantIn t ∷ l)) (sym (signed-take n 8 (drop axesPlace t) h))
 
 pub constraint-text : (n k c : ℕ) (kind : Kind) (t : List ℕ) → n ≤ 8 → k ≤ 8 → c ≡ valueOf (take 4 t)
-    → codes (word kind) ++ ((number (signedIn 4294967296 c) ++ (concatMap number (signedList n (drop 4 t)) ++ concatMap number (signedList k (drop 20 t)))) ++ (10 ∷ [])) ≡ constraintLine n k (readConstraint kind t)
+    → codes (word kind) ++ ((number (signedIn 4294967296 c) ++ (concatMap number (signedList n (drop axesPlace t)) ++ concatMap number (signedList k (drop divisionsPlace t)))) ++ (10 ∷ [])) ≡ constraintLine n k (readConstraint kind t)
 constraint-text n k c kind t h j q =
-    let A : List ℤ = signedList n (drop 4 t) in
-    let B : List ℤ = signedList k (drop 20 t) in
+    let A : List ℤ = signedList n (drop axesPlace t) in
+    let B : List ℤ = signedList k (drop divisionsPlace t) in
     ap (λ (l : List ℕ). codes (word kind) ++ (l ++ (10 ∷ [])))
     (ap (λ (l : List ℕ). number (signedIn 4294967296 c) ++ l) (sym (concat-append number A B))
     ∙ ap (λ (c : ℕ). number (signedIn 4294967296 c) ++ concatMap number (A ++ B)) q
-    ∙ ap₂ (λ (l m : List ℤ). number (signed 4 (valueOf (take 4 t))) ++ concatMap number (l ++ m)) (sym (signed-take n 8 (drop 4 t) h)) (sym (signed-take k 8 (drop 20 t) j)))
-    ∙ sym (append-assoc (codes (word kind)) (concatMap number (signed 4 (valueOf (take 4 t)) ∷ (take n (signedList 8 (drop 4 t)) ++ take k (signedList 8 (drop 20 t))))) (10 ∷ []))
+    ∙ ap₂ (λ (l m : List ℤ). number (constantIn t) ++ concatMap number (l ++ m)) (sym (signed-take n 8 (drop axesPlace t) h)) (sym (signed-take k 8 (drop divisionsPlace t) j)))
+    ∙ sym (append-assoc (codes (word kind)) (concatMap number (constantIn t ∷ (take n (axesIn t) ++ take k (divisionsIn t)))) (10 ∷ []))
 
 pub at-text : (n : ℕ) (p : List ℤ) (k : ℕ) → codes "at" ++ (concatMap number (take n p) ++ (number (pos k) ++ (10 ∷ []))) ≡ line "at" (take n p ++ (pos k ∷ []))
 at-text n p k =

@@ -3,7 +3,7 @@ ghost use mathlib.Core.List.{[], _∷_, _++_};
 ghost use Prim.Native.Nat.{_+_, _≤_};
 ghost use lib.IntN.{pos};
 ghost use lib.ListN.{length, take};
-ghost use Rattle.codec.specs.Bytes.{readDivision, readConstraint, kindOf};
+ghost use Rattle.codec.specs.Bytes.{divisionBody, constraintBody, readDivision, readConstraint, kindOf};
 ghost use Rattle.listing.specs.Text as T;
 ghost use Rattle.listing.specs.Written.{Writes};
 use crate::text::coefficients;
@@ -34,15 +34,20 @@ pub fn header(out: &mut [u8], m: u64, count: u64) -> usize
     word(out, at, b"\n")
 }
 
-// A division whose bytes after the command are t.
-pub fn division_line(out: &mut [u8], n: usize, t: &[u8]) -> usize
-    requires { ⌜ (512 ≤ length (now out)) × (n ≤ 8) × (22 ≤ length (now t)) ⌝ }
-    ensures { λ r. ⌜ Writes 512 (T.divisionLine n (readDivision (now (t .entry)))) (now (out .entry)) 0 r (now (out .exit)) ⌝ }
+// A division by d whose body is t.
+pub fn division_line(out: &mut [u8], n: usize, d: u64, t: &[u8]) -> usize
+    requires { ⌜ (512 ≤ length (now out)) × (n ≤ 8) × (divisionBody ≤ length (now t)) ⌝ }
+    ensures { λ r. ⌜ Writes 512 (T.divisionLine n (readDivision d (now (t .entry)))) (now (out .entry)) 0 r (now (out .exit)) ⌝ }
 {
     let at = word(out, 0, b"div");
-    let at = natural(out, at, integers::u16_at(t, 0));
-    let at = number(out, at, integers::u32_at(t, 2), 4294967296);
-    let at = coefficients(out, at, t, 6, n);
+    let at = natural(out, at, d);
+    let at = number(
+        out,
+        at,
+        integers::u32_at(t, codec::CONSTANT_PLACE),
+        4294967296,
+    );
+    let at = coefficients(out, at, t, codec::AXES_PLACE, n);
     word(out, at, b"\n")
 }
 
@@ -50,21 +55,26 @@ fn kind_word(out: &mut [u8], b: u8) -> usize
     requires { ⌜ 512 ≤ length (now out) ⌝ }
     ensures { λ r. ⌜ Writes 2 (T.codes (T.word (kindOf b))) (now (out .entry)) 0 r (now (out .exit)) ⌝ }
 {
-    if b == 19 {
+    if codec::is_equality(b) {
         return word(out, 0, b"eq");
     }
     word(out, 0, b"ge")
 }
 
-// A constraint whose command is b and whose bytes after it are t, in a basic set of k divisions.
+// A constraint whose command is b and whose body is t, in a basic set of k divisions.
 pub fn constraint_line(out: &mut [u8], n: usize, k: usize, b: u8, t: &[u8]) -> usize
-    requires { ⌜ (512 ≤ length (now out)) × (n ≤ 8) × (k ≤ 8) × (36 ≤ length (now t)) ⌝ }
+    requires { ⌜ (512 ≤ length (now out)) × (n ≤ 8) × (k ≤ 8) × (constraintBody ≤ length (now t)) ⌝ }
     ensures { λ r. ⌜ Writes 512 (T.constraintLine n k (readConstraint (kindOf b) (now (t .entry)))) (now (out .entry)) 0 r (now (out .exit)) ⌝ }
 {
     let at = kind_word(out, b);
-    let at = number(out, at, integers::u32_at(t, 0), 4294967296);
-    let at = coefficients(out, at, t, 4, n);
-    let at = coefficients(out, at, t, 20, k);
+    let at = number(
+        out,
+        at,
+        integers::u32_at(t, codec::CONSTANT_PLACE),
+        4294967296,
+    );
+    let at = coefficients(out, at, t, codec::AXES_PLACE, n);
+    let at = coefficients(out, at, t, codec::DIVISIONS_PLACE, k);
     word(out, at, b"\n")
 }
 

@@ -110,7 +110,7 @@ fn meet_all(
         if !on {
             return t;
         }
-        pos = pos + 1 + 23 * v.divs + 37 * v.cons;
+        pos = codec::end_of(b, pos + 1);
     }
     t
 }
@@ -176,7 +176,7 @@ pub fn intersect(a: &[u8], b: &[u8], out: &mut [u8]) -> Done
         if !on {
             return t;
         }
-        pos = pos + 1 + 23 * p.divs + 37 * p.cons;
+        pos = codec::end_of(a, pos + 1);
     }
     t
 }

@@ -1,25 +1,25 @@
 -- The loops of membership: the divisions' values, the constraints of one basic set, and the basic sets one after another.
 use mathlib.Core.Path.{_≡_, refl, sym, ap, ap₂, _∙_, subst}
-use mathlib.Core.Bool.{Bool, true, false, _&&_, _||_, cond}
+use mathlib.Core.Bool.{Bool, true, false, _&&_, cond}
 use mathlib.Core.List.{List, [], _∷_, _++_, append-assoc, append-nil}
-use Prim.Native.Nat.{ℕ, suc, _+_, _-_, _*_, _≤_, _<_}
+use Prim.Native.Nat.{ℕ, suc, _+_, _≤_, _<_}
 use native.Mathlib.Numerals.{add-one}
 use native.Mathlib.Omega.{arith}
-use lib.Dec.{eqb}
 use lib.IntN.{ℤ, pos}
 use lib.ListN.{length, take, drop, getD, set, length-set}
 use lib.Seq.{take-suc-set}
 use Rattle.integers.specs.Z.{Within}
 use Rattle.model.specs.Lists.{all}
 use Rattle.model.specs.Sets.{Division, Constraint, quotient, quotients, holds, inBasic}
-use Rattle.codec.specs.Bytes.{division, constraint, Counts, counted, readDivision, readConstraint, kindOf, Built}
-use Rattle.codec.specs.Places.{built, setFrom, endOf, Checked, opened, Opened, Accepted, Boundary}
+use Rattle.codec.specs.Bytes.{division, constraint, isDivision, isConstraint, Counts, counted, Built}
+use Rattle.codec.specs.Places.{built, setFrom, divisionAt, constraintAt, nextOf, endOf, Checked, opened, Opened, Accepted, Boundary, Tail}
+use Rattle.codec.specs.declared.layout.Passed.{Passed}
 use Rattle.codec.proofs.Boundaries.{boundary-start, boundary-end, boundary-next, boundary-set}
 use Rattle.query.specs.declared.membership.Span.{Span}
 use Rattle.query.specs.Holder.{firstHolding}
-use Rattle.query.specs.Holding.{AllWithin, Tail, Divided, Judged, Spanned}
+use Rattle.query.specs.Holding.{AllWithin, Divided, Judged, Spanned}
 use Rattle.bounds.proofs.Reading.{set-within}
-use Rattle.bounds.proofs.Standing.{DivisionAt, division-at, ConstraintAt, constraint-at, no-division, no-constraint}
+use Rattle.codec.proofs.Standing.{DivisionAt, division-at, ConstraintAt, constraint-at, no-division, no-constraint, end-here}
 
 -- ---- the values of the divisions
 pub record Dividing (s : List ℕ) (start : ℕ) (x : List ℤ) (at d : ℕ) (q : List ℤ) : Type 0 where
@@ -28,64 +28,59 @@ pub record Dividing (s : List ℕ) (start : ℕ) (x : List ℤ) (at d : ℕ) (q 
   pub here : Checked n s at k
   pub counts : k .divisions ≡ d
   pub few : d ≤ 8
-  pub place : at ≡ start + 23 * d
+  pub end : endOf s at ≡ endOf s start
   pub places : length q ≡ 8
   pub values : AllWithin 549755813888 q
   pub is : take d q ++ quotients (built (drop at s) .divisions) x ≡ quotients (built (drop start s) .divisions) x
-  pub total : d + length (built (drop at s) .divisions) ≡ length (built (drop start s) .divisions)
   pub same : built (drop at s) .constraints ≡ built (drop start s) .constraints
 
 pub dividing-start : (s : List ℕ) (start : ℕ) (x q : List ℤ) → Opened s start → length q ≡ 8 → AllWithin 549755813888 q → Dividing s start x start 0 q
 dividing-start s start x q o l v =
-    record { n = o .n; k = opened (o .basics); here = o .here; counts = refl; few = omega arith; place = omega arith; places = l; values = v; is = refl; total = omega arith; same = refl }
+    record { n = o .n; k = opened (o .basics); here = o .here; counts = refl; few = omega arith; end = refl; places = l; values = v; is = refl; same = refl }
 
 module _ (s : List ℕ) (start : ℕ) (x : List ℤ) (at d : ℕ) (q : List ℤ) (g : Dividing s start x at d q) where
-  pub dividing-at : getD s at 0 ≡ 18 → DivisionAt (g .n) s at (g .k)
+  pub dividing-at : isDivision (getD s at 0) ≡ true → DivisionAt (g .n) s at (g .k)
   dividing-at e = division-at (g .n) s at (g .k) (g .here) e
 
-  pub dividing-next : getD s at 0 ≡ 18 → (v : ℤ) → v ≡ quotient x (readDivision (drop (at + 1) s)) → Within 549755813888 v → Dividing s start x (at + 23) (d + 1) (set q d v)
+  pub dividing-next : isDivision (getD s at 0) ≡ true → (v : ℤ) → v ≡ quotient x (divisionAt s at) → Within 549755813888 v → Dividing s start x (nextOf s at) (d + 1) (set q d v)
   dividing-next e v p w =
       let h = dividing-at e in
-      let f = h .few in let a = g .counts in let b = g .place in let l = g .places in let t = g .total in
+      let f = h .few in let a = g .counts in let l = g .places in
       let j : d < length q = omega arith in
-      let y : quotients (built (drop at s) .divisions) x ≡ v ∷ quotients (built (drop (at + 23) s) .divisions) x =
-      ap (λ (u : Built). quotients (u .divisions) x) (h .builds) ∙ ap (λ (z : ℤ). z ∷ quotients (built (drop (at + 23) s) .divisions) x) (sym p) in
+      let y : quotients (built (drop at s) .divisions) x ≡ v ∷ quotients (built (drop (nextOf s at) s) .divisions) x =
+      ap (λ (u : Built). quotients (u .divisions) x) (h .builds) ∙ ap (λ (z : ℤ). z ∷ quotients (built (drop (nextOf s at) s) .divisions) x) (sym p) in
       record {
         n = g .n;
-        k = counted (g .k) (division (readDivision (drop (at + 1) s)));
+        k = counted (g .k) (division (divisionAt s at));
         here = h .there;
         counts = ap (λ (m : ℕ). m + 1) a;
         few = omega arith;
-        place = omega arith;
+        end = h .end ∙ g .end;
         places = length-set q d v ∙ l;
         values = set-within 549755813888 q d v (g .values) w j;
         is =
-            ap (λ (m : ℕ). take m (set q d v) ++ quotients (built (drop (at + 23) s) .divisions) x) (add-one d)
-            ∙ ap (λ (m : List ℤ). m ++ quotients (built (drop (at + 23) s) .divisions) x) (take-suc-set q d v j)
-            ∙ append-assoc (take d q) (v ∷ []) (quotients (built (drop (at + 23) s) .divisions) x)
+            ap (λ (m : ℕ). take m (set q d v) ++ quotients (built (drop (nextOf s at) s) .divisions) x) (add-one d)
+            ∙ ap (λ (m : List ℤ). m ++ quotients (built (drop (nextOf s at) s) .divisions) x) (take-suc-set q d v j)
+            ∙ append-assoc (take d q) (v ∷ []) (quotients (built (drop (nextOf s at) s) .divisions) x)
             ∙ ap (λ (m : List ℤ). take d q ++ m) (sym y) ∙ g .is;
-        total = omega (arith, ap (λ (u : Built). length (u .divisions)) (h .builds));
         same = sym (ap (λ (u : Built). u .constraints) (h .builds)) ∙ g .same;
       }
 
-  pub dividing-end : (getD s at 0 ≡ 18 → ⊥) → Divided s start x q d
+  pub dividing-end : isDivision (getD s at 0) ≡ false → Divided s start x q (record { count = d; next = at })
   dividing-end e =
       let z = no-division (g .n) s at (g .k) (g .here) e in
-      let t = g .total in let p = g .place in
       record {
         few = g .few;
-        count = omega (arith, ap (λ (l : List Division). length l) z);
         is = sym (append-nil (take d q)) ∙ ap (λ (l : List Division). take d q ++ quotients l x) (sym z) ∙ g .is;
         values = g .values;
-        there = subst (Tail s) p (record { n = g .n; k = g .k; here = g .here; none = z });
-        same = ap (λ (i : ℕ). built (drop i s) .constraints) (sym p) ∙ g .same;
+        past = record { there = record { n = g .n; k = g .k; here = g .here; none = z }; same = g .same; end = g .end };
       }
 
 -- ---- the constraints
 pub record Judging (s : List ℕ) (start : ℕ) (ok : Constraint → Bool) (at : ℕ) (so : Bool) : Type 0 where
   pub tail : Tail s at
   pub is : (so && all ok (built (drop at s) .constraints)) ≡ all ok (built (drop start s) .constraints)
-  pub place : at + 37 * length (built (drop at s) .constraints) ≡ start + 37 * length (built (drop start s) .constraints)
+  pub end : endOf s at ≡ endOf s start
 
 and-assoc : (a b c : Bool) → ((a && b) && c) ≡ (a && (b && c))
 and-assoc true b c = refl
@@ -97,39 +92,34 @@ and-true false = refl
 
 module _ (s : List ℕ) (start : ℕ) (ok : Constraint → Bool) where
   pub judging-start : Tail s start → Judging s start ok start true
-  judging-start t = record { tail = t; is = refl; place = refl }
+  judging-start t = record { tail = t; is = refl; end = refl }
 
-  pub judging-at : (at : ℕ) (so : Bool) (g : Judging s start ok at so) → (eqb (getD s at 0) 19 || eqb (getD s at 0) 20) ≡ true → ConstraintAt (g .tail .n) s at (g .tail .k)
+  pub judging-at : (at : ℕ) (so : Bool) (g : Judging s start ok at so) → isConstraint (getD s at 0) ≡ true → ConstraintAt (g .tail .n) s at (g .tail .k)
   judging-at at so g e = constraint-at (g .tail .n) s at (g .tail .k) (g .tail .here) e
 
-  pub judging-next : (at : ℕ) (so : Bool) (g : Judging s start ok at so) → (eqb (getD s at 0) 19 || eqb (getD s at 0) 20) ≡ true → (r : Bool)
-      → r ≡ (so && ok (readConstraint (kindOf (getD s at 0)) (drop (at + 1) s))) → Judging s start ok (at + 37) r
+  pub judging-next : (at : ℕ) (so : Bool) (g : Judging s start ok at so) → isConstraint (getD s at 0) ≡ true → (r : Bool)
+      → r ≡ (so && ok (constraintAt s at)) → Judging s start ok (nextOf s at) r
   judging-next at so g e r p =
-      let h = judging-at at so g e in let w = g .place in
-      let c : Constraint = readConstraint (kindOf (getD s at 0)) (drop (at + 1) s) in
+      let h = judging-at at so g e in
+      let c : Constraint = constraintAt s at in
       record {
         tail = record { n = g .tail .n; k = counted (g .tail .k) (constraint c); here = h .there; none = h .later };
         is =
-            ap (λ (b : Bool). b && all ok (built (drop (at + 37) s) .constraints)) p
-            ∙ and-assoc so (ok c) (all ok (built (drop (at + 37) s) .constraints))
+            ap (λ (b : Bool). b && all ok (built (drop (nextOf s at) s) .constraints)) p
+            ∙ and-assoc so (ok c) (all ok (built (drop (nextOf s at) s) .constraints))
             ∙ ap (λ (u : Built). so && all ok (u .constraints)) (sym (h .builds)) ∙ g .is;
-        place = omega (arith, ap (λ (u : Built). length (u .constraints)) (h .builds));
+        end = h .end ∙ g .end;
       }
 
-  pub judging-end : (at : ℕ) (so : Bool) → Judging s start ok at so → (eqb (getD s at 0) 19 || eqb (getD s at 0) 20) ≡ false → Judged s start ok (record { holds = so; next = at })
+  pub judging-end : (at : ℕ) (so : Bool) → Judging s start ok at so → isConstraint (getD s at 0) ≡ false → Judged s start ok (record { holds = so; next = at })
   judging-end at so g e =
-      let z = no-constraint (g .tail .n) s at (g .tail .k) (g .tail .here) (g .tail .none) e in let w = g .place in
-      record { is = sym (and-true so) ∙ ap (λ (l : List Constraint). so && all ok l) (sym z) ∙ g .is; next = omega (arith, ap (λ (l : List Constraint). length l) z) }
+      let z = no-constraint (g .tail .n) s at (g .tail .k) (g .tail .here) (g .tail .none) e in
+      record { is = sym (and-true so) ∙ ap (λ (l : List Constraint). so && all ok l) (sym z) ∙ g .is; next = sym (end-here s at (g .tail .none) z) ∙ g .end }
 
 -- ---- one basic set
-pub spanned-is : (s : List ℕ) (start : ℕ) (x q : List ℤ) (d : ℕ) (r : Span) → Divided s start x q d → Judged s (start + 23 * d) (holds (pos 1) x (take d q)) r → Spanned s start (inBasic x) r
-spanned-is s start x q d r v j =
-    let c = v .count in let e = j .next in
-    record {
-      is =
-          j .is ∙ ap₂ (λ (l : List ℤ) (m : List Constraint). all (holds (pos 1) x l) m) (v .is) (v .same);
-      next = omega (arith, ap (λ (m : List Constraint). length m) (v .same));
-    }
+pub spanned-is : (s : List ℕ) (start : ℕ) (x q : List ℤ) (p : Passed) (r : Span) → Divided s start x q p → Judged s (p .next) (holds (pos 1) x (take (p .count) q)) r → Spanned s start (inBasic x) r
+spanned-is s start x q p r v j =
+    record { is = j .is ∙ ap₂ (λ (l : List ℤ) (m : List Constraint). all (holds (pos 1) x l) m) (v .is) (v .past .same); next = j .next ∙ v .past .end }
 
 -- ---- the basic sets
 pub record Finding (s : List ℕ) (x : List ℤ) (at number : ℕ) : Type 0 where

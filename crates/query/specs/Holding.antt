@@ -2,7 +2,7 @@
 use mathlib.Core.Path.{_≡_}
 use mathlib.Core.Bool.{Bool, true, false, _&&_, _||_}
 use mathlib.Core.List.{List}
-use Prim.Native.Nat.{ℕ, _+_, _*_, _≤_}
+use Prim.Native.Nat.{ℕ, _≤_}
 use lib.Dec.{ltb}
 use lib.IntN.{ℤ}
 use lib.ListN.{length, take, drop}
@@ -10,8 +10,9 @@ use Rattle.model.specs.Lists.{all}
 use Rattle.model.specs.Sets.{Constraint, BasicSet, isZero, quotients}
 use Rattle.query.specs.Member.{coordinate}
 use Rattle.codec.specs.Bytes.{Answer, refused, gives}
-use Rattle.codec.specs.Places.{built, basicAt, endOf}
-pub use Rattle.bounds.specs.Ends.{AllWithin, Tail}
+use Rattle.codec.specs.Places.{built, basicAt, endOf, Past}
+use Rattle.codec.specs.declared.layout.Passed.{Passed}
+pub use Rattle.bounds.specs.Ends.{AllWithin}
 use Rattle.query.specs.declared.membership.Span.{Span}
 use Rattle.query.specs.declared.membership.Membership.{Membership}
 use Rattle.query.specs.declared.membership.Membership.the-variants.{In, Out, Refused}
@@ -26,19 +27,17 @@ pub record Values (q : List ℤ) : Type 0 where
   pub few : length q ≤ 8
   pub values : AllWithin 549755813888 q
 
--- q begins with the values of the r divisions from a place on
-pub record Divided (s : List ℕ) (start : ℕ) (x q : List ℤ) (r : ℕ) : Type 0 where
-  pub few : r ≤ 8
-  pub count : r ≡ length (built (drop start s) .divisions)
-  pub is : take r q ≡ quotients (built (drop start s) .divisions) x
+-- q begins with the values of the divisions from a place on, which r has passed
+pub record Divided (s : List ℕ) (start : ℕ) (x q : List ℤ) (r : Passed) : Type 0 where
+  pub few : r .count ≤ 8
+  pub is : take (r .count) q ≡ quotients (built (drop start s) .divisions) x
   pub values : AllWithin 549755813888 q
-  pub there : Tail s (start + 23 * r)
-  pub same : built (drop (start + 23 * r) s) .constraints ≡ built (drop start s) .constraints
+  pub past : Past s start (r .next)
 
 -- whether the constraints from a place on pass a test, and the place after them
 pub record Judged (s : List ℕ) (start : ℕ) (ok : Constraint → Bool) (r : Span) : Type 0 where
   pub is : r .holds ≡ all ok (built (drop start s) .constraints)
-  pub next : r .next ≡ start + 37 * length (built (drop start s) .constraints)
+  pub next : r .next ≡ endOf s start
 
 -- whether the basic set at a place passes a test, and the place after it
 pub record Spanned (s : List ℕ) (start : ℕ) (ok : BasicSet → Bool) (r : Span) : Type 0 where

@@ -5,13 +5,14 @@ ghost use Prim.Native.Nat.{_+_, _*_, _≤_, _<_};
 ghost use lib.IntN.{pos};
 ghost use lib.ListN.{length};
 ghost use Rattle.model.specs.Sets as M;
-ghost use Rattle.codec.specs.Bytes.{readConstraint, kindOf};
-ghost use Rattle.codec.specs.Places.{Opened, Accepted, setFrom};
+ghost use Rattle.codec.specs.Bytes.{constraintBody, readConstraint, kindOf};
+ghost use Rattle.codec.specs.Places.{Opened, Accepted, Tail, setFrom};
 ghost use Rattle.query.specs.Member.{memberBytes, pointFits};
 ghost use Rattle.query.specs.Holder.{firstHolding};
-ghost use Rattle.query.specs.Holding.{AllWithin, Point, Values, Tail, Divided, Judged, Spanned, memberIs, coordinateFits};
+ghost use Rattle.query.specs.Holding.{AllWithin, Point, Values, Divided, Judged, Spanned, memberIs, coordinateFits};
 use crate::values::holds_at;
 use crate::values::quotient_at;
+use codec::Passed;
 
 // Whether a basic set holds the point, and the place after it.
 pub struct Span {
@@ -25,26 +26,28 @@ pub enum Membership {
     Refused(u32),
 }
 
-// The values of the divisions of the basic set whose commands start at `start`, and how many they are.
-fn divided(s: &[u8], start: usize, x: &[i64], q: &mut [i64]) -> usize
+// The values of the divisions of the basic set whose commands start at `start`; how many these are, and the place after
+// them.
+fn divided(s: &[u8], start: usize, x: &[i64], q: &mut [i64]) -> Passed
     requires { ⌜ Opened (now s) start × Point (now x) × (length (now q) ≡ 8) × AllWithin 549755813888 (now q) ⌝ }
     ensures { λ r. ⌜ Divided (now (s .entry)) start (now (x .entry)) (now (q .exit)) r ⌝ }
 {
     let mut at = start;
     let mut d = 0;
-    while codec::code(s, at) == 18 {
-        let t = codec::tail(s, at + 1);
-        let v = quotient_at(t, x);
+    while codec::division_at(s, at) {
+        let e = codec::head(s, at);
+        let t = codec::body(s, at);
+        let v = quotient_at(e, t, x);
         q[d] = v;
         d += 1;
-        at += 23;
+        at = codec::next(s, at);
     }
-    d
+    Passed { count: d, next: at }
 }
 
 // One constraint more, unless one has failed.
 fn still(before: bool, b: u8, t: &[u8], x: &[i64], q: &[i64]) -> bool
-    requires { ⌜ (36 ≤ length (now t)) × Point (now x) × Values (now q) ⌝ }
+    requires { ⌜ (constraintBody ≤ length (now t)) × Point (now x) × Values (now q) ⌝ }
     ensures { λ r. ⌜ r ≡ (before && M.holds (pos 1) (now (x .entry)) (now (q .entry)) (readConstraint (kindOf b) (now (t .entry)))) ⌝ }
 {
     if before {
@@ -60,11 +63,11 @@ fn judged(s: &[u8], start: usize, x: &[i64], q: &[i64]) -> Span
 {
     let mut at = start;
     let mut holds = true;
-    while bounds::is_constraint(codec::code(s, at)) {
+    while codec::constraint_at(s, at) {
         let b = codec::code(s, at);
-        let t = codec::tail(s, at + 1);
+        let t = codec::body(s, at);
         holds = still(holds, b, t, x, q);
-        at += 37;
+        at = codec::next(s, at);
     }
     Span {
         holds: holds,
@@ -78,8 +81,9 @@ pub fn spanned(s: &[u8], start: usize, x: &[i64]) -> Span
     ensures { λ r. ⌜ Spanned (now (s .entry)) start (M.inBasic (now (x .entry))) r ⌝ }
 {
     let mut q = bounds::no_values();
-    let d = divided(s, start, x, &mut q);
-    judged(s, start + 23 * d, x, &q[..d])
+    let p = divided(s, start, x, &mut q);
+    let d = p.count;
+    judged(s, p.next, x, &q[..d])
 }
 
 // The number, from 1, of the first basic set that holds the point; 0: none does.

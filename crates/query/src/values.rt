@@ -5,7 +5,7 @@ ghost use lib.ListN.{length, drop};
 ghost use lib.IntN.{pos};
 ghost use Rattle.integers.specs.Z.{Within};
 ghost use Rattle.model.specs.Sets.{dot, quotient, value, holds, Kind};
-ghost use Rattle.codec.specs.Bytes.{signedList, readDivision, readConstraint, kindOf};
+ghost use Rattle.codec.specs.Bytes.{signedList, divisionBody, constraintBody, readDivision, readConstraint, kindOf};
 ghost use Rattle.query.specs.Holding.{AllWithin};
 
 // The sum of the products of the coefficients from p on and the numbers x.
@@ -18,40 +18,39 @@ fn dot_at(t: &[u8], p: usize, x: &[i64]) -> i64
     let mut i = 0;
     let mut q = p;
     while i < x.len() {
-        s += bounds::s16_at(t, q) * x[i];
+        s += codec::s16_at(t, q) * x[i];
         q += 2;
         i += 1;
     }
     s
 }
 
-// The value of the division whose bytes after the first are t.
-pub fn quotient_at(t: &[u8], x: &[i64]) -> i64
-    requires { ⌜ (22 ≤ length (now t)) × (length (now x) ≤ 8) × AllWithin 1048576 (now x) × (0 < readDivision (now t) .divisor) ⌝ }
-    ensures is { λ r. ⌜ r ≡ quotient (now (x .entry)) (readDivision (now (t .entry))) ⌝ }
+// The value of the division by d whose body is t.
+pub fn quotient_at(d: u64, t: &[u8], x: &[i64]) -> i64
+    requires { ⌜ (divisionBody ≤ length (now t)) × (length (now x) ≤ 8) × AllWithin 1048576 (now x) × (0 < d) × (d < 4294967296) ⌝ }
+    ensures is { λ r. ⌜ r ≡ quotient (now (x .entry)) (readDivision d (now (t .entry))) ⌝ }
     ensures size { λ r. ⌜ Within 549755813888 r ⌝ }
 {
-    let c = bounds::s32_at(t, 2) + dot_at(t, 6, x);
-    let d = integers::u16_at(t, 0);
+    let c = codec::s32_at(t, codec::CONSTANT_PLACE) + dot_at(t, codec::AXES_PLACE, x);
     integers::floor_div(c, d as i64)
 }
 
-// The value at the point x, with the divisions' values q, of the constraint whose bytes after its command are t.
+// The value at the point x, with the divisions' values q, of the constraint whose body is t.
 pub fn value_at(t: &[u8], x: &[i64], q: &[i64]) -> i64
-    requires { ⌜ (36 ≤ length (now t)) × (length (now x) ≤ 8) × (length (now q) ≤ 8) × AllWithin 549755813888 (now x) × AllWithin 549755813888 (now q) ⌝ }
+    requires { ⌜ (constraintBody ≤ length (now t)) × (length (now x) ≤ 8) × (length (now q) ≤ 8) × AllWithin 549755813888 (now x) × AllWithin 549755813888 (now q) ⌝ }
     ensures { λ r. ⌜ ((k : Kind) → r ≡ value (pos 1) (now (x .entry)) (now (q .entry)) (readConstraint k (now (t .entry)))) ⌝ }
 {
-    let a = dot_at(t, 4, x) + dot_at(t, 20, q);
-    bounds::s32_at(t, 0) + a
+    let a = dot_at(t, codec::AXES_PLACE, x) + dot_at(t, codec::DIVISIONS_PLACE, q);
+    codec::s32_at(t, codec::CONSTANT_PLACE) + a
 }
 
-// Whether the constraint whose command is b and whose bytes after it are t holds there.
+// Whether the constraint whose command is b and whose body is t holds there.
 pub fn holds_at(b: u8, t: &[u8], x: &[i64], q: &[i64]) -> bool
-    requires { ⌜ (36 ≤ length (now t)) × (length (now x) ≤ 8) × (length (now q) ≤ 8) × AllWithin 549755813888 (now x) × AllWithin 549755813888 (now q) ⌝ }
+    requires { ⌜ (constraintBody ≤ length (now t)) × (length (now x) ≤ 8) × (length (now q) ≤ 8) × AllWithin 549755813888 (now x) × AllWithin 549755813888 (now q) ⌝ }
     ensures { λ r. ⌜ r ≡ holds (pos 1) (now (x .entry)) (now (q .entry)) (readConstraint (kindOf b) (now (t .entry))) ⌝ }
 {
     let v = value_at(t, x, q);
-    if b == 19 {
+    if codec::is_equality(b) {
         return v == 0;
     }
     0 <= v

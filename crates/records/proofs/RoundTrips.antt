@@ -9,7 +9,7 @@ use Rattle.model.specs.Sets.{BasicSet}
 use Rattle.model.specs.Values.{basicSetOf}
 use Rattle.model.specs.declared.BasicSet.{BasicSet as Value}
 use Rattle.codec.specs.Bytes.{encode, axesFit}
-use Rattle.codec.specs.Places.{basicAt, after, Decoded, Boundary}
+use Rattle.codec.specs.Places.{basicAt, endOf, Decoded, Boundary}
 use Rattle.codec.proofs.Decoded.{Bytes}
 use Rattle.codec.proofs.Valid.{Valid}
 use Rattle.codec.proofs.RoundTrips.{basic-bytes, encoded-decoded}
@@ -18,10 +18,10 @@ use Rattle.records.proofs.Emitting.{put-fresh}
 
 -- what `encode_basic` writes of what `decode_basic` gave are the bytes that were read
 pub decoded-encoded : (n : ℕ) (s : List ℕ) (at : ℕ) → Bytes s → Boundary n s at → at < length s → (v : Value) (o o′ : List ℕ) (to end : ℕ) → Decoded s (at + 1) v
-    → Emitted (encode (basicSetOf v ∷ [])) o to end o′ → o′ ≡ put to (take (after (at + 1) v - at) (drop at s)) o
+    → Emitted (encode (basicSetOf v ∷ [])) o to end o′ → o′ ≡ put to (take (endOf s (at + 1) - at) (drop at s)) o
 decoded-encoded n s at p b h v o o′ to end d w =
     w .bytes
-    ∙ ap (λ (l : List ℕ). put to l o) (ap (λ (x : BasicSet). encode (x ∷ [])) (d .basic) ∙ sym (basic-bytes n s at p b h) ∙ ap (λ (e : ℕ). take (e - at) (drop at s)) (sym (d .next)))
+    ∙ ap (λ (l : List ℕ). put to l o) (ap (λ (x : BasicSet). encode (x ∷ [])) (d .basic) ∙ sym (basic-bytes n s at p b h))
 
 -- what `decode_basic` gives of what `encode_basic` wrote into a table of its own is the basic set
 pub emitted-decoded : (n : ℕ) (v w : Value) (o o′ : List ℕ) (end : ℕ) → T (axesFit n) → Valid n (basicSetOf v) → Emitted (encode (basicSetOf v ∷ [])) o 0 end o′ → length o ≡ end → Decoded o′ 1 w → basicSetOf w ≡ basicSetOf v

@@ -1,17 +1,22 @@
 // One basic set of checked bytes, decoded into a value.
 ghost use mathlib.Core.Path.{_≡_};
-ghost use mathlib.Core.Bool.{_||_};
-ghost use Prim.Native.Nat.{_+_, _≤_};
-ghost use lib.Dec.{eqb};
+ghost use Prim.Native.Nat.{_+_, _≤_, _<_};
 ghost use lib.ListN.{length, drop};
 ghost use Rattle.model.specs.Values.{divisionOf, constraintOf};
-ghost use Rattle.codec.specs.Bytes.{signedList, readDivision, readConstraint, kindOf};
+ghost use Rattle.codec.specs.Bytes.{signedList, divisionBody, constraintBody, readDivision, readConstraint, kindOf};
 ghost use Rattle.codec.specs.Places.{Opened, Decoded};
+use codec::AXES_PLACE;
+use codec::CONSTANT_PLACE;
+use codec::DIVISIONS_PLACE;
+use codec::body;
 use codec::code;
-use codec::tail;
+use codec::constraint_at;
+use codec::division_at;
+use codec::head;
+use codec::is_equality;
+use codec::next;
 use integers::i16_at;
 use integers::i32_at;
-use integers::u16_at;
 use model::BasicSet;
 use model::Constraint;
 use model::Division;
@@ -32,44 +37,34 @@ fn coefficients(t: &[u8], p: usize) -> [i16; 8]
     ]
 }
 
-// The division whose bytes after its command are t.
-fn read_division(t: &[u8]) -> Division
-    requires { ⌜ 22 ≤ length (now t) ⌝ }
-    ensures { λ r. ⌜ divisionOf r ≡ readDivision (now (t .entry)) ⌝ }
+// The division by d whose body is t.
+fn read_division(d: u64, t: &[u8]) -> Division
+    requires { ⌜ (divisionBody ≤ length (now t)) × (d < 4294967296) ⌝ }
+    ensures { λ r. ⌜ divisionOf r ≡ readDivision d (now (t .entry)) ⌝ }
 {
-    let d = u16_at(t, 0) as u32;
-    let c = i32_at(t, 2);
-    let a = coefficients(t, 6);
+    let c = i32_at(t, CONSTANT_PLACE);
+    let a = coefficients(t, AXES_PLACE);
     Division {
-        divisor: d,
+        divisor: d as u32,
         constant: c,
         axes: a,
     }
 }
 
-// The constraint whose command is b and whose bytes after it are t.
+// The constraint whose command is b and whose body is t.
 fn read_constraint(b: u8, t: &[u8]) -> Constraint
-    requires { ⌜ 36 ≤ length (now t) ⌝ }
+    requires { ⌜ constraintBody ≤ length (now t) ⌝ }
     ensures { λ r. ⌜ constraintOf r ≡ readConstraint (kindOf b) (now (t .entry)) ⌝ }
 {
-    let c = i32_at(t, 0);
-    let a = coefficients(t, 4);
-    let e = coefficients(t, 20);
+    let c = i32_at(t, CONSTANT_PLACE);
+    let a = coefficients(t, AXES_PLACE);
+    let e = coefficients(t, DIVISIONS_PLACE);
     Constraint {
-        equality: b == 19,
+        equality: is_equality(b),
         constant: c,
         axes: a,
         divisions: e,
     }
-}
-
-fn is_constraint(b: u8) -> bool
-    ensures { λ r. ⌜ r ≡ (eqb b 19 || eqb b 20) ⌝ }
-{
-    if b == 19 {
-        return true;
-    }
-    b == 20
 }
 
 fn no_division() -> Division {
@@ -111,20 +106,21 @@ pub fn decode_basic(s: &[u8], start: usize) -> BasicSet
     let mut at = start;
     let mut ds = no_divisions();
     let mut d = 0;
-    while code(s, at) == 18 {
-        let t = tail(s, at + 1);
-        ds[d] = read_division(t);
+    while division_at(s, at) {
+        let e = head(s, at);
+        let t = body(s, at);
+        ds[d] = read_division(e, t);
         d += 1;
-        at += 23;
+        at = next(s, at);
     }
     let mut rs = no_constraints();
     let mut r = 0;
-    while is_constraint(code(s, at)) {
+    while constraint_at(s, at) {
         let b = code(s, at);
-        let t = tail(s, at + 1);
+        let t = body(s, at);
         rs[r] = read_constraint(b, t);
         r += 1;
-        at += 37;
+        at = next(s, at);
     }
     BasicSet {
         divisions: ds,

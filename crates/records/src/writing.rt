@@ -5,8 +5,15 @@ ghost use Prim.Native.Nat.{_+_, _≤_, _<_, _^_};
 ghost use lib.ListN.{length};
 ghost use Rattle.model.specs.Lists.{concatMap};
 ghost use Rattle.model.specs.Values.{kindIs, divisionOf, constraintOf, basicSetOf};
-ghost use Rattle.codec.specs.Bytes.{bytesOf, signedBytes, unsigned, encodeCommand, encode, division, constraint, opcode};
+ghost use Rattle.codec.specs.Bytes.{bytesOf, signedBytes, unsigned, encodeCommand, encode, opens, division, constraint, opcode};
+ghost use Rattle.codec.specs.Places.{divisionWidth, constraintWidth, longestDivision, longestConstraint};
 ghost use Rattle.records.specs.Writing.{Emitted, Encodable, cleared};
+use codec::DIVISION;
+use codec::EQUALITY;
+use codec::INEQUALITY;
+use codec::LONGEST_CONSTRAINT;
+use codec::LONGEST_DIVISION;
+use codec::OPENS;
 use model::BasicSet;
 use model::Constraint;
 use model::Division;
@@ -106,11 +113,11 @@ fn put_coefficients(out: &mut [u8], at: usize, a: [i16; 8]) -> usize
 }
 
 fn put_division(out: &mut [u8], at: usize, e: Division) -> usize
-    requires { ⌜ at + 23 ≤ length (now out) ⌝ }
+    requires { ⌜ at + longestDivision ≤ length (now out) ⌝ }
     ensures bytes { λ r. ⌜ Emitted (encodeCommand (division (divisionOf e))) (now (out .entry)) at r (now (out .exit)) ⌝ }
-    ensures size { λ r. ⌜ r ≡ at + 23 ⌝ }
+    ensures size { λ r. ⌜ r ≡ at + divisionWidth (divisionOf e) ⌝ }
 {
-    let p = put_8(out, at, 18);
+    let p = put_8(out, at, DIVISION);
     let p = put_16(out, p, e.divisor as u64);
     let p = put_32(out, p, whole(e.constant));
     let a = e.axes;
@@ -121,15 +128,15 @@ fn command(equality: bool) -> u8
     ensures { λ r. ⌜ r ≡ opcode (kindIs equality) ⌝ }
 {
     if equality {
-        return 19;
+        return EQUALITY;
     }
-    20
+    INEQUALITY
 }
 
 fn put_constraint(out: &mut [u8], at: usize, r: Constraint) -> usize
-    requires { ⌜ at + 37 ≤ length (now out) ⌝ }
+    requires { ⌜ at + longestConstraint ≤ length (now out) ⌝ }
     ensures bytes { λ v. ⌜ Emitted (encodeCommand (constraint (constraintOf r))) (now (out .entry)) at v (now (out .exit)) ⌝ }
-    ensures size { λ v. ⌜ v ≡ at + 37 ⌝ }
+    ensures size { λ v. ⌜ v ≡ at + constraintWidth (constraintOf r) ⌝ }
 {
     let p = put_8(out, at, command(r.equality));
     let p = put_32(out, p, whole(r.constant));
@@ -141,24 +148,24 @@ fn put_constraint(out: &mut [u8], at: usize, r: Constraint) -> usize
 
 fn emit_opening(out: &mut [u8], at: usize) -> usize
     requires { ⌜ at < 2 ^ 63 ⌝ }
-    ensures { λ r. ⌜ Emitted (17 ∷ []) (now (out .entry)) at r (now (out .exit)) ⌝ }
+    ensures { λ r. ⌜ Emitted (encodeCommand opens) (now (out .entry)) at r (now (out .exit)) ⌝ }
 {
     if out.len() <= at {
         return at + 1;
     }
-    out[at] = 17;
+    out[at] = OPENS;
     at + 1
 }
 
 fn emit_division(out: &mut [u8], at: usize, e: Division) -> usize
     requires { ⌜ at < 2 ^ 63 + 2000 ⌝ }
     ensures bytes { λ r. ⌜ Emitted (encodeCommand (division (divisionOf e))) (now (out .entry)) at r (now (out .exit)) ⌝ }
-    ensures size { λ r. ⌜ r ≡ at + 23 ⌝ }
+    ensures size { λ r. ⌜ r ≡ at + divisionWidth (divisionOf e) ⌝ }
 {
-    if at + 23 <= out.len() {
+    if at + LONGEST_DIVISION <= out.len() {
         return put_division(out, at, e);
     }
-    let mut b = [0u8; 23];
+    let mut b = [0u8; LONGEST_DIVISION];
     put_division(&mut b, 0, e);
     copy_bytes(&b, out, at)
 }
@@ -166,12 +173,12 @@ fn emit_division(out: &mut [u8], at: usize, e: Division) -> usize
 fn emit_constraint(out: &mut [u8], at: usize, r: Constraint) -> usize
     requires { ⌜ at < 2 ^ 63 + 2000 ⌝ }
     ensures bytes { λ v. ⌜ Emitted (encodeCommand (constraint (constraintOf r))) (now (out .entry)) at v (now (out .exit)) ⌝ }
-    ensures size { λ v. ⌜ v ≡ at + 37 ⌝ }
+    ensures size { λ v. ⌜ v ≡ at + constraintWidth (constraintOf r) ⌝ }
 {
-    if at + 37 <= out.len() {
+    if at + LONGEST_CONSTRAINT <= out.len() {
         return put_constraint(out, at, r);
     }
-    let mut b = [0u8; 37];
+    let mut b = [0u8; LONGEST_CONSTRAINT];
     put_constraint(&mut b, 0, r);
     copy_bytes(&b, out, at)
 }

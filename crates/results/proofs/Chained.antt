@@ -1,7 +1,7 @@
 -- Basic sets put one behind the other, and what the whole result answers.
 use mathlib.Core.Path.{_≡_, refl, sym, ap, ap₂, _∙_, subst}
 use mathlib.Core.Bool.{Bool, true, false, _&&_}
-use mathlib.Core.List.{List, [], _∷_, _++_, map, append-nil}
+use mathlib.Core.List.{List, [], _∷_, _++_}
 use Prim.Native.Nat.{ℕ, zero, suc, _+_, _-_, _*_, _≤_, _<_}
 use native.Mathlib.Nat.{add-zero, zero-add}
 use native.Mathlib.Omega.{arith}
@@ -10,46 +10,17 @@ use lib.Dec.{leb}
 use lib.ListN.{length, take, drop, replicate, length-append}
 use lib.Seq.{take-at}
 use Rattle.integers.specs.Mach.{clash}
-use Rattle.model.specs.Lists.{concatMap}
 use Rattle.model.specs.Sets.{BasicSet, Set}
-use Rattle.codec.specs.Bytes.{Answer, refused, gives, opens, division, constraint, Command, encodeCommand, commands, encode}
+use Rattle.codec.specs.Bytes.{Answer, refused, gives, encode}
 use Rattle.records.specs.Writing.{Emitted, cleared}
-use Rattle.codec.proofs.Commands.{encode-more, concat-more}
+use Rattle.codec.proofs.Commands.{encode-more}
 use Rattle.records.proofs.Emitting.{emitted-none, emitted-more, put-whole}
-use Rattle.codec.proofs.Valid.{All, ValidDivision, ValidConstraint, Valid}
+use Rattle.codec.proofs.Valid.{Valid}
 use Rattle.algebra.specs.Operations.{result}
 use Rattle.algebra.specs.Result.{Result}
 use Rattle.results.specs.declared.results.Done.{Done}
 use Rattle.results.specs.Results.{Ready, Emits, Made}
-use Rattle.codec.proofs.RoundTrips.{division-size, constraint-size}
-
--- ---- no basic set has more than 1,961 bytes
-
-module _ {A : Type 0} (P : A → Type 0) (f : A → Command) (w : ℕ) (h : (a : A) → P a → length (encodeCommand (f a)) ≡ w) where
-  many-long : (l : List A) (m : ℕ) → length l ≤ m → All P l → length (concatMap encodeCommand (map f l)) ≤ w * m
-  many-long [] m k p = omega arith
-  many-long (a ∷ l) zero k p = absurd (no k)
-    where
-      no : suc (length l) ≤ 0 → ⊥
-      no k = omega arith
-  many-long (a ∷ l) (suc m) k p =
-      let e = length-append (encodeCommand (f a)) (concatMap encodeCommand (map f l)) in
-      let i = many-long l m (omega arith) (p .1) in
-      let g = h a (p .0) in
-      let z : w * suc m ≡ w + w * m = native.Mathlib.Nat.mul-suc w m ∙ native.Mathlib.Nat.add-comm (w * m) w in
-      omega arith
-
-pub encode-short : (n : ℕ) (b : BasicSet) → Valid n b → length (encode (b ∷ [])) ≤ 1961
-unfolding encode
-encode-short n b v =
-    let e : concatMap encodeCommand (commands (b ∷ [])) ≡ 0x11 ∷ (concatMap encodeCommand (map division (b .divisions)) ++ concatMap encodeCommand (map constraint (b .constraints))) =
-    ap (concatMap encodeCommand) (append-nil (opens ∷ map division (b .divisions) ++ map constraint (b .constraints)))
-    ∙ ap (λ (l : List ℕ). 0x11 ∷ l) (concat-more encodeCommand (map division (b .divisions)) (map constraint (b .constraints))) in
-    let l = ap length e in
-    let m = length-append (concatMap encodeCommand (map division (b .divisions))) (concatMap encodeCommand (map constraint (b .constraints))) in
-    let d = many-long (ValidDivision n) division 23 (division-size n) (b .divisions) 8 (v .few-divisions) (v .divisions) in
-    let c = many-long (ValidConstraint n (length (b .divisions))) constraint 37 (constraint-size n (length (b .divisions))) (b .constraints) 48 (v .few-constraints) (v .constraints) in
-    omega arith
+use Rattle.codec.proofs.RoundTrips.{valid-short}
 
 -- ---- one behind the other
 
@@ -71,7 +42,7 @@ pub emits-one : (n : ℕ) (b : BasicSet) (o : List ℕ) (s : Done) (e : ℕ) (o�
 emits-one n b o s e o′ v r h p =
     record {
       fits = sym (le-leb (s .count + 1) 32 (omega arith));
-      ready = λ t. record { fits = refl; few = omega arith; near = let x = p .ends in let y = encode-short n b v in let z = r .near in omega arith };
+      ready = λ t. record { fits = refl; few = omega arith; near = let x = p .ends in let y = valid-short n b v in let z = r .near in omega arith };
       count = λ t. refl;
       bytes = λ t. p;
     }

@@ -6,6 +6,7 @@ use Prim.Native.Nat.{ℕ, _+_, _*_, _≤_}
 use lib.Dec.{leb}
 use lib.ListN.{length}
 use Rattle.model.specs.Sets.{Set}
+use Rattle.codec.specs.Places.{longestBasic}
 use Rattle.codec.specs.Bytes.{encode}
 use Rattle.records.specs.Writing.{Emitted}
 use Rattle.algebra.specs.Operations.{result}
@@ -14,11 +15,11 @@ use Rattle.results.specs.declared.results.Outcome.{Outcome}
 use Rattle.results.specs.declared.results.Done.{Done}
 use Rattle.results.specs.Outcome.{outcomeIs}
 
--- a result that may go on: no basic set has more than 1 + 8·23 + 48·37 bytes
+-- a result that may go on: no basic set has more than longestBasic bytes
 pub record Ready (s : Done) : Type 0 where
   pub fits : s .fits ≡ true
   pub few : s .count ≤ 32
-  pub near : s .at ≤ 1961 * s .count
+  pub near : s .at ≤ longestBasic * s .count
 
 -- behind what s has in o come the basic sets l, unless f is false or there are over 32: then it no longer fits
 pub record Emits (l : Set) (f : Bool) (o : List ℕ) (s r : Done) (o′ : List ℕ) : Type 0 where

@@ -1,8 +1,6 @@
-// The result of an operation: its basic sets put into the lent table, and the answer of the call; and the basic sets of a set counted.
-mod counts;
+// The result of an operation: its basic sets put into the lent table, and the answer of the call.
 mod results;
 
-pub use counts::count;
 pub use results::Done;
 pub use results::Outcome;
 pub use results::emit;

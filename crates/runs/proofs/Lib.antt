@@ -1,1 +1,2 @@
 pub mod Upward
+mod Helped

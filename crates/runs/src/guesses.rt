@@ -1,11 +1,15 @@
 // For how many values of an axis a constraint that fails may go on failing: a guess from what brings its value nearer
 // to 0 as the axis goes up, the axis itself or one division. It is exact for these; where two of them do, it is 1.
 // Nothing is promised of it but its range: whoever takes it tests it.
-ghost use Prim.Native.Nat.{_+_, _*_, _≤_, _<_};
+ghost use mathlib.Core.Path.{_≡_};
+ghost use Prim.Native.Nat.{_≤_, _<_};
 ghost use lib.ListN.{length};
 ghost use Rattle.integers.specs.Z.{Within};
 ghost use Rattle.bounds.specs.Ends.{Ends, Step};
-ghost use Rattle.bounds.specs.Rows.{startOf, Loose};
+ghost use Rattle.codec.specs.Bytes.{divisionBody, constraintBody};
+ghost use Rattle.codec.specs.Places.{Opened};
+ghost use Rattle.bounds.specs.Rows.{Loose, Numbered};
+ghost use Rattle.runs.specs.Helping.{notedOf, Helping};
 
 // Whether a number with the coefficient a comes nearer to holding as its axis goes up: a constraint fails because it is
 // too low (`up`), or, an equality, too high.
@@ -27,28 +31,49 @@ fn division_helps(a: i64, b: i64, up: bool) -> bool {
     false
 }
 
-// The number of the one division that helps: 8 is none, 9 more than one.
-fn noted(before: usize, j: usize, yes: bool) -> usize {
+// The one division that helps: its number, 8 where there is none and 9 where there are more; and its place.
+pub struct Helper {
+    pub number: usize,
+    pub place: usize,
+}
+
+// The same with division number j at a place, which helps or does not.
+fn noted(before: Helper, j: usize, at: usize, yes: bool) -> Helper
+    ensures { λ r. ⌜ r ≡ notedOf before j at yes ⌝ }
+{
     if yes {
-        if before == 8 {
-            return j;
+        if before.number == 8 {
+            return Helper {
+                number: j,
+                place: at,
+            };
         }
-        return 9;
+        return Helper {
+            number: 9,
+            place: before.place,
+        };
     }
     before
 }
 
-// Of the d divisions from `start` on, the one that helps the constraint of bytes t as axis k goes up.
-fn helping_division(s: &[u8], start: usize, d: usize, t: &[u8], k: usize, up: bool) -> usize
-    requires { ⌜ (start + 23 * d ≤ length (now s)) × (d ≤ 8) × (k < 8) × (36 ≤ length (now t)) ⌝ }
+// Of the divisions from `start` on, the one that helps the constraint with body t as axis k goes up.
+fn helping_division(s: &[u8], start: usize, t: &[u8], k: usize, up: bool) -> Helper
+    requires { ⌜ Opened (now s) start × (k < 8) × (constraintBody ≤ length (now t)) ⌝ }
+    ensures { λ r. ⌜ Helping (now (s .entry)) r ⌝ }
 {
-    let mut g = 8;
+    let mut g = Helper {
+        number: 8,
+        place: start,
+    };
     let mut j = 0;
-    while j < d {
-        let a = bounds::s16_at(t, 20 + 2 * j);
-        let b = bounds::s16_at(s, start + 23 * j + 7 + 2 * k);
-        g = noted(g, j, division_helps(a, b, up));
+    let mut at = start;
+    while codec::division_at(s, at) {
+        let u = codec::body(s, at);
+        let a = codec::s16_at(t, codec::DIVISIONS_PLACE + 2 * j);
+        let b = codec::s16_at(u, codec::AXES_PLACE + 2 * k);
+        g = noted(g, j, at, division_helps(a, b, up));
         j += 1;
+        at = codec::next(s, at);
     }
     g
 }
@@ -103,9 +128,9 @@ fn stepped(short: u64, c: u64, e: u64, m: u64, b: u64, most: u64) -> u64
 
 // What is left of the end of a numerator when it is divided.
 fn left_over(t: &[u8], k: usize, from: i64, to: i64, z: i64, e: u64) -> u64
-    requires { ⌜ (22 ≤ length (now t)) × (0 < e) × (e < 65536) × Step k from to × Within 274877906944 z ⌝ }
+    requires { ⌜ (divisionBody ≤ length (now t)) × (0 < e) × (e < 65536) × Step k from to × Within 274877906944 z ⌝ }
 {
-    let n = bounds::end_at(t, 6, k, from, to, z);
+    let n = bounds::end_at(t, k, from, to, z);
     let d = e as i64;
     let q = integers::floor_div(n, d);
     integers::magnitude(n - q * d)
@@ -121,7 +146,7 @@ fn turned(e: u64, m: u64) -> u64 {
 
 // What is left of the end that moves: the greatest where the coefficient b of the axis is above 0.
 fn remains(t: &[u8], k: usize, from: i64, to: i64, l: i64, h: i64, b: i64, e: u64) -> u64
-    requires { ⌜ (22 ≤ length (now t)) × (0 < e) × (e < 65536) × Step k from to × Within 274877906944 l × Within 274877906944 h ⌝ }
+    requires { ⌜ (divisionBody ≤ length (now t)) × (0 < e) × (e < 65536) × Step k from to × Within 274877906944 l × Within 274877906944 h ⌝ }
 {
     if 0 < b {
         return left_over(t, k, to, from, h, e);
@@ -129,7 +154,7 @@ fn remains(t: &[u8], k: usize, from: i64, to: i64, l: i64, h: i64, b: i64, e: u6
     turned(e, left_over(t, k, from, to, l, e))
 }
 
-// For how many values a constraint of bytes t that is `short` of holding goes on failing.
+// For how many values a constraint with body t that is `short` of holding goes on failing.
 fn guess_from(
     s: &[u8],
     t: &[u8],
@@ -137,34 +162,38 @@ fn guess_from(
     from: i64,
     to: i64,
     r: &[i64; 129],
-    d: usize,
     short: u64,
     up: bool,
     most: u64,
 ) -> u64
-    requires { ⌜ Loose (now s) (now r) × (startOf (now r) + 23 * d ≤ length (now s)) × (d ≤ 8) × Step k from to × (36 ≤ length (now t)) × (0 < most) ⌝ }
+    requires { ⌜ Loose (now s) (now r) × Step k from to × (constraintBody ≤ length (now t)) × (0 < most) ⌝ }
     ensures { λ m. ⌜ (0 < m) × (m ≤ most) ⌝ }
 {
     let start = bounds::place(r);
-    let a = rising(bounds::s16_at(t, 4 + 2 * k), up);
-    let j = helping_division(s, start, d, t, k, up);
+    let a = rising(codec::s16_at(t, codec::AXES_PLACE + 2 * k), up);
+    let g = helping_division(s, start, t, k, up);
+    let j = g.number;
     if j == 8 {
         return linear(short, a, most);
     }
-    if d <= j {
+    if 8 < j {
         return 1;
     }
     if a != 0 {
         return 1;
     }
-    let u = codec::tail(s, start + 23 * j + 1);
-    let e = integers::u16_at(u, 0);
+    let at = g.place;
+    let e = codec::head(s, at);
     if e == 0 {
         return 1;
     }
-    let b = bounds::s16_at(u, 6 + 2 * k);
+    if 65535 < e {
+        return 1;
+    }
+    let u = codec::body(s, at);
+    let b = codec::s16_at(u, codec::AXES_PLACE + 2 * k);
     let m = remains(u, k, from, to, r[j], r[64 + j], b, e);
-    let c = integers::magnitude(bounds::s16_at(t, 20 + 2 * j));
+    let c = integers::magnitude(codec::s16_at(t, codec::DIVISIONS_PLACE + 2 * j));
     stepped(short, c, e, m, integers::magnitude(b), most)
 }
 
@@ -181,19 +210,18 @@ pub fn guess(
     i: usize,
     most: u64,
 ) -> u64
-    requires { ⌜ Loose (now s) (now r) × (startOf (now r) + 23 * length (now ql) ≤ length (now s)) × Ends (now ql) (now qh) 549755813888 × Step k from to × (at + 37 ≤ length (now s)) × (i < 56) × (0 < most) ⌝ }
+    requires { ⌜ Loose (now s) (now r) × Ends (now ql) (now qh) 549755813888 × Step k from to × Numbered (now s) (now r) at i × (0 < most) ⌝ }
     ensures { λ m. ⌜ (0 < m) × (m ≤ most) ⌝ }
 {
-    let t = codec::tail(s, at + 1);
-    let d = ql.len();
-    let g = bounds::end_at(t, 4, k, to, from, r[64 + i]);
-    let high = bounds::extreme(t, 20, qh, ql, g);
+    let t = codec::body(s, at);
+    let g = bounds::end_at(t, k, to, from, r[64 + i]);
+    let high = bounds::extreme(t, codec::DIVISIONS_PLACE, qh, ql, g);
     if high < 0 {
         let short = integers::magnitude(high);
-        return guess_from(s, t, k, from, to, r, d, short, true, most);
+        return guess_from(s, t, k, from, to, r, short, true, most);
     }
-    let f = bounds::end_at(t, 4, k, from, to, r[i]);
-    let low = bounds::extreme(t, 20, ql, qh, f);
+    let f = bounds::end_at(t, k, from, to, r[i]);
+    let low = bounds::extreme(t, codec::DIVISIONS_PLACE, ql, qh, f);
     let short = integers::magnitude(low);
-    guess_from(s, t, k, from, to, r, d, short, false, most)
+    guess_from(s, t, k, from, to, r, short, false, most)
 }

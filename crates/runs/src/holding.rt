@@ -3,15 +3,15 @@ ghost use mathlib.Core.Path.{_≡_};
 ghost use mathlib.Core.List.{map};
 ghost use Prim.Native.Nat.{_<_};
 ghost use lib.ListN.{length};
-ghost use Rattle.codec.specs.Places.{basicAt};
+ghost use Rattle.codec.specs.Places.{basicAt, Past};
 ghost use Rattle.bounds.specs.Intervals.{boxOf, quotientSide};
-ghost use Rattle.bounds.specs.Ends.{Ends, Past};
+ghost use Rattle.bounds.specs.Ends.{Ends};
 ghost use Rattle.bounds.specs.Rows.{startOf, Row, Settled};
 ghost use Rattle.runs.specs.Upward.{Reach, Failing, Told};
 use crate::lasting::constraint_run;
 
-// 0 where each constraint can hold by itself; otherwise for how many values of axis k, at most `most`, one goes on
-// failing.
+// 0 where each constraint, the first of them at `first`, can hold by itself; otherwise for how many values of axis k, at
+// most `most`, one goes on failing.
 fn constraints_run(
     s: &[u8],
     k: usize,
@@ -20,18 +20,19 @@ fn constraints_run(
     r: &[i64; 129],
     ql: &[i64],
     qh: &[i64],
+    first: usize,
     most: u64,
 ) -> u64
-    requires { ⌜ Settled (now s) k (now low) (now high) (now r) × Ends (now low) (now high) 1048576 × Ends (now ql) (now qh) 549755813888 × Past (now s) (startOf (now r)) (length (now ql)) × (boxOf (now ql) (now qh) ≡ map (quotientSide (boxOf (now low) (now high))) (basicAt (now s) (startOf (now r)) .divisions)) × Reach k (now high) most × (0 < most) ⌝ }
+    requires { ⌜ Settled (now s) k (now low) (now high) (now r) × Ends (now low) (now high) 1048576 × Ends (now ql) (now qh) 549755813888 × Past (now s) (startOf (now r)) first × (length (now ql) ≡ length (basicAt (now s) (startOf (now r)) .divisions)) × (boxOf (now ql) (now qh) ≡ map (quotientSide (boxOf (now low) (now high))) (basicAt (now s) (startOf (now r)) .divisions)) × Reach k (now high) most × (0 < most) ⌝ }
     ensures { λ m. ⌜ Failing (now (s .entry)) k (now (low .entry)) (now (high .entry)) (startOf (now (r .entry))) most m ⌝ }
 {
     let mut i = ql.len();
-    let mut at = bounds::place(r) + 23 * i;
-    while bounds::is_constraint(codec::code(s, at)) {
+    let mut at = first;
+    while codec::constraint_at(s, at) {
         if !bounds::can_stand(s, k, low, high, r, ql, qh, at, i) {
             return constraint_run(s, k, low, high, r, ql, qh, at, i, most);
         }
-        at += 37;
+        at = codec::next(s, at);
         i += 1;
     }
     0
@@ -53,6 +54,7 @@ pub fn failing_run(
     bounds::settle(s, k, low, high, r);
     let mut ql = bounds::no_values();
     let mut qh = bounds::no_values();
-    let d = bounds::bounded(s, k, low, high, r, &mut ql, &mut qh);
-    constraints_run(s, k, low, high, r, &ql[..d], &qh[..d], most)
+    let p = bounds::bounded(s, k, low, high, r, &mut ql, &mut qh);
+    let d = p.count;
+    constraints_run(s, k, low, high, r, &ql[..d], &qh[..d], p.next, most)
 }

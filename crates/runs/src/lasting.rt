@@ -3,12 +3,12 @@
 ghost use mathlib.Core.Path.{_≡_};
 ghost use mathlib.Core.Bool.{true};
 ghost use mathlib.Core.List.{map};
-ghost use Prim.Native.Nat.{_+_, _*_, _≤_, _<_};
+ghost use Prim.Native.Nat.{_≤_, _<_};
 ghost use lib.ListN.{length, take};
-ghost use Rattle.codec.specs.Places.{basicAt};
+ghost use Rattle.codec.specs.Places.{basicAt, constraintAt};
 ghost use Rattle.bounds.specs.Intervals.{boxOf, quotientSide};
 ghost use Rattle.bounds.specs.Ends.{AllWithin, Ends, canStand};
-ghost use Rattle.bounds.specs.Rows.{startOf, Settled, Numbered, constraintAt};
+ghost use Rattle.bounds.specs.Rows.{startOf, Settled, Numbered};
 ghost use Rattle.runs.specs.Upward.{widened, Reach, Lasts};
 use crate::guesses::guess;
 
@@ -44,7 +44,8 @@ fn can_over(
 {
     let mut ql = bounds::no_values();
     let mut qh = bounds::no_values();
-    let d = bounds::bounded(s, k, low, high, r, &mut ql, &mut qh);
+    let p = bounds::bounded(s, k, low, high, r, &mut ql, &mut qh);
+    let d = p.count;
     bounds::can_stand(s, k, low, high, r, &ql[..d], &qh[..d], at, i)
 }
 
@@ -80,7 +81,7 @@ pub fn constraint_run(
     i: usize,
     most: u64,
 ) -> u64
-    requires { ⌜ Settled (now s) k (now low) (now high) (now r) × Ends (now low) (now high) 1048576 × Ends (now ql) (now qh) 549755813888 × (startOf (now r) + 23 * length (now ql) ≤ length (now s)) × Numbered (now s) (now r) at i × Reach k (now high) most × (0 < most) × Lasts (now s) k (now low) (now high) (startOf (now r)) (constraintAt (now s) at) 1 ⌝ }
+    requires { ⌜ Settled (now s) k (now low) (now high) (now r) × Ends (now low) (now high) 1048576 × Ends (now ql) (now qh) 549755813888 × Numbered (now s) (now r) at i × Reach k (now high) most × (0 < most) × Lasts (now s) k (now low) (now high) (startOf (now r)) (constraintAt (now s) at) 1 ⌝ }
     ensures is { λ m. ⌜ Lasts (now (s .entry)) k (now (low .entry)) (now (high .entry)) (startOf (now (r .entry))) (constraintAt (now (s .entry)) at) m ⌝ }
     ensures size { λ m. ⌜ (0 < m) × (m ≤ most) ⌝ }
 {

@@ -10,7 +10,7 @@ use lib.Dec.{ltb, leb, eqb}
 use lib.ListN.{length, getD, take, drop, take-append-drop}
 use lib.Seq.{drop-cons, length-take-le}
 use Rattle.model.specs.Lists.{all}
-use Rattle.codec.specs.Bytes.{widthOf, firstFailing}
+use Rattle.codec.specs.Bytes.{isOpening, isDivision, widthOf, firstFailing}
 use Rattle.session.specs.Script.{room, fixedWidth, loadLength, commandWidth, inPlace, ending, refusedLine, execute}
 use Rattle.listing.specs.Written.{Wrote, Writes}
 use Rattle.session.specs.Turns.{Memory, memory, stateOf, effectOf, shown, memoryOf, goesOn, Turned, quiet, stateAt, lineOf, past, there, lineTurn, commandTurn, frontTurn, frontOf, cursorIn, cursorFits, usable}
@@ -28,19 +28,10 @@ use Rattle.session.proofs.Turning.{and-left, and-right, all-fit}
 use Rattle.listing.proofs.Writing.{wrote-none}
 use Rattle.session.proofs.Steps.{load-known}
 
-pub past-is : (c : Cursor) (b p k d : ℕ) → p ≡ c .place + widthOf b → k ≡ cond (eqb b 0x11) (c .basics + 1) (c .basics) → d ≡ cond (eqb b 0x11) 0 (cond (eqb b 0x12) (c .divisions + 1) (c .divisions))
+pub past-is : (c : Cursor) (b p k d : ℕ) → p ≡ c .place + widthOf b → k ≡ cond (isOpening b) (c .basics + 1) (c .basics) → d ≡ cond (isOpening b) 0 (cond (isDivision b) (c .divisions + 1) (c .divisions))
     → record { set = c .set; place = p; basics = k; divisions = d } ≡ past c b
 past-is c b p k d x y z =
     ap (λ (p : ℕ). record { set = c .set; place = p; basics = k; divisions = d }) x ∙ ap₂ (λ (k d : ℕ). record { set = c .set; place = c .place + widthOf b; basics = k; divisions = d }) y z
-
-pub width-most : (b : ℕ) → widthOf b ≤ 37
-width-most b = by (eqb b 0x11) (eqb b 0x12) (eqb b 0x13 || eqb b 0x14)
-  where
-    by : (x y z : Bool) → cond x 1 (cond y 23 (cond z 37 0)) ≤ 37
-    by true y z = omega arith
-    by false true z = omega arith
-    by false false true = omega arith
-    by false false false = omega arith
 
 pub says-quiet : (st : State) (y : Memory) (x : Next) {r : Turn} (out : List ℕ) → r ≡ silentTurn st x → Says (quiet st y x) r out out
 says-quiet st y x {r} out e =

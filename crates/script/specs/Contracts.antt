@@ -3,7 +3,7 @@ use mathlib.Core.Path.{_≡_}
 use mathlib.Core.List.{List}
 use Prim.Native.Nat.{ℕ, suc, _≤_, _<_}
 use lib.ListN.{length, getD, set}
-use Rattle.codec.specs.Bytes.{widthOf}
+use Rattle.codec.specs.Places.{Whole}
 use Rattle.session.specs.Script.{room}
 use Rattle.session.specs.Turns.{Turned, stateAt, goesOn}
 use Rattle.listing.specs.Written.{Wrote}
@@ -34,14 +34,13 @@ pub record CursorIn (c : Cursor) (lengths : List ℕ) : Type 0 where
   pub few-basics : c .basics ≤ room
   pub few-divisions : c .divisions ≤ 8
 
--- a command of a listing, all there
-pub record Shows (n : ℕ) (c : Cursor) (b : ℕ) (t out : List ℕ) : Type 0 where
+-- the command of a listing at the cursor's place in s, all there
+pub record Shows (n : ℕ) (c : Cursor) (s out : List ℕ) : Type 0 where
   pub axes : n ≤ 8
   pub line-long : 512 ≤ length out
   pub few-basics : c .basics ≤ room
   pub few-divisions : c .divisions ≤ 8
-  pub known : 0 < widthOf b
-  pub whole : widthOf b ≤ suc (length t)
+  pub whole : Whole s (c .place)
 
 -- turns as the code makes them
 abbrev pub silentTurn : State → Next → Turn

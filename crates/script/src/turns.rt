@@ -3,7 +3,7 @@ ghost use mathlib.Core.Path.{_≡_};
 ghost use mathlib.Core.Bool.{true, false};
 ghost use Prim.Native.Nat.{ℕ, _+_, _≤_, _<_};
 ghost use lib.Dec.{leb};
-ghost use lib.ListN.{length, drop};
+ghost use lib.ListN.{getD, length, drop};
 ghost use Rattle.model.specs.Lists.{all};
 ghost use Rattle.session.specs.Script.{room};
 ghost use Rattle.listing.specs.Written.{Writes};
@@ -47,18 +47,21 @@ fn silent(state: State, next: Next) -> Turn
     }
 }
 
-// The line of the command b of a listing, with the bytes t after it.
-fn line(axes: usize, c: Cursor, b: u8, t: &[u8], out: &mut [u8]) -> usize
-    requires { ⌜ Shows axes c b (now t) (now out) ⌝ }
-    ensures { λ r. ⌜ Writes 512 (lineOf axes c b (now (t .entry))) (now (out .entry)) 0 r (now (out .exit)) ⌝ }
+// The line of the command of a listing at the cursor's place in s.
+fn line(axes: usize, c: Cursor, s: &[u8], out: &mut [u8]) -> usize
+    requires { ⌜ Shows axes c (now s) (now out) ⌝ }
+    ensures { λ r. ⌜ Writes 512 (lineOf axes c (getD (now (s .entry)) (c .place) 0) (drop (c .place + 1) (now (s .entry)))) (now (out .entry)) 0 r (now (out .exit)) ⌝ }
 {
     let basics = c.basics;
     let divisions = c.divisions;
-    if b == 0x11 {
+    let at = c.place;
+    let b = codec::code(s, at);
+    if codec::is_opening(b) {
         return counted_line(out, b"basic", (basics + 1) as u64);
     }
-    if b == 0x12 {
-        return division_line(out, axes, t);
+    let t = codec::body(s, at);
+    if codec::is_division(b) {
+        return division_line(out, axes, codec::head(s, at), t);
     }
     constraint_line(out, axes, divisions, b, t)
 }
@@ -72,7 +75,7 @@ fn past(c: Cursor, b: u8) -> Cursor
     let place = c.place + codec::width(b);
     let basics = c.basics;
     let divisions = c.divisions;
-    if b == 0x11 {
+    if codec::is_opening(b) {
         return Cursor {
             set,
             place,
@@ -80,7 +83,7 @@ fn past(c: Cursor, b: u8) -> Cursor
             divisions: 0,
         };
     }
-    if b == 0x12 {
+    if codec::is_division(b) {
         return Cursor {
             set,
             place,
@@ -125,7 +128,7 @@ fn listing_turn(axes: usize, c: Cursor, tables: &[u8], lengths: &[usize], out: &
     if s.len() - place < w {
         return over(axes);
     }
-    let text = line(axes, c, b, codec::tail(s, place + 1), out);
+    let text = line(axes, c, s, out);
     let state = State {
         axes,
         listing: Listing::From(past(c, b)),

@@ -6,12 +6,12 @@ use Prim.Native.Nat.{ℕ, suc, _+_, _-_, _≤_, _<_}
 use native.Mathlib.Numerals.{add-one}
 use native.Mathlib.Omega.{arith}
 use borrow.Author.Tests.{eqb-true, eqb-false}
-use lib.Dec.{eqb, ltb→lt}
+use lib.Dec.{ltb→lt}
 use lib.IntN.{pos}
 use lib.ListN.{length, getD, drop}
 use Rattle.model.specs.Lists.{concatMap}
 use Rattle.model.specs.Sets.{Division, Constraint}
-use Rattle.codec.specs.Bytes.{decode, Command, opens, division, constraint, Counts, testsOf, refusal, counted, widthOf, readCommand, readDivision, readConstraint, kindOf, Built, number, axesFit}
+use Rattle.codec.specs.Bytes.{decode, Command, opens, division, constraint, Counts, testsOf, refusal, counted, isOpening, isDivision, headOf, bodyIn, widthOf, readCommand, readDivision, readConstraint, kindOf, Built, number, axesFit}
 use Rattle.codec.specs.Places.{built, setFrom, Checked}
 use Rattle.codec.proofs.Parsing.{all-passed, few-next, start, decode-bad, decode-good, read-opens, read-division, read-constraint}
 use Rattle.codec.proofs.Walking.{added, Head, head, built-end, ordered}
@@ -19,7 +19,7 @@ use Rattle.codec.proofs.Boundaries.{boundary-start}
 use Rattle.listing.specs.Text.{line, divisionLine, constraintLine, basicsFrom, listing}
 use Rattle.session.specs.Turns.{lineOf, past, headerLine, startOf}
 use Rattle.session.specs.declared.Cursor.{Cursor}
-use Rattle.session.proofs.Turning.{line-division, line-constraint}
+use Rattle.session.proofs.Turning.{line-opening, line-division, line-constraint}
 
 -- the lines that are left: of the basic set that is open, then of those behind it
 abbrev pub linesLeft : ℕ → Cursor → Built → List ℕ
@@ -59,12 +59,11 @@ module _ (n : ℕ) (s : List ℕ) (c : Cursor) (d : Stands n s c) (l : c .place 
 
   pub listing-next : Next
   unfolding b t h rest
-  listing-next = by (eqb b 0x11) refl (eqb b 0x12) refl
+  listing-next = by (isOpening b) refl (isDivision b) refl
     where
-      by : (x : Bool) → eqb b 0x11 ≡ x → (y : Bool) → eqb b 0x12 ≡ y → Next
+      by : (x : Bool) → isOpening b ≡ x → (y : Bool) → isDivision b ≡ y → Next
       by true e y f =
-          let i = eqb-true b 0x11 e in
-          let r = read-opens b t i in
+          let r = read-opens b t (eqb-true b _ e) in
           let q : built (drop (c .place) s) ≡ added opens rest = h .builds ∙ ap (λ (z : Command). added z rest) r in
           let u : past c b ≡ record { set = c .set; place = c .place + widthOf b; basics = c .basics + 1; divisions = 0 } = ap₂ (λ (x y : Bool). record { set = c .set; place = c .place + widthOf b; basics = cond x (c .basics + 1) (c .basics); divisions = cond x 0 (cond y (c .divisions + 1) (c .divisions)) }) e f in
           record {
@@ -74,7 +73,7 @@ module _ (n : ℕ) (s : List ℕ) (c : Cursor) (d : Stands n s c) (l : c .place 
                 ∙ append-assoc (line "basic" (pos (c .basics + 1) ∷ [])) (concatMap (divisionLine n) (rest .divisions) ++ concatMap (constraintLine n (length (rest .divisions))) (rest .constraints)) (basicsFrom n (suc (c .basics + 1)) (rest .rest))
                 ∙ ap (λ (z : List ℕ). line "basic" (pos (c .basics + 1) ∷ []) ++ z) (append-assoc (concatMap (divisionLine n) (rest .divisions)) (concatMap (constraintLine n (length (rest .divisions))) (rest .constraints)) (basicsFrom n (suc (c .basics + 1)) (rest .rest)))
                 ∙ ap (λ (z : ℕ). line "basic" (pos (c .basics + 1) ∷ []) ++ (concatMap (divisionLine n) (rest .divisions) ++ (concatMap (constraintLine n z) (rest .constraints) ++ basicsFrom n (suc (c .basics + 1)) (rest .rest)))) (let o : length (rest .divisions) ≡ 0 + length (rest .divisions) = omega arith in o)
-                ∙ ap₂ (λ (x : ℕ) (z : Cursor). lineOf n c x t ++ linesLeft n z rest) (sym i) (sym u);
+                ∙ ap₂ (λ (x : List ℕ) (z : Cursor). x ++ linesLeft n z rest) (line-opening n c b t e) (sym u);
             stands =
                 record {
                   k = counted (d .k) (readCommand b t);
@@ -86,17 +85,16 @@ module _ (n : ℕ) (s : List ℕ) (c : Cursor) (d : Stands n s c) (l : c .place 
                 };
           }
       by false e true f =
-          let i = eqb-true b 0x12 f in
-          let r = read-division b t i in
-          let q : built (drop (c .place) s) ≡ added (division (readDivision t)) rest = h .builds ∙ ap (λ (z : Command). added z rest) r in
+          let r = read-division b t f in
+          let q : built (drop (c .place) s) ≡ added (division (readDivision (headOf b t) (bodyIn b t))) rest = h .builds ∙ ap (λ (z : Command). added z rest) r in
           let u : past c b ≡ record { set = c .set; place = c .place + widthOf b; basics = c .basics; divisions = c .divisions + 1 } = ap₂ (λ (x y : Bool). record { set = c .set; place = c .place + widthOf b; basics = cond x (c .basics + 1) (c .basics); divisions = cond x 0 (cond y (c .divisions + 1) (c .divisions)) }) e f in
           let o : c .divisions + suc (length (rest .divisions)) ≡ c .divisions + 1 + length (rest .divisions) = omega arith in
           record {
             text =
                 ap (linesLeft n c) q
-                ∙ append-assoc (divisionLine n (readDivision t)) (concatMap (divisionLine n) (rest .divisions)) (concatMap (constraintLine n (c .divisions + suc (length (rest .divisions)))) (rest .constraints) ++ basicsFrom n (suc (c .basics)) (rest .rest))
-                ∙ ap (λ (z : ℕ). divisionLine n (readDivision t) ++ (concatMap (divisionLine n) (rest .divisions) ++ (concatMap (constraintLine n z) (rest .constraints) ++ basicsFrom n (suc (c .basics)) (rest .rest)))) o
-                ∙ ap₂ (λ (x : List ℕ) (z : Cursor). x ++ linesLeft n z rest) (line-division n c b t i) (sym u);
+                ∙ append-assoc (divisionLine n (readDivision (headOf b t) (bodyIn b t))) (concatMap (divisionLine n) (rest .divisions)) (concatMap (constraintLine n (c .divisions + suc (length (rest .divisions)))) (rest .constraints) ++ basicsFrom n (suc (c .basics)) (rest .rest))
+                ∙ ap (λ (z : ℕ). divisionLine n (readDivision (headOf b t) (bodyIn b t)) ++ (concatMap (divisionLine n) (rest .divisions) ++ (concatMap (constraintLine n z) (rest .constraints) ++ basicsFrom n (suc (c .basics)) (rest .rest)))) o
+                ∙ ap₂ (λ (x : List ℕ) (z : Cursor). x ++ linesLeft n z rest) (line-division n c b t e f) (sym u);
             stands =
                 record {
                   k = counted (d .k) (readCommand b t);
@@ -108,9 +106,8 @@ module _ (n : ℕ) (s : List ℕ) (c : Cursor) (d : Stands n s c) (l : c .place 
                 };
           }
       by false e false f =
-          let i = eqb-false b 0x11 e in let j = eqb-false b 0x12 f in
-          let r = read-constraint b t i j in
-          let x : Constraint = readConstraint (kindOf b) t in
+          let r = read-constraint b t (eqb-false b _ e) f in
+          let x : Constraint = readConstraint (kindOf b) (bodyIn b t) in
           let q : built (drop (c .place) s) ≡ added (constraint x) rest = h .builds ∙ ap (λ (z : Command). added z rest) r in
           let u : past c b ≡ record { set = c .set; place = c .place + widthOf b; basics = c .basics; divisions = c .divisions } = ap₂ (λ (x y : Bool). record { set = c .set; place = c .place + widthOf b; basics = cond x (c .basics + 1) (c .basics); divisions = cond x 0 (cond y (c .divisions + 1) (c .divisions)) }) e f in
           let p : 0 < counted (d .k) (readCommand b t) .constraints = omega (arith, ap (λ (z : Command). counted (d .k) z .constraints) r) in
@@ -123,7 +120,7 @@ module _ (n : ℕ) (s : List ℕ) (c : Cursor) (d : Stands n s c) (l : c .place 
                 ∙ append-assoc (constraintLine n (c .divisions + 0) x) (concatMap (constraintLine n (c .divisions + 0)) (rest .constraints)) (basicsFrom n (suc (c .basics)) (rest .rest))
                 ∙ ap (λ (z : ℕ). constraintLine n z x ++ (concatMap (constraintLine n (c .divisions + 0)) (rest .constraints) ++ basicsFrom n (suc (c .basics)) (rest .rest))) o
                 ∙ ap (λ (z : List Division). constraintLine n (c .divisions) x ++ (concatMap (divisionLine n) z ++ (concatMap (constraintLine n (c .divisions + length z)) (rest .constraints) ++ basicsFrom n (suc (c .basics)) (rest .rest)))) (sym none)
-                ∙ ap₂ (λ (x : List ℕ) (z : Cursor). x ++ linesLeft n z rest) (line-constraint n c b t i j) (sym u);
+                ∙ ap₂ (λ (x : List ℕ) (z : Cursor). x ++ linesLeft n z rest) (line-constraint n c b t e f) (sym u);
             stands =
                 record {
                   k = counted (d .k) (readCommand b t);

@@ -5,13 +5,13 @@ use mathlib.Core.List.{List, [], _∷_, _++_}
 use Prim.Native.Nat.{ℕ, zero, suc, _+_, _-_, _≤_, _<_}
 use native.Mathlib.Numerals.{add-one}
 use native.Mathlib.Omega.{arith}
-use borrow.Author.Tests.{lt-ltb, le-ltb, le-leb, lt-leb, eqb-true, leb-true, leb-false, ne-eqb}
+use borrow.Author.Tests.{lt-ltb, le-ltb, le-leb, lt-leb, eqb-true, leb-true, leb-false}
 use lib.Dec.{ltb, leb, eqb}
 use lib.IntN.{pos}
 use lib.ListN.{length, getD, take, drop, length-take, length-drop, drop-of-length-le}
 use lib.Seq.{drop-cons}
 use Rattle.model.specs.Lists.{all}
-use Rattle.codec.specs.Bytes.{widthOf, readDivision, readConstraint, kindOf, firstFailing}
+use Rattle.codec.specs.Bytes.{isOpening, isDivision, headOf, bodyIn, widthOf, readDivision, readConstraint, kindOf, firstFailing}
 use Rattle.listing.specs.Text as T
 use Rattle.session.specs.Script.{room, isBinary, fixedWidth, loadLength, commandWidth, inPlace, ending, execute}
 use Rattle.session.specs.Turns.{Memory, Turned, quiet, stateAt, stateOf, tableAt, goesOn, lineOf, past, there, lineTurn, frontOf, frontTurn, turnIn, turnOf, cursorFits, usable, Fitted}
@@ -28,15 +28,21 @@ use Rattle.session.proofs.Commands.{no}
 -- ---- the lines of a listing
 
 module _ (n : ℕ) (c : Cursor) (b : ℕ) (t : List ℕ) where
-  pub line-basic : b ≡ 0x11 → T.codes "basic" ++ (T.number (pos (c .basics + 1)) ++ (10 ∷ [])) ≡ lineOf n c b t
-  line-basic e = one-number (T.codes "basic") (c .basics + 1) ∙ sym (ap (λ (x : ℕ). lineOf n c x t) e)
+  -- by the tests of its first byte
+  abbrev lines : Bool → Bool → List ℕ
+  lines x y = cond x (T.line "basic" (pos (c .basics + 1) ∷ [])) (cond y (T.divisionLine n (readDivision (headOf b t) (bodyIn b t))) (T.constraintLine n (c .divisions) (readConstraint (kindOf b) (bodyIn b t))))
 
-  pub line-division : b ≡ 0x12 → T.divisionLine n (readDivision t) ≡ lineOf n c b t
-  line-division e = sym (ap (λ (x : ℕ). lineOf n c x t) e)
+  pub line-opening : isOpening b ≡ true → T.line "basic" (pos (c .basics + 1) ∷ []) ≡ lineOf n c b t
+  line-opening e = sym (ap (λ (x : Bool). lines x (isDivision b)) e)
 
-  pub line-constraint : ¬ (b ≡ 0x11) → ¬ (b ≡ 0x12) → T.constraintLine n (c .divisions) (readConstraint (kindOf b) t) ≡ lineOf n c b t
-  line-constraint p q =
-      sym (ap₂ (λ (x y : Bool). cond x (T.line "basic" (pos (c .basics + 1) ∷ [])) (cond y (T.divisionLine n (readDivision t)) (T.constraintLine n (c .divisions) (readConstraint (kindOf b) t)))) (ne-eqb b 0x11 p) (ne-eqb b 0x12 q))
+  pub line-basic : isOpening b ≡ true → T.codes "basic" ++ (T.number (pos (c .basics + 1)) ++ (10 ∷ [])) ≡ lineOf n c b t
+  line-basic e = one-number (T.codes "basic") (c .basics + 1) ∙ line-opening e
+
+  pub line-division : isOpening b ≡ false → isDivision b ≡ true → T.divisionLine n (readDivision (headOf b t) (bodyIn b t)) ≡ lineOf n c b t
+  line-division p q = sym (ap₂ lines p q)
+
+  pub line-constraint : isOpening b ≡ false → isDivision b ≡ false → T.constraintLine n (c .divisions) (readConstraint (kindOf b) (bodyIn b t)) ≡ lineOf n c b t
+  line-constraint p q = sym (ap₂ lines p q)
 
 module _ (n : ℕ) (y : Memory) (c : Cursor) (s : List ℕ) (p : ℕ) where
   pub over-end : length s ≤ p → lineTurn n y c (drop p s) ≡ quiet (stateAt n Nothing) y Goes

@@ -9,7 +9,7 @@ use lib.Dec.{leb, ltb, eqb}
 use lib.ListN.{length, take, drop, getD, set}
 use Rattle.model.specs.Lists.{all}
 use Rattle.model.specs.Sets.{Set}
-use Rattle.codec.specs.Bytes.{Answer, refused, gives, decode, widthOf, readDivision, readConstraint, kindOf}
+use Rattle.codec.specs.Bytes.{Answer, refused, gives, decode, isOpening, isDivision, headOf, bodyIn, widthOf, readDivision, readConstraint, kindOf}
 use Rattle.algebra.specs.Operations.{unionBytes, intersectionBytes, differenceBytes, complementBytes}
 use Rattle.algebra.specs.Result.{tableOf}
 use Rattle.listing.specs.Text.{codes, number, line, divisionLine, constraintLine}
@@ -113,8 +113,8 @@ startOf m = record { set = m; place = 0; basics = 0; divisions = 0 }
 -- the line of the command b with the bytes t after it, at a cursor
 abbrev pub lineOf : ℕ → Cursor → ℕ → List ℕ → List ℕ
 lineOf n c b t =
-    cond (eqb b 0x11) (line "basic" (pos (c .basics + 1) ∷ []))
-    (cond (eqb b 0x12) (divisionLine n (readDivision t)) (constraintLine n (c .divisions) (readConstraint (kindOf b) t)))
+    cond (isOpening b) (line "basic" (pos (c .basics + 1) ∷ []))
+    (cond (isDivision b) (divisionLine n (readDivision (headOf b t) (bodyIn b t))) (constraintLine n (c .divisions) (readConstraint (kindOf b) (bodyIn b t))))
 
 -- the cursor after it
 abbrev pub past : Cursor → ℕ → Cursor
@@ -122,8 +122,8 @@ past c b =
     record {
       set = c .set;
       place = c .place + widthOf b;
-      basics = cond (eqb b 0x11) (c .basics + 1) (c .basics);
-      divisions = cond (eqb b 0x11) 0 (cond (eqb b 0x12) (c .divisions + 1) (c .divisions));
+      basics = cond (isOpening b) (c .basics + 1) (c .basics);
+      divisions = cond (isOpening b) 0 (cond (isDivision b) (c .divisions + 1) (c .divisions));
     }
 
 -- whether the command at the head is known and all there

@@ -1,7 +1,7 @@
 -- A loop over the basic sets of checked bytes, each of which gives basic sets of the result.
-use mathlib.Core.Path.{_≡_, refl, sym, _∙_, subst}
+use mathlib.Core.Path.{_≡_, refl, sym, ap, _∙_, subst}
 use mathlib.Core.Bool.{Bool, true, false}
-use mathlib.Core.List.{List}
+use mathlib.Core.List.{List, _∷_}
 use Prim.Native.Nat.{ℕ, _+_, _≤_, _<_}
 use native.Mathlib.Omega.{arith}
 use lib.IntN.{ℤ}
@@ -11,7 +11,7 @@ use Rattle.model.specs.Sets.{BasicSet, Set}
 use Rattle.model.specs.Values.{basicSetOf}
 use Rattle.model.specs.declared.BasicSet.{BasicSet as Stored}
 use Rattle.codec.specs.Bytes.{decode, number}
-use Rattle.codec.specs.Places.{setFrom, Boundary, Opened, Decoded, after}
+use Rattle.codec.specs.Places.{setFrom, Boundary, Opened, Decoded, endOf}
 use Rattle.codec.proofs.Boundaries.{Turn, turn, boundary-start, boundary-end, boundary-opened}
 use Rattle.codec.proofs.Decoded.{Bytes}
 use Rattle.codec.proofs.Valid.{All, Valid, boundary-valid}
@@ -49,9 +49,6 @@ module _ {K : ℕ → Type 0} {f : BasicSet → Set} {g : BasicSet → Bool} {a 
         along-turn : Turn (x .n) a pos v
         along-turn = turn (x .n) a pos (x .here) h v d
 
-        pub along-inside : after (pos + 1) v ≤ length a
-        along-inside = along-turn .there .here .inside
-
         pub along-valid : Bytes a → Valid (x .n) (basicSetOf v)
         along-valid y = subst (All (Valid (x .n))) (along-turn .set) (boundary-valid (x .n) a pos y (x .here)) .0
 
@@ -59,9 +56,11 @@ module _ {K : ℕ → Type 0} {f : BasicSet → Set} {g : BasicSet → Bool} {a 
           pub along-stop : r .fits ≡ false → Emits (concatMap f (setFrom a 0)) (all g (setFrom a 0)) o s r o″
           along-stop q = onward-stop (along-turn .set) (x .onward) e q
 
-          pub along-next : {rows′ : List (List ℤ)} {place′ kinds′ : List ℕ} → length o″ ≡ length o′ → length rows′ ≡ length rows → length place′ ≡ length place → length kinds′ ≡ length kinds → r .fits ≡ true
-              → Along K f g a o s rows′ place′ kinds′ o″ r (after (pos + 1) v)
-          along-next l i j k q = record { n = x .n; known = x .known; here = along-turn .there; tables = tables-kept (x .tables) i j k; same = l ∙ x .same; onward = onward-next (along-turn .set) (x .onward) e q }
+          pub along-next : (next : ℕ) → next ≡ endOf a (pos + 1) → {rows′ : List (List ℤ)} {place′ kinds′ : List ℕ} → length o″ ≡ length o′ → length rows′ ≡ length rows → length place′ ≡ length place → length kinds′ ≡ length kinds → r .fits ≡ true
+              → Along K f g a o s rows′ place′ kinds′ o″ r next
+          along-next next z l i j k q =
+              let set = along-turn .set ∙ ap (λ (m : ℕ). basicSetOf v ∷ setFrom a m) (sym z) in
+              record { n = x .n; known = x .known; here = subst (Boundary (x .n) a) (sym z) (along-turn .there); tables = tables-kept (x .tables) i j k; same = l ∙ x .same; onward = onward-next set (x .onward) e q }
 
 -- ---- each with all of b
 

@@ -14,7 +14,7 @@ use Rattle.model.specs.Sets.{BasicSet, Set}
 use Rattle.model.specs.Values.{basicSetOf}
 use Rattle.model.specs.declared.BasicSet.{BasicSet as Stored}
 use Rattle.model.proofs.Count.{to-T}
-use Rattle.codec.specs.Places.{setFrom, Opened, Decoded, after}
+use Rattle.codec.specs.Places.{setFrom, Boundary, Opened, Decoded, endOf}
 use Rattle.codec.proofs.Boundaries.{Turn, turn, boundary-end, boundary-opened}
 use Rattle.codec.proofs.Valid.{All, Valid}
 use Rattle.algebra.specs.Cut.{keeps, cut, cutFits, cutAll, cutAllFits}
@@ -90,7 +90,7 @@ module _ {left : ℕ} {p : Stored} {b : List ℕ} {pos : ℕ} (level : Level lef
       pub level-turn : Turn (level .n) b pos v
       level-turn = turn (level .n) b pos (level .here) level-inside v d
 
-      pub level-cutters : All (Valid (level .n)) (basicSetOf v ∷ setFrom b (after (pos + 1) v))
+      pub level-cutters : All (Valid (level .n)) (basicSetOf v ∷ setFrom b (endOf b (pos + 1)))
       level-cutters = subst (All (Valid (level .n))) (level-turn .set) (level .cutters)
 
       pub level-pair : Pair p v
@@ -102,13 +102,14 @@ module _ {left : ℕ} {p : Stored} {b : List ℕ} {pos : ℕ} (level : Level lef
           let k = cut-is p v (t some) c i in
           emits-refused (cutAll keeps (setFrom b pos) (basicSetOf p)) (cutAllFits keeps (setFrom b pos) (basicSetOf p)) o o′ s at count
           (ap (λ (cs : Set). cutAllFits keeps cs (basicSetOf p)) (level-turn .set)
-          ∙ ap (λ (x : Bool). x && all (cutAllFits keeps (setFrom b (after (pos + 1) v))) (cut keeps (basicSetOf p) (basicSetOf v))) (sym (k .fits) ∙ f))
+          ∙ ap (λ (x : Bool). x && all (cutAllFits keeps (setFrom b (endOf b (pos + 1)))) (cut keeps (basicSetOf p) (basicSetOf v))) (sym (k .fits) ∙ f))
 
 -- p, cut by the first cutter v: the steps of c are the pieces
-pub record Pieced (left : ℕ) (p : Stored) (b : List ℕ) (pos : ℕ) (v : Stored) (c : CutSteps) : Type 0 where
+pub record Pieced (left : ℕ) (p : Stored) (b : List ℕ) (pos : ℕ) (v : Stored) (next : ℕ) (c : CutSteps) : Type 0 where
   pub level : Level left p b pos
   pub some : left ≡ 0 → ⊥
   pub decoded : Decoded b (pos + 1) v
+  pub ends : next ≡ endOf b (pos + 1)
   pub cuts : TightAt left p
   pub tight : CutTightIs p v c
   pub fits : c .fits ≡ true
@@ -117,26 +118,29 @@ pub record Pieced (left : ℕ) (p : Stored) (b : List ℕ) (pos : ℕ) (v : Stor
 abbrev pub piecesOf : CutSteps → Set
 piecesOf c = map (pieceOf (basicSetOf (c .working))) (take (c .count) (c .steps))
 
-module _ {left : ℕ} {p : Stored} {b : List ℕ} {pos : ℕ} {v : Stored} {c : CutSteps} (x : Pieced left p b pos v c) where
+module _ {left : ℕ} {p : Stored} {b : List ℕ} {pos : ℕ} {v : Stored} {next : ℕ} {c : CutSteps} (x : Pieced left p b pos v next c) where
   is-cut : CutIs p v c
   is-cut = cut-is p v (x .cuts (x .some)) c (x .tight)
 
   here-turn : Turn (x .level .n) b pos v
   here-turn = level-turn (x .level) (x .some) (x .decoded)
 
-  valid : All (Valid (x .level .n)) (basicSetOf v ∷ setFrom b (after (pos + 1) v))
-  valid = level-cutters (x .level) (x .some) (x .decoded)
+  set : setFrom b pos ≡ basicSetOf v ∷ setFrom b next
+  set = here-turn .set ∙ ap (λ (m : ℕ). basicSetOf v ∷ setFrom b m) (sym (x .ends))
+
+  valid : All (Valid (x .level .n)) (basicSetOf v ∷ setFrom b next)
+  valid = subst (All (Valid (x .level .n))) set (x .level .cutters)
 
   -- the remaining cutters on each piece
   pub pieced-whole : {o o′ : List ℕ} {s r : Done}
-      → Emits (concatMap (cutAll keeps (setFrom b (after (pos + 1) v))) (piecesOf c)) (all (cutAllFits keeps (setFrom b (after (pos + 1) v))) (piecesOf c)) o s r o′
+      → Emits (concatMap (cutAll keeps (setFrom b next)) (piecesOf c)) (all (cutAllFits keeps (setFrom b next)) (piecesOf c)) o s r o′
       → Emits (cutAll keeps (setFrom b pos) (basicSetOf p)) (cutAllFits keeps (setFrom b pos) (basicSetOf p)) o s r o′
   unfolding cutAll
   pieced-whole e =
       let k = sym (is-cut .pieces (x .fits)) in
       emits-as
-      (ap (λ (cs : Set). cutAll keeps cs (basicSetOf p)) (here-turn .set) ∙ ap (concatMap (cutAll keeps (setFrom b (after (pos + 1) v)))) k)
-      (ap (λ (cs : Set). cutAllFits keeps cs (basicSetOf p)) (here-turn .set) ∙ ap₂ (λ (y : Bool) (l : Set). y && all (cutAllFits keeps (setFrom b (after (pos + 1) v))) l) (sym (is-cut .fits) ∙ x .fits) k)
+      (ap (λ (cs : Set). cutAll keeps cs (basicSetOf p)) set ∙ ap (concatMap (cutAll keeps (setFrom b next))) k)
+      (ap (λ (cs : Set). cutAllFits keeps cs (basicSetOf p)) set ∙ ap₂ (λ (y : Bool) (l : Set). y && all (cutAllFits keeps (setFrom b next)) l) (sym (is-cut .fits) ∙ x .fits) k)
       e
 
   steps-long : length (take (c .count) (c .steps)) ≡ c .count
@@ -171,16 +175,16 @@ module _ {left : ℕ} {p : Stored} {b : List ℕ} {pos : ℕ} {v : Stored} {c : 
           ∙ ap₂ (λ (y : BasicSet) (j : ℕ). y ∷ drop j (piecesOf c)) piece-at (sym (add-one i))
 
       -- the next level has one cutter less
-      pub pieced-level : Level (left - 1) q b (after (pos + 1) v)
+      pub pieced-level : Level (left - 1) q b next
       pieced-level =
           let n = x .level .n in
           let f = to-T (cutFits keeps (basicSetOf p) (basicSetOf v)) (sym (is-cut .fits) ∙ x .fits) in
           let every = subst (All (Valid n)) (sym (is-cut .pieces (x .fits))) (cut-valid keeps n (basicSetOf p) (basicSetOf v) (x .level .valid) (valid .0) f) in
           record {
             n = n;
-            here = here-turn .there;
+            here = subst (Boundary n b) (sym (x .ends)) (here-turn .there);
             cutters = valid .1;
-            many = let e = ap length (here-turn .set) in let m = x .level .many in omega arith;
+            many = let e = ap length set in let m = x .level .many in omega arith;
             valid = subst (Valid n) piece-at (All-at (Valid n) (piecesOf c) i (pieceOf (basicSetOf (c .working)) 0) inside every);
             divs = let e = is .divs in let l = is-cut .divs (x .fits) in omega arith;
             cons = is .cons;

@@ -14,7 +14,6 @@ use joining::tight_set;
 use model::BasicSet;
 use records::decode_basic;
 use results::Done;
-use results::count;
 use results::emit;
 
 // The pieces that the `left` cutters from `pos` on leave of p, which is tight where there is one.
@@ -38,7 +37,7 @@ pub fn cut_all(
         return emit(p, out, s);
     }
     let v = decode_basic(b, pos + 1);
-    let end = pos + 1 + 23 * v.divs + 37 * v.cons;
+    let end = codec::end_of(b, pos + 1);
     let c = cut(p, v, rows, place, kinds, past, spare);
     let fits = c.fits;
     if !fits {
@@ -124,7 +123,7 @@ pub fn subtract(a: &[u8], b: &[u8], out: &mut [u8]) -> Done
     requires { ⌜ Sets (now a) (now b) ⌝ }
     ensures { λ r. ⌜ Made (differenceFits keeps (setFrom (now (a .entry)) 0) (setFrom (now (b .entry)) 0)) (difference keeps (setFrom (now (a .entry)) 0) (setFrom (now (b .entry)) 0)) (now (out .entry)) r (now (out .exit)) ⌝ }
 {
-    let left = count(b);
+    let left = codec::count(b);
     let mut rows = [[0i64; 18]; 64];
     let mut place = [0usize; 80];
     let mut kinds = [0u8; 80];
@@ -154,7 +153,7 @@ pub fn subtract(a: &[u8], b: &[u8], out: &mut [u8]) -> Done
         if !on {
             return t;
         }
-        pos = pos + 1 + 23 * p.divs + 37 * p.cons;
+        pos = codec::end_of(a, pos + 1);
     }
     t
 }

@@ -11,7 +11,7 @@ use Rattle.model.specs.Sets.{Kind, equality, inequality}
 use Rattle.codec.specs.Bytes.{kindOf, readConstraint}
 use Rattle.bounds.specs.Intervals.{canMeet}
 use Rattle.bounds.specs.Ends.{best, meetSide}
-use Rattle.bounds.proofs.Reading.{kind-equality, kind-inequality}
+use Rattle.codec.proofs.Parsing.{kind-equality, kind-inequality}
 use Rattle.bounds.proofs.Extremes.{back-within}
 use Rattle.bounds.proofs.Moves.{gain-back}
 use Rattle.bounds.proofs.Bounds.{ends-back, ends-mono, meet-never, meet-equality, negative, positive}
@@ -46,27 +46,30 @@ returns c =
 above : (c : tie.Else1) → nonNeg (c .before .extreme .result) ≡ true
 above c = let y = c .before in positive {z = y .extreme .result} (is-ge (b-of (record { sfits = y .extreme .ok })) (b-lit w64 0 refl) (c .if1 .left))
 
+is-equality-requires : tie.Need-is-equality-requires
+is-equality-requires c κs = search needs
+
 end-at-requires-2 : tie.Need-end-at-requires-2
 end-at-requires-2 c κs = search needs
 
 extreme-requires-2 : tie.Need-extreme-requires-2
 extreme-requires-2 c κs =
-    let st = c .before .before .before .before .before .before in (st .pre .0, ends-mono (omega arith) (st .pre .4), back-within (omega arith) (within-mono (omega arith) (c .end-at2 .ensures .1)))
+    let st = c .before .before .before .before .before .before .before in (st .pre .0, ends-mono (omega arith) (st .pre .4), back-within (omega arith) (within-mono (omega arith) (c .end-at2 .ensures .1)))
 
 returns-2 : tie.Need-returns-2
 returns-2 c =
-    let x = c .before in let e2 = x .before in let e1 = e2 .before in let y = e1 .before in let st = y .before .before .before in let a = st .args in
+    let x = c .before in let e2 = x .before in let q = e2 .before in let e1 = q .before in let y = e1 .before in let st = y .before .before .before in let a = st .args in
     let r = readConstraint equality (a .t .now) in
     let l = result-is w64 (c .extreme2 .result) (c .extreme2 .ok) ∙ c .extreme2 .ensures .0
     ∙ ap (λ (z : ℤ). z +ℤ best (r .divisions) (a .ql .now) (a .qh .now)) (result-is w64 (x .end-at2 .result) (x .end-at2 .ok) ∙ x .end-at2 .ensures .0 ∙ ap (λ (z : ℤ). r .constant +ℤ z) (gain-back (a .k) (r .axes) (st .fits .l) (st .fits .from) (st .fits .to))) in
     ap (λ (z : ℤ). leZ z (pos 0)) l ∙ meet-equality (lowOf equality st) (highOf equality st) (ap nonNeg (sym (greatest y equality)) ∙ above e1)
-    ∙ ap (λ (d : Kind). canMeet d (meetSide (a .k) (a .from) (a .to) (a .l) (a .h) (a .ql .now) (a .qh .now) (readConstraint d (a .t .now)))) (sym (kind-equality (a .b) (e2 .if2 .taken)))
+    ∙ ap (λ (d : Kind). canMeet d (meetSide (a .k) (a .from) (a .to) (a .l) (a .h) (a .ql .now) (a .qh .now) (readConstraint d (a .t .now)))) (sym (kind-equality (a .b) (sym (q .is-equality .ensures) ∙ e2 .if2 .taken)))
 
 returns-3 : tie.Need-returns-3
 returns-3 c =
-    let e1 = c .before in let y = e1 .before in let st = y .before .before .before in let a = st .args in
+    let q = c .before in let e1 = q .before in let y = e1 .before in let st = y .before .before .before in let a = st .args in
     sym (ap nonNeg (sym (greatest y inequality)) ∙ above e1)
-    ∙ ap (λ (d : Kind). canMeet d (meetSide (a .k) (a .from) (a .to) (a .l) (a .h) (a .ql .now) (a .qh .now) (readConstraint d (a .t .now)))) (sym (kind-inequality (a .b) (c .if2 .left)))
+    ∙ ap (λ (d : Kind). canMeet d (meetSide (a .k) (a .from) (a .to) (a .l) (a .h) (a .ql .now) (a .qh .now) (readConstraint d (a .t .now)))) (sym (kind-inequality (a .b) (sym (q .is-equality .ensures) ∙ c .if2 .left)))
 
 pub can-meet-spec : {M : Type 1} → statement M
-can-meet-spec = tie.close (tie.spec end-at-requires extreme-requires returns end-at-requires-2 extreme-requires-2 returns-2 returns-3)
+can-meet-spec = tie.close (tie.spec end-at-requires extreme-requires returns is-equality-requires end-at-requires-2 extreme-requires-2 returns-2 returns-3)

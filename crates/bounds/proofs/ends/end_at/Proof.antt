@@ -6,16 +6,12 @@ use mir.Val.{toZ, ofZ}
 use Rattle.integers.specs.Z.{Within}
 use Rattle.integers.specs.Mach.{toZ-ofZ, result-is}
 use Rattle.integers.specs.Size.{within-fits}
-use lib.ListN.{drop}
-use Rattle.codec.specs.Bytes.{signedList}
+use Rattle.codec.specs.Bytes.{axesIn}
 use Rattle.bounds.proofs.Extremes.{end-within}
 use Rattle.bounds.proofs.Moves.{gain-back}
 use borrow.Author.Needs.{needs}
 use Rattle.bounds.proofs.ends.end_at.Statement.{statement}
 use Rattle.bounds.proofs.ends.end_at.Tie as tie
-
-sub-s32-at : tie.Need-sub-s32-at
-sub-s32-at c = search needs
 
 s32-at-requires : tie.Need-s32-at-requires
 s32-at-requires c κs = search needs
@@ -33,7 +29,7 @@ returns : tie.Need-returns
 returns c =
     let st = c .before .before .before in
     let e = toZ-ofZ (add-result c) ∙ sum-is c in
-    (e ∙ ap₂ _+ℤ_ (c .before .s32-at .ensures .0) (c .moved .ensures .0 ∙ gain-back (st .args .k) (signedList 8 (drop (st .args .p) (st .args .t .now))) (st .fits .z) (st .fits .from) (st .fits .to)), subst (Within 549755813888) (sym e) (end-within (c .before .s32-at .ensures .1) (c .moved .ensures .1)))
+    (e ∙ ap₂ _+ℤ_ (c .before .s32-at .ensures .0) (c .moved .ensures .0 ∙ gain-back (st .args .k) (axesIn (st .args .t .now)) (st .fits .z) (st .fits .from) (st .fits .to)), subst (Within 549755813888) (sym e) (end-within (c .before .s32-at .ensures .1) (c .moved .ensures .1)))
 
 pub end-at-spec : {M : Type 1} → statement M
-end-at-spec = tie.close (tie.spec sub-s32-at s32-at-requires moved-requires add-result returns)
+end-at-spec = tie.close (tie.spec s32-at-requires moved-requires add-result returns)

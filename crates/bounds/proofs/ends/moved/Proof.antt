@@ -8,6 +8,7 @@ use mir.Val.{toZ, ofZ}
 use Rattle.integers.specs.Z.{Within}
 use Rattle.integers.specs.Mach.{toZ-ofZ, result-is}
 use Rattle.integers.specs.Size.{within-mono, within-fits}
+use Rattle.codec.specs.Bytes.{axesPlace}
 use Rattle.bounds.proofs.Extremes.{back-within, step-fits, axis-at}
 use borrow.Author.Needs.{needs}
 use Rattle.bounds.proofs.ends.moved.Statement.{statement}
@@ -45,7 +46,7 @@ returns : tie.Need-returns
 returns c =
     let st = c .before .before .before in let p = st .pre .1 in
     let e = toZ-ofZ (add-result c) ∙ sum-is c in
-    (e ∙ ap (λ (y : ℤ). st .args .z +ℤ y *ℤ cond (nonNeg y) (st .args .from) (st .args .to)) (c .before .s16-at .ensures .0 ∙ sym (axis-at (st .args .t .now) (st .args .p) (st .args .k) (p .axis))), subst (Within 343597383680) (sym e) (sum-size c))
+    (e ∙ ap (λ (y : ℤ). st .args .z +ℤ y *ℤ cond (nonNeg y) (st .args .from) (st .args .to)) (c .before .s16-at .ensures .0 ∙ sym (axis-at (st .args .t .now) axesPlace (st .args .k) (p .axis))), subst (Within 343597383680) (sym e) (sum-size c))
 
 pub moved-spec : {M : Type 1} → statement M
 moved-spec = tie.close (tie.spec mul-s16-at add-s16-at s16-at-requires term-requires add-result returns)

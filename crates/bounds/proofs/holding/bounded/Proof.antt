@@ -1,22 +1,24 @@
 use mathlib.Core.Path.{_≡_, sym, ap, ap₂, _∙_, subst}
+use mathlib.Core.Bool.{true}
 use mathlib.Core.List.{List}
 use native.Mathlib.Omega.{arith}
 use borrow.Author.Needs.{needs}
 use Prim.Native.Nat.{ℕ, _+_, _-_, _≤_, _<_}
 use lib.IntN.{ℤ, pos, _+ℤ_, _-ℤ_}
-use lib.ListN.{length, drop, getD}
+use lib.ListN.{length, getD, set}
 use mir.Syntax.{w64}
 use mir.Val.{toZ, ofZ}
 use Rattle.integers.specs.Z.{Within}
 use Rattle.integers.specs.Mach.{toZ-ofZ, result-is}
 use Rattle.integers.specs.Size.{within-fits}
 use Rattle.model.specs.Sets.{floorDiv}
-use Rattle.codec.specs.Bytes.{readDivision}
+use Rattle.codec.specs.Bytes.{isDivision, constantIn, axesIn, divisionBody}
+use Rattle.codec.specs.Places.{divisionAt}
+use Rattle.codec.proofs.Standing.{DivisionAt}
 use Rattle.bounds.specs.Intervals.{boxOf}
 use Rattle.bounds.specs.Ends.{side, gain}
 use Rattle.bounds.specs.Rows.{startOf, Loose}
 use Rattle.bounds.proofs.Extremes.{back-within}
-use Rattle.bounds.proofs.Standing.{DivisionAt}
 use Rattle.bounds.proofs.Sides.{row-loose}
 use Rattle.bounds.proofs.Bounds.{settled-quotient, Bounding, bounding-start, bounding-at, bounding-form, bounding-next, bounding-end}
 use Rattle.bounds.proofs.holding.bounded.Statement.{statement}
@@ -76,8 +78,8 @@ module _ (t : tie.Then1 Inv-loop μ-loop) where
   high-size : Within 2097152 G
   high-size = back-within (omega arith) (m .before .before .gap2 .ensures .1)
 
-  code : getD (st .args .s .now) (m .loop .at) 0 ≡ 18
-  code = sym (t .before .code .ensures) ∙ t .if1 .taken
+  code : isDivision (getD (st .args .s .now) (m .loop .at) 0) ≡ true
+  code = sym (t .before .division-at .ensures) ∙ t .if1 .taken
 
   here : DivisionAt (m .loop .inv .n) (st .args .s .now) (m .loop .at) (m .loop .inv .k)
   here = bounding-at (st .args .s .now) (startOf (st .args .r .now)) (boxOf (st .args .low .now) (st .args .high .now)) (m .loop .at) (m .loop .d) (m .loop .ql) (m .loop .qh) (m .loop .inv) code
@@ -94,88 +96,97 @@ module _ (t : tie.Then1 Inv-loop μ-loop) where
   greatest : Within 274877906944 (getD (st .args .r .now) (64 + m .loop .d) (pos 0))
   greatest = let a = few in loose .greatest (m .loop .d) (omega arith)
 
-code-requires : tie.Need-code-requires Inv-loop μ-loop
-code-requires c κs = search needs
+division-at-requires : tie.Need-division-at-requires Inv-loop μ-loop
+division-at-requires c κs = search needs
 
-add-tail : tie.Need-add-tail Inv-loop μ-loop
-add-tail c = let r = here c .room in omega arith
+head-requires : tie.Need-head-requires Inv-loop μ-loop
+head-requires c κs = here c .whole
 
-tail-requires : tie.Need-tail-requires Inv-loop μ-loop
-tail-requires c κs = let r = here c .room in omega arith
+body-requires : tie.Need-body-requires Inv-loop μ-loop
+body-requires c κs = here (c .before) .whole
+
+-- the divisor and the body, as the calls give them
+divisor-in : (x : tie.After-body Inv-loop μ-loop) → let d = x .before .head .result in (divisionBody ≤ length (x .body .result .now)) × (0 < d) × (d < 4294967296)
+divisor-in x =
+    let h = x .before in let v = here (h .before) in
+    (subst (λ (u : List ℕ). divisionBody ≤ length u) (sym (x .body .ensures)) (v .body), subst (λ (d : ℕ). 0 < d) (sym (h .head .ensures .0)) (v .divisor), h .head .ensures .1)
 
 mul-quotient-end : tie.Need-mul-quotient-end Inv-loop μ-loop
-mul-quotient-end c = let f = few (c .before) in omega arith
+mul-quotient-end c = let f = few (c .before .before) in omega arith
 
 element-copy-out-quotient-end : tie.Need-element-copy-out-quotient-end Inv-loop μ-loop
-element-copy-out-quotient-end c = let f = few (c .before) in omega arith
+element-copy-out-quotient-end c = let f = few (c .before .before) in omega arith
 
 quotient-end-requires : tie.Need-quotient-end-requires Inv-loop μ-loop
 quotient-end-requires c κs =
-    let x = c .before in let t = x .before in let e = sym (x .tail .ensures) in (
-      subst (λ (u : List ℕ). 22 ≤ length u) e (here t .after),
-      subst (λ (u : List ℕ). 0 < readDivision u .divisor) e (here t .divisor),
+    let x = c .before in let t = x .before .before in let d = divisor-in x in (
+      d .0,
+      d .1,
+      d .2,
       record { axis = axis (st t); from-size = low-size t; to-size = high-size t },
       back-within (omega arith) (least t),
     )
 
 add-quotient-end : tie.Need-add-quotient-end Inv-loop μ-loop
-add-quotient-end c = let f = few (c .before .before .before) in omega arith
+add-quotient-end c = let f = few (c .before .before .before .before) in omega arith
 
 mul-quotient-end-2 : tie.Need-mul-quotient-end-2 Inv-loop μ-loop
-mul-quotient-end-2 c = let f = few (c .before .before .before) in omega arith
+mul-quotient-end-2 c = let f = few (c .before .before .before .before) in omega arith
 
 element-copy-out-quotient-end-2 : tie.Need-element-copy-out-quotient-end-2 Inv-loop μ-loop
-element-copy-out-quotient-end-2 c = let f = few (c .before .before .before) in omega arith
+element-copy-out-quotient-end-2 c = let f = few (c .before .before .before .before) in omega arith
 
 quotient-end-requires-2 : tie.Need-quotient-end-requires-2 Inv-loop μ-loop
 quotient-end-requires-2 c κs =
-    let x = c .before .before .before in let t = x .before in let e = sym (x .tail .ensures) in (
-      subst (λ (u : List ℕ). 22 ≤ length u) e (here t .after),
-      subst (λ (u : List ℕ). 0 < readDivision u .divisor) e (here t .divisor),
+    let x = c .before .before .before in let t = x .before .before in let d = divisor-in x in (
+      d .0,
+      d .1,
+      d .2,
       record { axis = axis (st t); from-size = high-size t; to-size = low-size t },
       back-within (omega arith) (greatest t),
     )
 
 mul-l : tie.Need-mul-l Inv-loop μ-loop
-mul-l c = let f = few (c .before .before .before .before .before) in omega arith
+mul-l c = let f = few (c .before .before .before .before .before .before) in omega arith
 
 slice-set-from-l : tie.Need-slice-set-from-l Inv-loop μ-loop
-slice-set-from-l c = let t = c .before .before .before .before .before in let f = few t in let l = m t .loop .inv .lows in omega arith
+slice-set-from-l c = let t = c .before .before .before .before .before .before in let f = few t in let l = m t .loop .inv .lows in omega arith
 
 mul-h : tie.Need-mul-h Inv-loop μ-loop
-mul-h c = let f = few (c .before .before .before .before .before) in omega arith
+mul-h c = let f = few (c .before .before .before .before .before .before) in omega arith
 
 slice-set-from-h : tie.Need-slice-set-from-h Inv-loop μ-loop
-slice-set-from-h c = let t = c .before .before .before .before .before in let f = few t in let l = m t .loop .inv .highs in omega arith
+slice-set-from-h c = let t = c .before .before .before .before .before .before in let f = few t in let l = m t .loop .inv .highs in omega arith
 
 add-d : tie.Need-add-d Inv-loop μ-loop
-add-d c = let f = few (c .before .before .before .before .before) in omega arith
+add-d c = let f = few (c .before .before .before .before .before .before) in omega arith
 
-add-at : tie.Need-add-at Inv-loop μ-loop
-add-at c = let r = here (c .before .before .before .before .before) .room in omega arith
+next-requires : tie.Need-next-requires Inv-loop μ-loop
+next-requires c κs = here (c .before .before .before .before .before .before) .whole
 
 loop-less : tie.Need-loop-less Inv-loop μ-loop
-loop-less c = let r = here (c .before .before .before .before .before) .room in omega arith
+loop-less c = let h = here (c .before .before .before .before .before .before .before) .whole in let r = h .room in let w = h .known in omega (arith, c .next .ensures)
 
 -- an end as a call gives it, in the plain numbers
-plain : (z z′ f f′ g g′ : ℤ) (k : ℕ) (u v : List ℕ) → u ≡ v → z ≡ z′ → f ≡ f′ → g ≡ g′
-    → floorDiv (readDivision u .constant +ℤ (z +ℤ gain k f g (readDivision u .axes))) (readDivision u .divisor) ≡ floorDiv (readDivision v .constant +ℤ (z′ +ℤ gain k f′ g′ (readDivision v .axes))) (readDivision v .divisor)
-plain z z′ f f′ g g′ k u v e a b c =
-    ap (λ (w : List ℕ). floorDiv (readDivision w .constant +ℤ (z +ℤ gain k f g (readDivision w .axes))) (readDivision w .divisor)) e
-    ∙ ap (λ (y : ℤ). floorDiv (readDivision v .constant +ℤ (y +ℤ gain k f g (readDivision v .axes))) (readDivision v .divisor)) a
-    ∙ ap₂ (λ (x y : ℤ). floorDiv (readDivision v .constant +ℤ (z′ +ℤ gain k x y (readDivision v .axes))) (readDivision v .divisor)) b c
+plain : (z z′ f f′ g g′ : ℤ) (k d d′ : ℕ) (u v : List ℕ) → d ≡ d′ → u ≡ v → z ≡ z′ → f ≡ f′ → g ≡ g′
+    → floorDiv (constantIn u +ℤ (z +ℤ gain k f g (axesIn u))) d ≡ floorDiv (constantIn v +ℤ (z′ +ℤ gain k f′ g′ (axesIn v))) d′
+plain z z′ f f′ g g′ k d d′ u v o e a b c =
+    ap₂ (λ (m : ℕ) (w : List ℕ). floorDiv (constantIn w +ℤ (z +ℤ gain k f g (axesIn w))) m) o e
+    ∙ ap (λ (y : ℤ). floorDiv (constantIn v +ℤ (y +ℤ gain k f g (axesIn v))) d′) a
+    ∙ ap₂ (λ (x y : ℤ). floorDiv (constantIn v +ℤ (z′ +ℤ gain k x y (axesIn v))) d′) b c
 
 loop-again : tie.Need-loop-again Inv-loop μ-loop
 loop-again c =
-    let q1 = c .before .before in let x = q1 .before .before in let t = x .before in let a = st t .args in let l = m t .loop in let low = a .low .now in let high = a .high .now in let r = a .r .now in
-    let kl = result-is w64 (q1 .quotient-end .result) (q1 .quotient-end .ok) in let kh = result-is w64 (c .quotient-end2 .result) (c .quotient-end2 .ok) in
-    let pl = kl ∙ q1 .quotient-end .ensures .0 ∙ plain _ _ _ _ _ _ (a .k) _ _ (x .tail .ensures) (toZ-ofZ {w = w64} (within-fits (omega arith) (least t))) (low-gap t) (high-gap t) in
-    let ph = kh ∙ c .quotient-end2 .ensures .0 ∙ plain _ _ _ _ _ _ (a .k) _ _ (x .tail .ensures) (toZ-ofZ {w = w64} (within-fits (omega arith) (greatest t))) (high-gap t) (low-gap t) in
+    let q2 = c .before in let q1 = q2 .before .before in let x = q1 .before .before in let y = x .before in let t = y .before in let a = st t .args in let l = m t .loop in let low = a .low .now in let high = a .high .now in let r = a .r .now in
+    let kl = result-is w64 (q1 .quotient-end .result) (q1 .quotient-end .ok) in let kh = result-is w64 (q2 .quotient-end2 .result) (q2 .quotient-end2 .ok) in
+    let pl = kl ∙ q1 .quotient-end .ensures .0 ∙ plain _ _ _ _ _ _ (a .k) _ _ _ _ (y .head .ensures .0) (x .body .ensures) (toZ-ofZ {w = w64} (within-fits (omega arith) (least t))) (low-gap t) (high-gap t) in
+    let ph = kh ∙ q2 .quotient-end2 .ensures .0 ∙ plain _ _ _ _ _ _ (a .k) _ _ _ _ (y .head .ensures .0) (x .body .ensures) (toZ-ofZ {w = w64} (within-fits (omega arith) (greatest t))) (high-gap t) (low-gap t) in
     let f : l .d < 56 = let y = few t in omega arith in
     let o = bounding-form (a .s .now) (startOf r) (boxOf low high) (l .at) (l .d) (l .ql) (l .qh) (l .inv) (code t) in
-    bounding-next (a .s .now) (startOf r) (boxOf low high) (l .at) (l .d) (l .ql) (l .qh) (l .inv) (code t) _ _
-    (settled-quotient (a .s .now) (a .k) low high r (st t .pre .0) (st t .pre .1) (l .d) f (readDivision (drop (l .at + 1) (a .s .now))) o ∙ sym (ap₂ side pl ph))
-    (subst (Within 549755813888) (sym kl) (q1 .quotient-end .ensures .1)) (subst (Within 549755813888) (sym kh) (c .quotient-end2 .ensures .1))
+    subst (λ (p : ℕ). Bounding (a .s .now) (startOf r) (boxOf low high) p (l .d + 1) (set (l .ql) (l .d) (toZ w64 (ofZ w64 (q1 .quotient-end .result)))) (set (l .qh) (l .d) (toZ w64 (ofZ w64 (q2 .quotient-end2 .result))))) (sym (c .next .ensures))
+    (bounding-next (a .s .now) (startOf r) (boxOf low high) (l .at) (l .d) (l .ql) (l .qh) (l .inv) (code t) _ _
+    (settled-quotient (a .s .now) (a .k) low high r (st t .pre .0) (st t .pre .1) (l .d) f (divisionAt (a .s .now) (l .at)) o ∙ sym (ap₂ side pl ph))
+    (subst (Within 549755813888) (sym kl) (q1 .quotient-end .ensures .1)) (subst (Within 549755813888) (sym kh) (q2 .quotient-end2 .ensures .1)))
 
 same-length : tie.Need-same-length Inv-loop μ-loop
 same-length c = let m = c .before .before in m .loop .inv .lows ∙ sym (m .before .before .before .before .before .pre .2)
@@ -186,9 +197,9 @@ same-length-2 c = let m = c .before .before in m .loop .inv .highs ∙ sym (m .b
 returns : tie.Need-returns Inv-loop μ-loop
 returns c =
     let m = c .before .before in let st = m .before .before .before .before .before in let a = st .args in
-    bounding-end (a .s .now) (startOf (a .r .now)) (boxOf (a .low .now) (a .high .now)) (m .loop .at) (m .loop .d) (m .loop .ql) (m .loop .qh) (m .loop .inv) (λ e. c .if1 .left (c .before .code .ensures ∙ e))
+    bounding-end (a .s .now) (startOf (a .r .now)) (boxOf (a .low .now) (a .high .now)) (m .loop .at) (m .loop .d) (m .loop .ql) (m .loop .qh) (m .loop .inv) (sym (c .before .division-at .ensures) ∙ c .if1 .left)
 
 pub bounded-spec : {M : Type 1} → statement M
 bounded-spec =
     tie.close
-    (tie.spec Inv-loop μ-loop gap-requires gap-requires-2 place-requires loop-holds code-requires add-tail tail-requires mul-quotient-end element-copy-out-quotient-end quotient-end-requires add-quotient-end mul-quotient-end-2 element-copy-out-quotient-end-2 quotient-end-requires-2 mul-l slice-set-from-l mul-h slice-set-from-h add-d add-at loop-less loop-again same-length same-length-2 returns)
+    (tie.spec Inv-loop μ-loop gap-requires gap-requires-2 place-requires loop-holds division-at-requires head-requires body-requires mul-quotient-end element-copy-out-quotient-end quotient-end-requires add-quotient-end mul-quotient-end-2 element-copy-out-quotient-end-2 quotient-end-requires-2 mul-l slice-set-from-l mul-h slice-set-from-h add-d next-requires loop-less loop-again same-length same-length-2 returns)

@@ -1,18 +1,19 @@
-use mathlib.Core.Path.{_≡_, ap, ap₂, _∙_}
+use mathlib.Core.Path.{_≡_, sym, ap, ap₂, _∙_, subst}
 use mathlib.Core.List.{List}
 use native.Mathlib.Omega.{arith}
 use borrow.Author.Needs.{needs}
 use Prim.Native.Nat.{ℕ, _+_, _≤_, _<_}
 use lib.IntN.{ℤ, pos, _-ℤ_}
-use lib.ListN.{length, drop, getD, length-drop}
+use lib.ListN.{length, getD}
 use mir.Syntax.{w64}
 use Rattle.integers.specs.Mach.{toZ-ofZ, result-is}
 use Rattle.integers.specs.Size.{within-fits}
 use Rattle.model.specs.Sets.{Constraint}
-use Rattle.codec.specs.Bytes.{readConstraint, kindOf}
+use Rattle.codec.specs.Bytes.{constraintBody, readConstraint, kindOf}
+use Rattle.codec.specs.Places.{bodyAt, constraintAt}
 use Rattle.bounds.specs.Intervals.{canMeet, boxOf}
 use Rattle.bounds.specs.Ends.{meetSide, canStand}
-use Rattle.bounds.specs.Rows.{Loose, constraintAt}
+use Rattle.bounds.specs.Rows.{Loose}
 use Rattle.bounds.proofs.Extremes.{back-within}
 use Rattle.bounds.proofs.Sides.{row-loose}
 use Rattle.bounds.proofs.Bounds.{settled-meets}
@@ -35,11 +36,8 @@ gap-requires-2 c κs =
 code-requires : tie.Need-code-requires
 code-requires c κs = search needs
 
-add-tail : tie.Need-add-tail
-add-tail c = search needs
-
-tail-requires : tie.Need-tail-requires
-tail-requires c κs = search needs
+body-requires : tie.Need-body-requires
+body-requires c κs = c .before .before .before .before .pre .3 .whole
 
 mul-can-meet : tie.Need-mul-can-meet
 mul-can-meet c = search needs
@@ -59,15 +57,13 @@ element-copy-out-can-meet-2 c = search needs
 loose : (st : tie.Start) → Loose (st .args .s .now) (st .args .r .now)
 loose st = row-loose (st .args .s .now) (length (st .args .low .now)) (st .args .r .now) (st .pre .1 .few) (st .pre .0 .row)
 
-after : (x : tie.After-tail) → 36 ≤ length (x .tail .result .now)
-after x =
-    let st = x .before .before .before .before .before in let h = st .pre .3 .room in
-    omega (arith, ap length (x .tail .ensures), length-drop (st .args .at + 1) (st .args .s .now))
+after : (x : tie.After-body) → constraintBody ≤ length (x .body .result .now)
+after x = subst (λ (t : List ℕ). constraintBody ≤ length t) (sym (x .body .ensures)) (x .before .before .before .before .before .pre .3 .body)
 
 -- whether it can stand, by the row's ends
 stands : (st : tie.Start) (z y f g : ℤ) (b : ℕ) (u : List ℕ) → let a = st .args in let r = a .r .now in let s = a .s .now in
     z ≡ getD r (a .i) (pos 0) → y ≡ getD r (64 + a .i) (pos 0) → f ≡ getD (a .low .now) (a .k) (pos 0) -ℤ getD r (56 + a .k) (pos 0) → g ≡ getD (a .high .now) (a .k) (pos 0) -ℤ getD r (120 + a .k) (pos 0)
-    → b ≡ getD s (a .at) 0 → u ≡ drop (a .at + 1) s
+    → b ≡ getD s (a .at) 0 → u ≡ bodyAt s (a .at)
     → canMeet (kindOf b) (meetSide (a .k) f g z y (a .ql .now) (a .qh .now) (readConstraint (kindOf b) u)) ≡ canStand (boxOf (a .low .now) (a .high .now)) (boxOf (a .ql .now) (a .qh .now)) (constraintAt s (a .at))
 stands st z y f g b u ez ey ef eg eb eu =
     let a = st .args in let r = a .r .now in let s = a .s .now in
@@ -92,7 +88,7 @@ returns c =
     let x = c .before .before .before in let g2 = x .before .before in let g1 = g2 .before in let st = g1 .before .before in let a = st .args in let l = loose st in let u = st .pre .3 in
     c .can-meet .ensures
     ∙ stands st _ _ _ _ _ _ (toZ-ofZ {w = w64} (within-fits (omega arith) (l .least (a .i) (u .few)))) (toZ-ofZ {w = w64} (within-fits (omega arith) (l .greatest (a .i) (u .few))))
-    (result-is w64 (g1 .gap .result) (g1 .gap .ok) ∙ g1 .gap .ensures .0) (result-is w64 (g2 .gap2 .result) (g2 .gap2 .ok) ∙ g2 .gap2 .ensures .0) (x .before .code .ensures) (x .tail .ensures)
+    (result-is w64 (g1 .gap .result) (g1 .gap .ok) ∙ g1 .gap .ensures .0) (result-is w64 (g2 .gap2 .result) (g2 .gap2 .ok) ∙ g2 .gap2 .ensures .0) (x .before .code .ensures) (x .body .ensures)
 
 pub can-stand-spec : {M : Type 1} → statement M
-can-stand-spec = tie.close (tie.spec gap-requires gap-requires-2 code-requires add-tail tail-requires mul-can-meet element-copy-out-can-meet add-can-meet mul-can-meet-2 element-copy-out-can-meet-2 can-meet-requires returns)
+can-stand-spec = tie.close (tie.spec gap-requires gap-requires-2 code-requires body-requires mul-can-meet element-copy-out-can-meet add-can-meet mul-can-meet-2 element-copy-out-can-meet-2 can-meet-requires returns)

@@ -1,18 +1,17 @@
-use mathlib.Core.Path.{_≡_, sym, ap, ap₂, _∙_, subst}
-use mathlib.Core.Bool.{cond}
+use mathlib.Core.Path.{_≡_, sym, ap₂, _∙_, subst}
+use mathlib.Core.Bool.{true}
 use mathlib.Core.List.{List}
 use native.Mathlib.Omega.{arith}
 use borrow.Author.Needs.{needs}
 use Prim.Native.Nat.{ℕ, _+_, _-_, _≤_, _<_}
-use lib.Dec.{eqb}
 use lib.IntN.{ℤ, pos, _+ℤ_}
-use lib.ListN.{length, drop, getD, set}
+use lib.ListN.{length, getD, set}
 use mir.Syntax.{w64}
 use mir.Val.{toZ, ofZ}
 use Rattle.integers.specs.Z.{Within}
 use Rattle.integers.specs.Mach.{toZ-ofZ, result-is}
 use Rattle.integers.specs.Size.{within-fits}
-use Rattle.codec.specs.Bytes.{signedList, widthOf}
+use Rattle.codec.specs.Bytes.{goesOn, axesIn, divisionBody}
 use Rattle.bounds.specs.Ends.{gain}
 use Rattle.bounds.proofs.Extremes.{back-within}
 use Rattle.bounds.proofs.Forms.{FormAt}
@@ -40,8 +39,8 @@ module _ (t : tie.Then1 Inv-loop μ-loop) where
   abbrev G : ℤ
   G = toZ w64 (ofZ w64 (st .args .to))
 
-  pass : 17 < getD (st .args .s .now) (m .loop .at) 0
-  pass = let e = t .before .code .ensures in let k = t .if1 .taken in omega arith
+  pass : goesOn (getD (st .args .s .now) (m .loop .at) 0) ≡ true
+  pass = sym (t .before .goes-on .ensures) ∙ t .if1 .taken
 
   abbrev here : FormAt (m .loop .inv .n) (st .args .s .now) (m .loop .at) (m .loop .inv .k)
   here = shifting-at (st .args .s .now) (st .args .j) F G (st .args .r .now) (m .loop .r) (m .loop .at) (m .loop .i) (m .loop .inv) pass
@@ -61,102 +60,82 @@ loop-holds c =
     subst (λ (p : ℕ). Shifting (a .s .now) (a .j) (toZ w64 (ofZ w64 (a .from))) (toZ w64 (ofZ w64 (a .to))) (a .r .now) (a .r .now) p 0) (sym (c .place .ensures))
     (shifting-start (a .s .now) (a .j) (toZ w64 (ofZ w64 (a .from))) (toZ w64 (ofZ w64 (a .to))) (a .r .now) (st .pre .0 .opened))
 
-code-requires : tie.Need-code-requires Inv-loop μ-loop
-code-requires c κs = search needs
+goes-on-requires : tie.Need-goes-on-requires Inv-loop μ-loop
+goes-on-requires c κs = search needs
 
-code-requires-2 : tie.Need-code-requires-2 Inv-loop μ-loop
-code-requires-2 c κs = search needs
-
-add-tail : tie.Need-add-tail Inv-loop μ-loop
-add-tail c = let h = here (c .before) in let r = h .room in let w = h .wide in omega arith
-
-tail-requires : tie.Need-tail-requires Inv-loop μ-loop
-tail-requires c κs = let h = here (c .before) in let r = h .room in let w = h .wide in omega arith
-
-axes-place-requires : tie.Need-axes-place-requires Inv-loop μ-loop
-axes-place-requires c κs = search needs
+body-requires : tie.Need-body-requires Inv-loop μ-loop
+body-requires c κs = here c .whole
 
 mul-l : tie.Need-mul-l Inv-loop μ-loop
-mul-l c = let f = few (c .before .before .before) in omega arith
+mul-l c = let f = few (c .before) in omega arith
 
 element-copy-out-l : tie.Need-element-copy-out-l Inv-loop μ-loop
-element-copy-out-l c = let f = few (c .before .before .before) in omega arith
+element-copy-out-l c = let f = few (c .before) in omega arith
 
 add-h : tie.Need-add-h Inv-loop μ-loop
-add-h c = let f = few (c .before .before .before .before) in omega arith
+add-h c = let f = few (c .before .before) in omega arith
 
 mul-h : tie.Need-mul-h Inv-loop μ-loop
-mul-h c = let f = few (c .before .before .before .before) in omega arith
+mul-h c = let f = few (c .before .before) in omega arith
 
 element-copy-out-h : tie.Need-element-copy-out-h Inv-loop μ-loop
-element-copy-out-h c = let f = few (c .before .before .before .before) in omega arith
+element-copy-out-h c = let f = few (c .before .before) in omega arith
 
--- where the coefficients stand
-axes-at : (c : tie.After-axes-place Inv-loop μ-loop) → here (c .before .before .before) .p ≡ c .axes-place .result
-axes-at c = sym (c .axes-place .ensures ∙ ap (λ (b : ℕ). cond (eqb b 18) 6 4) (c .before .before .code2 .ensures) ∙ here (c .before .before .before) .place)
-
-room : (c : tie.After-axes-place Inv-loop μ-loop) → c .axes-place .result + 16 ≤ length (c .before .tail .result .now)
-room c = let a = here (c .before .before .before) .after in omega (arith, axes-at c, ap length (c .before .tail .ensures))
+room : (c : tie.After-body Inv-loop μ-loop) → divisionBody ≤ length (c .body .result .now)
+room c = subst (λ (t : List ℕ). divisionBody ≤ length t) (sym (c .body .ensures)) (here (c .before) .body)
 
 moved-requires : tie.Need-moved-requires Inv-loop μ-loop
 moved-requires c κs =
-    let x = c .before .before in let t = x .before .before .before in
+    let x = c .before .before in let t = x .before in
     (room x, rw (toZ-ofZ (st t .fits .from), toZ-ofZ (st t .fits .to)) (st t .pre .1), back-within (omega arith) (sizes t .0))
 
 mul-r : tie.Need-mul-r Inv-loop μ-loop
-mul-r c = let f = few (c .before .before .before .before .before .before) in omega arith
+mul-r c = let f = few (c .before .before .before .before) in omega arith
 
 element-set-from-r : tie.Need-element-set-from-r Inv-loop μ-loop
-element-set-from-r c = let f = few (c .before .before .before .before .before .before) in omega arith
+element-set-from-r c = let f = few (c .before .before .before .before) in omega arith
 
 moved-requires-2 : tie.Need-moved-requires-2 Inv-loop μ-loop
 moved-requires-2 c κs =
-    let x = c .before .before .before in let t = x .before .before .before in let p = st t .pre .1 in
+    let x = c .before .before .before in let t = x .before in let p = st t .pre .1 in
     (room x, rw (toZ-ofZ (st t .fits .from), toZ-ofZ (st t .fits .to)) (record { axis = p .axis; from-size = p .to-size; to-size = p .from-size }), back-within (omega arith) (sizes t .1))
 
-add-t20 : tie.Need-add-t20 Inv-loop μ-loop
-add-t20 c = let f = few (c .before .before .before .before .before .before .before) in omega arith
+add-t17 : tie.Need-add-t17 Inv-loop μ-loop
+add-t17 c = let f = few (c .before .before .before .before .before) in omega arith
 
-mul-t16 : tie.Need-mul-t16 Inv-loop μ-loop
-mul-t16 c = let f = few (c .before .before .before .before .before .before .before) in omega arith
+mul-t13 : tie.Need-mul-t13 Inv-loop μ-loop
+mul-t13 c = let f = few (c .before .before .before .before .before) in omega arith
 
 element-set-from-r-2 : tie.Need-element-set-from-r-2 Inv-loop μ-loop
-element-set-from-r-2 c = let f = few (c .before .before .before .before .before .before .before) in omega arith
+element-set-from-r-2 c = let f = few (c .before .before .before .before .before) in omega arith
 
-width-requires : tie.Need-width-requires Inv-loop μ-loop
-width-requires c κs = search needs
-
--- the width of the command
-width-is : (c : tie.After-width Inv-loop μ-loop) → let x = c .before .before .before .before .before in let t = x .before .before .before in c .width .result ≡ widthOf (getD (st t .args .s .now) (m t .loop .at) 0)
-width-is c = let x = c .before .before .before .before .before in c .width .ensures ∙ ap widthOf (x .before .before .code2 .ensures)
-
-add-at : tie.Need-add-at Inv-loop μ-loop
-add-at c = let t = c .before .before .before .before .before .before .before .before in let r = here t .room in omega (arith, width-is c)
+next-requires : tie.Need-next-requires Inv-loop μ-loop
+next-requires c κs = here (c .before .before .before .before .before) .whole
 
 add-i : tie.Need-add-i Inv-loop μ-loop
-add-i c = let f = few (c .before .before .before .before .before .before .before .before) in omega arith
+add-i c = let f = few (c .before .before .before .before .before .before) in omega arith
 
 loop-less : tie.Need-loop-less Inv-loop μ-loop
-loop-less c = let t = c .before .before .before .before .before .before .before .before in let r = here t .room in let w = here t .wide in omega (arith, width-is c)
+loop-less c = let h = here (c .before .before .before .before .before .before) .whole in let r = h .room in let w = h .known in omega (arith, c .next .ensures)
 
 loop-again : tie.Need-loop-again Inv-loop μ-loop
 loop-again c =
-    let c2 = c .before in let c1 = c2 .before in let x = c1 .before .before .before in let t = x .before .before .before in let a = st t .args in
+    let c2 = c .before in let c1 = c2 .before in let x = c1 .before .before .before in let t = x .before in let a = st t .args in
     let j = a .j in let f = F t in let g = G t in let l = m t .loop in
     let k1 = result-is w64 (c1 .moved .result) (c1 .moved .ok) in let k2 = result-is w64 (c2 .moved2 .result) (c2 .moved2 .ok) in
-    let e1 = k1 ∙ c1 .moved .ensures .0 ∙ ap₂ (λ (z : ℤ) (u : List ℕ). z +ℤ gain j f g (signedList 8 (drop (x .axes-place .result) u))) (toZ-ofZ (within-fits (omega arith) (sizes t .0))) (x .before .tail .ensures) in
-    let e2 = k2 ∙ c2 .moved2 .ensures .0 ∙ ap₂ (λ (z : ℤ) (u : List ℕ). z +ℤ gain j g f (signedList 8 (drop (x .axes-place .result) u))) (toZ-ofZ (within-fits (omega arith) (sizes t .1))) (x .before .tail .ensures) in
+    let e1 = k1 ∙ c1 .moved .ensures .0 ∙ ap₂ (λ (z : ℤ) (u : List ℕ). z +ℤ gain j f g (axesIn u)) (toZ-ofZ (within-fits (omega arith) (sizes t .0))) (x .body .ensures) in
+    let e2 = k2 ∙ c2 .moved2 .ensures .0 ∙ ap₂ (λ (z : ℤ) (u : List ℕ). z +ℤ gain j g f (axesIn u)) (toZ-ofZ (within-fits (omega arith) (sizes t .1))) (x .body .ensures) in
     let o : length (l .r) ≡ 129 = l .inv .is .places ∙ st t .pre .0 .places in
-    subst (λ (w : ℕ). Shifting (a .s .now) j f g (a .r .now) (set (set (l .r) (l .i) (toZ w64 (ofZ w64 (c1 .moved .result)))) (64 + l .i) (toZ w64 (ofZ w64 (c2 .moved2 .result)))) (l .at + w) (l .i + 1)) (sym (width-is c))
-    (shifting-next (a .s .now) j f g (a .r .now) (l .r) (l .at) (l .i) (l .inv) (pass t) (x .axes-place .result) (axes-at x) o (toZ w64 (ofZ w64 (c1 .moved .result))) (toZ w64 (ofZ w64 (c2 .moved2 .result))) e1 e2)
+    subst (λ (w : ℕ). Shifting (a .s .now) j f g (a .r .now) (set (set (l .r) (l .i) (toZ w64 (ofZ w64 (c1 .moved .result)))) (64 + l .i) (toZ w64 (ofZ w64 (c2 .moved2 .result)))) w (l .i + 1)) (sym (c .next .ensures))
+    (shifting-next (a .s .now) j f g (a .r .now) (l .r) (l .at) (l .i) (l .inv) (pass t) o (toZ w64 (ofZ w64 (c1 .moved .result))) (toZ w64 (ofZ w64 (c2 .moved2 .result))) e1 e2)
 
 returns : tie.Need-returns Inv-loop μ-loop
 returns c =
     let m = c .before .before in let st = m .before .before .before .before in let a = st .args in
     rw (toZ-ofZ (st .fits .from), toZ-ofZ (st .fits .to)) at
-    (shifting-end (a .s .now) (a .j) (toZ w64 (ofZ w64 (a .from))) (toZ w64 (ofZ w64 (a .to))) (a .r .now) (m .loop .r) (m .loop .at) (m .loop .i) (m .loop .inv) (let e = c .before .code .ensures in let k = c .if1 .left in omega arith))
+    (shifting-end (a .s .now) (a .j) (toZ w64 (ofZ w64 (a .from))) (toZ w64 (ofZ w64 (a .to))) (a .r .now) (m .loop .r) (m .loop .at) (m .loop .i) (m .loop .inv) (sym (c .before .goes-on .ensures) ∙ c .if1 .left))
 
 pub shift-spec : {M : Type 1} → statement M
 shift-spec =
     tie.close
-    (tie.spec Inv-loop μ-loop place-requires loop-holds code-requires code-requires-2 add-tail tail-requires axes-place-requires mul-l element-copy-out-l add-h mul-h element-copy-out-h moved-requires mul-r element-set-from-r moved-requires-2 add-t20 mul-t16 element-set-from-r-2 width-requires add-at add-i loop-less loop-again returns)
+    (tie.spec Inv-loop μ-loop place-requires loop-holds goes-on-requires body-requires mul-l element-copy-out-l add-h mul-h element-copy-out-h moved-requires mul-r element-set-from-r moved-requires-2 add-t17 mul-t13 element-set-from-r-2 next-requires add-i loop-less loop-again returns)

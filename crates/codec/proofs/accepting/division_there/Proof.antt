@@ -2,13 +2,10 @@ use mathlib.Core.Path.{refl}
 use Prim.Native.Nat.{_+_}
 use native.Mathlib.Omega.{arith}
 use borrow.Author.Needs.{needs}
-use lib.ListN.{take, drop}
 use mir.Syntax.{w32}
 use mir.Val.{SFits}
 use Rattle.integers.specs.Mach.{b-of, b-lit, is-ge, is-le, clash}
-use Rattle.codec.specs.Bytes.{valueOf}
-use Rattle.codec.proofs.Parsing.{divisor-in}
-use Rattle.codec.proofs.Leading.{division-constant}
+use Rattle.codec.proofs.Leading.{division-divisor, division-constant}
 use Rattle.codec.proofs.accepting.division_there.Statement.{statement}
 use Rattle.codec.proofs.accepting.division_there.Tie as tie
 
@@ -54,8 +51,8 @@ returns-6 c =
     λ e. record {
       inside = omega arith;
       command = e2 .if2 .left;
-      divisor = divisor-in (u .u16-at .result) (valueOf (take 2 (drop (at + 1) s))) (u .u16-at .ensures .0) (e3 .if3 .left) (e4 .if4 .left);
-      constant = division-constant (k .result) at s (k .ensures) (is-ge (b-of f) (b-lit w32 3294967296 refl) (c .if5 .left)) (is-le (b-of f) (b-lit w32 1000000000 refl) e);
+      divisor = division-divisor at s (e2 .if2 .left) (u .u16-at .result) (u .u16-at .ensures .0) (e3 .if3 .left) (e4 .if4 .left);
+      constant = division-constant at s (e2 .if2 .left) (k .result) (k .ensures) (is-ge (b-of f) (b-lit w32 3294967296 refl) (c .if5 .left)) (is-le (b-of f) (b-lit w32 1000000000 refl) e);
     }
 
 pub division-there-spec : {M : Type 1} → statement M

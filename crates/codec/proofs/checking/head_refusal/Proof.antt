@@ -1,13 +1,14 @@
-use native.Mathlib.Omega.{arith}
-use mathlib.Core.Path.{sym, ap, _∙_}
+use mathlib.Core.Path.{_≡_, sym, ap, ap₂, _∙_, subst}
 use mathlib.Core.List.{List}
-use Prim.Native.Nat.{ℕ, _+_, _-_}
+use Prim.Native.Nat.{ℕ, _+_, _-_, _≤_}
+use native.Mathlib.Omega.{arith}
 use lib.ListN.{length, drop, getD}
-use Rattle.codec.specs.Bytes as B
-use Rattle.codec.specs.Bytes.{kindOf}
-use Rattle.codec.specs.Checking.{countsOf}
-use Rattle.codec.proofs.Parsing.{head-unknown, head-cut, head-at, room, read-opens, read-division, read-constraint, width-division, width-constraint}
 use borrow.Author.Needs.{needs}
+use Rattle.codec.specs.Bytes as B
+use Rattle.codec.specs.Bytes.{kindOf, divisionBody, constraintBody, widthOf}
+use Rattle.codec.specs.Places.{Whole}
+use Rattle.codec.specs.Checking.{countsOf}
+use Rattle.codec.proofs.Parsing.{head-unknown, head-cut, head-at, read-opens, read-division, read-constraint, width-division, width-constraint, other-code, body-room}
 use Rattle.codec.proofs.checking.head_refusal.Statement.{statement}
 use Rattle.codec.proofs.checking.head_refusal.Tie as tie
 
@@ -17,38 +18,90 @@ shared-slice-read-b c = search needs
 width-requires : tie.Need-width-requires
 width-requires c κs = search needs
 
+abbrev start : tie.After-width → tie.Start
+start w = w .before .before .before .before
+
 returns : tie.Need-returns
-returns c = let e1 = c in let w = e1 .before in let l2 = w .before in let l1 = l2 .before in let st = l1 .before .before in let a = st .args in let n = a .n in let k = countsOf (a .k) in let s = a .s .now in let at = a .at in let b = getD s at 0 in let t = drop (at + 1) s in sym (head-unknown n k b t (sym (w .width .ensures) ∙ c .if1 .taken))
+returns c = let w = c .before in let a = start w .args in sym (head-unknown (a .n) (countsOf (a .k)) _ _ (sym (w .width .ensures) ∙ c .if1 .taken))
 
 sub-if2 : tie.Need-sub-if2
 sub-if2 c = search needs
 
 returns-2 : tie.Need-returns-2
-returns-2 c = let e2 = c in let e1 = e2 .before in let w = e1 .before in let l2 = w .before in let l1 = l2 .before in let st = l1 .before .before in let a = st .args in let n = a .n in let k = countsOf (a .k) in let s = a .s .now in let at = a .at in let b = getD s at 0 in let t = drop (at + 1) s in sym (head-cut n k b s at _ (st .pre .0) (w .width .ensures) (e1 .if1 .left) (c .if2 .taken))
-
-add-tail : tie.Need-add-tail
-add-tail c = search needs
-
-tail-requires : tie.Need-tail-requires
-tail-requires c κs = search needs
+returns-2 c = let e1 = c .before in let w = e1 .before in let st = start w in let a = st .args in sym (head-cut (a .n) (countsOf (a .k)) _ (a .s .now) (a .at) _ (st .pre .0) (w .width .ensures) (e1 .if1 .left) (c .if2 .taken))
 
 opens-refusal-requires : tie.Need-opens-refusal-requires
 opens-refusal-requires c κs = search needs
 
-returns-3 : tie.Need-returns-3
-returns-3 c = let r = c in let e3 = r .before in let v = e3 .before in let e2 = v .before in let e1 = e2 .before in let w = e1 .before in let l2 = w .before in let l1 = l2 .before in let st = l1 .before .before in let a = st .args in let n = a .n in let k = countsOf (a .k) in let s = a .s .now in let at = a .at in let b = getD s at 0 in let t = drop (at + 1) s in r .opens-refusal .ensures ∙ ap (B.refusal n k) (sym (read-opens b t (e3 .if3 .taken))) ∙ sym (head-at n k b s at _ (st .pre .0) (w .width .ensures) (e1 .if1 .left) (e2 .if2 .left))
+-- a command that is known and whole
+module _ (c : tie.Else2) where
+  abbrev st : tie.Start
+  st = start (c .before .before)
 
+  abbrev k : B.Counts
+  k = countsOf (st .args .k)
+
+  abbrev s : List ℕ
+  s = st .args .s .now
+
+  abbrev at : ℕ
+  at = st .args .at
+
+  abbrev b : ℕ
+  b = getD s at 0
+
+  some : widthOf b ≡ 0 → ⊥
+  some z = c .before .if1 .left (c .before .before .width .ensures ∙ z)
+
+  room : at + widthOf b ≤ length s
+  room = let e = c .before .before .width .ensures in let h = c .if2 .left in let l = st .pre .0 in omega arith
+
+  whole : Whole s at
+  whole = let n = some in record { known = let e = c .before .before .width .ensures in let h = c .before .if1 .left in omega arith; room = room }
+
+  refuses : B.headRefusal (st .args .n) k b (drop (at + 1) s) ≡ B.refusal (st .args .n) k (B.readCommand b (drop (at + 1) s))
+  refuses = head-at (st .args .n) k b s at _ (st .pre .0) (c .before .before .width .ensures) (c .before .if1 .left) (c .if2 .left)
+
+returns-3 : tie.Need-returns-3
+returns-3 c =
+    let y = c .before in let e = y .before in
+    c .opens-refusal .ensures ∙ ap (B.refusal (st e .args .n) (k e)) (sym (read-opens (b e) (drop (at e + 1) (s e)) (y .if3 .taken))) ∙ sym (refuses e)
+
+body-requires : tie.Need-body-requires
+body-requires c κs = whole (c .before)
+
+is-division-requires : tie.Need-is-division-requires
+is-division-requires c κs = search needs
+
+head-requires : tie.Need-head-requires
+head-requires c κs = whole (c .before .before .before .before)
+
+-- a division
 division-refusal-requires : tie.Need-division-refusal-requires
-division-refusal-requires c κs = let e4 = c in let e3 = e4 .before in let v = e3 .before in let e2 = v .before in let e1 = e2 .before in let w = e1 .before in let l2 = w .before in let l1 = l2 .before in let st = l1 .before .before in let a = st .args in let n = a .n in let k = countsOf (a .k) in let s = a .s .now in let at = a .at in let b = getD s at 0 in let t = drop (at + 1) s in let o = room n k b s at _ (st .pre .0) (w .width .ensures) (e1 .if1 .left) 22 (width-division b (e4 .if4 .taken)) (e2 .if2 .left) in let q = ap length (v .tail .ensures) in (omega arith, st .pre .1, st .pre .3)
+division-refusal-requires c κs =
+    let y = c .before in let d = y .before in let o = d .before in let e = o .before .before in
+    (subst (λ (t : List ℕ). divisionBody ≤ length t) (sym (o .body .ensures)) (body-room (b e) (s e) (at e) divisionBody (width-division (b e) (sym (d .is-division .ensures) ∙ y .if4 .taken)) (room e)), st e .pre .1, st e .pre .3)
 
 returns-4 : tie.Need-returns-4
-returns-4 c = let r = c in let e4 = r .before in let e3 = e4 .before in let v = e3 .before in let e2 = v .before in let e1 = e2 .before in let w = e1 .before in let l2 = w .before in let l1 = l2 .before in let st = l1 .before .before in let a = st .args in let n = a .n in let k = countsOf (a .k) in let s = a .s .now in let at = a .at in let b = getD s at 0 in let t = drop (at + 1) s in r .division-refusal .ensures ∙ ap (λ (x : List ℕ). B.refusal n k (B.division (B.readDivision x))) (v .tail .ensures) ∙ ap (B.refusal n k) (sym (read-division b t (e4 .if4 .taken))) ∙ sym (head-at n k b s at _ (st .pre .0) (w .width .ensures) (e1 .if1 .left) (e2 .if2 .left))
+returns-4 c =
+    let h = c .before in let y = h .before in let d = y .before in let o = d .before in let e = o .before .before in
+    c .division-refusal .ensures
+    ∙ ap₂ (λ (m : ℕ) (t : List ℕ). B.refusal (st e .args .n) (k e) (B.division (B.readDivision m t))) (h .head .ensures .0) (o .body .ensures)
+    ∙ ap (B.refusal (st e .args .n) (k e)) (sym (read-division (b e) (drop (at e + 1) (s e)) (sym (d .is-division .ensures) ∙ y .if4 .taken))) ∙ sym (refuses e)
 
+-- a constraint
 constraint-refusal-requires : tie.Need-constraint-refusal-requires
-constraint-refusal-requires c κs = let e4 = c in let e3 = e4 .before in let v = e3 .before in let e2 = v .before in let e1 = e2 .before in let w = e1 .before in let l2 = w .before in let l1 = l2 .before in let st = l1 .before .before in let a = st .args in let n = a .n in let k = countsOf (a .k) in let s = a .s .now in let at = a .at in let b = getD s at 0 in let t = drop (at + 1) s in let o = room n k b s at _ (st .pre .0) (w .width .ensures) (e1 .if1 .left) 36 (width-constraint b (e3 .if3 .left) (e4 .if4 .left) (λ y. e1 .if1 .left (w .width .ensures ∙ y))) (e2 .if2 .left) in let q = ap length (v .tail .ensures) in (omega arith, st .pre .1, st .pre .2, st .pre .3)
+constraint-refusal-requires c κs =
+    let d = c .before in let o = d .before in let e3 = o .before in let e = e3 .before in let f = sym (d .is-division .ensures) ∙ c .if4 .left in
+    let w = width-constraint (b e) (e3 .if3 .left) f (other-code (b e) (e3 .if3 .left) f (some e)) in
+    (subst (λ (t : List ℕ). constraintBody ≤ length t) (sym (o .body .ensures)) (body-room (b e) (s e) (at e) constraintBody w (room e)), st e .pre .1, st e .pre .2, st e .pre .3)
 
 returns-5 : tie.Need-returns-5
-returns-5 c = let r = c in let e4 = r .before in let e3 = e4 .before in let v = e3 .before in let e2 = v .before in let e1 = e2 .before in let w = e1 .before in let l2 = w .before in let l1 = l2 .before in let st = l1 .before .before in let a = st .args in let n = a .n in let k = countsOf (a .k) in let s = a .s .now in let at = a .at in let b = getD s at 0 in let t = drop (at + 1) s in r .constraint-refusal .ensures ∙ ap (λ (x : List ℕ). B.refusal n k (B.constraint (B.readConstraint (kindOf b) x))) (v .tail .ensures) ∙ ap (B.refusal n k) (sym (read-constraint b t (e3 .if3 .left) (e4 .if4 .left))) ∙ sym (head-at n k b s at _ (st .pre .0) (w .width .ensures) (e1 .if1 .left) (e2 .if2 .left))
+returns-5 c =
+    let y = c .before in let d = y .before in let o = d .before in let e3 = o .before in let e = e3 .before in
+    c .constraint-refusal .ensures
+    ∙ ap (λ (t : List ℕ). B.refusal (st e .args .n) (k e) (B.constraint (B.readConstraint (kindOf (b e)) t))) (o .body .ensures)
+    ∙ ap (B.refusal (st e .args .n) (k e)) (sym (read-constraint (b e) (drop (at e + 1) (s e)) (e3 .if3 .left) (sym (d .is-division .ensures) ∙ y .if4 .left))) ∙ sym (refuses e)
 
 pub head-refusal-spec : {M : Type 1} → statement M
 head-refusal-spec =
@@ -59,10 +112,11 @@ head-refusal-spec =
     returns
     sub-if2
     returns-2
-    add-tail
-    tail-requires
     opens-refusal-requires
     returns-3
+    body-requires
+    is-division-requires
+    head-requires
     division-refusal-requires
     returns-4
     constraint-refusal-requires

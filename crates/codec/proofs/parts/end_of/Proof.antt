@@ -1,7 +1,7 @@
 use mathlib.Core.Path.{sym, ap, _∙_, subst}
-use Prim.Native.Nat.{ℕ, _+_, _-_, _<_}
+use Prim.Native.Nat.{ℕ, _+_, _-_}
 use native.Mathlib.Omega.{arith}
-use lib.ListN.{length, getD}
+use lib.ListN.{length}
 use Rattle.codec.specs.Bytes.{widthOf}
 use Rattle.codec.proofs.Located.{Ending, ending-start, ending-next, ending-end}
 use Rattle.codec.proofs.parts.end_of.Statement.{statement}
@@ -16,36 +16,36 @@ abbrev μ-loop : tie.MeasureT-loop
 loop-holds : tie.Need-loop-holds Inv-loop μ-loop
 loop-holds c = ending-start (c .before .args .s .now) (c .before .args .start) (c .before .pre)
 
+goes-on-requires : tie.Need-goes-on-requires Inv-loop μ-loop
+goes-on-requires c κs = tt
+
 code-requires : tie.Need-code-requires Inv-loop μ-loop
 code-requires c κs = tt
-
-code-requires-2 : tie.Need-code-requires-2 Inv-loop μ-loop
-code-requires-2 c κs = tt
 
 width-requires : tie.Need-width-requires Inv-loop μ-loop
 width-requires c κs = tt
 
 add-at : tie.Need-add-at Inv-loop μ-loop
 add-at c = let m = c .before .before .before .before in let st = m .before .before in let s = st .args .s .now in
-    let g : 17 < getD s (m .loop .at) 0 = let x = c .before .before .before .code .ensures in let y = c .before .before .if1 .taken in omega arith in
-    let w = c .width .ensures ∙ ap widthOf (c .before .code2 .ensures) in
+    let g = sym (c .before .before .before .goes-on .ensures) ∙ c .before .before .if1 .taken in
+    let w = c .width .ensures ∙ ap widthOf (c .before .code .ensures) in
     let e = ending-next s (st .args .start) (m .loop .at) (m .loop .inv) g in let i = e .0 .here .inside in omega arith
 
 loop-less : tie.Need-loop-less Inv-loop μ-loop
 loop-less c = let m = c .before .before .before .before in let st = m .before .before in let s = st .args .s .now in
-    let g : 17 < getD s (m .loop .at) 0 = let x = c .before .before .before .code .ensures in let y = c .before .before .if1 .taken in omega arith in
-    let w = c .width .ensures ∙ ap widthOf (c .before .code2 .ensures) in
+    let g = sym (c .before .before .before .goes-on .ensures) ∙ c .before .before .if1 .taken in
+    let w = c .width .ensures ∙ ap widthOf (c .before .code .ensures) in
     let e = ending-next s (st .args .start) (m .loop .at) (m .loop .inv) g in let i = e .0 .here .inside in let z = e .1 in omega arith
 
 loop-again : tie.Need-loop-again Inv-loop μ-loop
 loop-again c = let m = c .before .before .before .before in let st = m .before .before in let s = st .args .s .now in
-    let g : 17 < getD s (m .loop .at) 0 = let x = c .before .before .before .code .ensures in let y = c .before .before .if1 .taken in omega arith in
-    let w = c .width .ensures ∙ ap widthOf (c .before .code2 .ensures) in
+    let g = sym (c .before .before .before .goes-on .ensures) ∙ c .before .before .if1 .taken in
+    let w = c .width .ensures ∙ ap widthOf (c .before .code .ensures) in
     subst (λ (v : ℕ). Ending s (st .args .start) (m .loop .at + v)) (sym w) (ending-next s (st .args .start) (m .loop .at) (m .loop .inv) g .0)
 
 returns : tie.Need-returns Inv-loop μ-loop
 returns c = let m = c .before .before in let st = m .before .before in let s = st .args .s .now in
-    ending-end s (st .args .start) (m .loop .at) (m .loop .inv) (let x = c .before .code .ensures in let y = c .if1 .left in omega arith)
+    ending-end s (st .args .start) (m .loop .at) (m .loop .inv) (sym (c .before .goes-on .ensures) ∙ c .if1 .left)
 
 pub end-of-spec : {M : Type 1} → statement M
 end-of-spec =
@@ -54,8 +54,8 @@ end-of-spec =
     Inv-loop
     μ-loop
     loop-holds
+    goes-on-requires
     code-requires
-    code-requires-2
     width-requires
     add-at
     loop-less

@@ -5,6 +5,7 @@ use Prim.Native.Nat.{_<_, _≤_, _^_}
 use native.Mathlib.Omega.{arith}
 use mir.Syntax.{w64}
 use mir.ValLaws.{toZ-pos}
+use Rattle.codec.specs.Places.{longestSet}
 use Rattle.results.specs.declared.results.Outcome.{Outcome}
 use Rattle.results.specs.Outcome.{outcomeIs}
 use Rattle.host.specs.Numbers.{Short, lengthNumber}
@@ -16,7 +17,7 @@ use Rattle.host.proofs.operating.number.Tie as tie
 
 short : (c : tie.After-known-told) → c .before .m .given .0 .0 < 2 ^ 63
 short c =
-    let h : c .before .m .given .0 .0 ≤ 62752 = subst (λ (m : Outcome). Short (outcomeIs m)) (c .before .m .given .1) (c .before .before .before .pre) in omega arith
+    let h : c .before .m .given .0 .0 ≤ longestSet = subst (λ (m : Outcome). Short (outcomeIs m)) (c .before .m .given .1) (c .before .before .before .pre) in omega arith
 
 small : (c : tie.After-known-told2) → c .before .m2 .given .0 .0 < 2 ^ 63
 small c = let h = c .«known-told2» .given in omega arith

@@ -12,9 +12,6 @@ slice-aggregate-word c = search needs
 word-requires : tie.Need-word-requires
 word-requires c κs = search needs
 
-u16-at-requires : tie.Need-u16-at-requires
-u16-at-requires c κs = search needs
-
 natural-requires : tie.Need-natural-requires
 natural-requires c κs = search needs
 
@@ -39,10 +36,10 @@ same-length c = search needs
 returns : tie.Need-returns
 returns c =
     let at-coefficients = c .before .before .before .before .before .before .before in let at-number = at-coefficients .before .before .before .before in let at-u32-at = at-number .before in
-    let at-natural = at-u32-at .before .before .before .before in let at-u16-at = at-natural .before in let at-word = at-u16-at .before .before .before .before in
+    let at-natural = at-u32-at .before .before .before .before in let at-word = at-natural .before .before .before .before in
     let st = at-word .before .before .before .before .before in
     writes-same (omega arith)
-    (division-text (st .args .n) (at-u16-at .u16-at .result) (at-u32-at .u32-at .result) (st .args .t .now) (st .pre .1) (at-u16-at .u16-at .ensures .0) (at-u32-at .u32-at .ensures .0))
+    (division-text (st .args .n) (st .args .d) (at-u32-at .u32-at .result) (st .args .t .now) (st .pre .1) (at-u32-at .u32-at .ensures .0))
     (writes-more (at-word .word .ensures)
     (writes-more (writes-more (at-natural .natural .ensures) (writes-more (at-number .number .ensures) (at-coefficients .coefficients .ensures))) (c .before .before .word2 .ensures)))
 
@@ -52,7 +49,6 @@ division-line-spec =
     (tie.spec
     slice-aggregate-word
     word-requires
-    u16-at-requires
     natural-requires
     u32-at-requires
     number-requires

@@ -8,7 +8,7 @@ use Rattle.codec.proofs.Boundaries.{boundary-start}
 use Rattle.codec.proofs.Valid.{bytes-of}
 use Rattle.operations.specs.Operations.{firstMeetings, firstMeetingsFit}
 use Rattle.operations.proofs.Meeting.{intersection-made}
-use Rattle.subtraction.proofs.Along.{Along, along-start, along-end, along-opened, along-inside, along-valid, along-stop, along-next, nothing-ready, Decodes, level-start}
+use Rattle.subtraction.proofs.Along.{Along, along-start, along-end, along-opened, along-valid, along-stop, along-next, nothing-ready, Decodes, level-start}
 use Rattle.operations.proofs.pairs.intersect.Statement.{statement}
 use Rattle.operations.proofs.pairs.intersect.Tie as tie
 use Rattle.operations.proofs.pairs.intersect.Reads as reads
@@ -56,28 +56,19 @@ same-length c = c .before .before .before .before .before .before .meet-first .k
 returns : tie.Need-returns Inv-loop μ-loop
 returns c = let m = c .before .before .before .before .before .before .meet-first in let a = c .before .before .before .before .before .before .before .before .before .before .before .before .before .before .before .before .before .args in intersection-made (setFrom (a .a .now) 0) (setFrom (a .b .now) 0) (along-stop (c .before .before .before .before .before .before .before .before .before .before .before .before .before .loop .inv) (c .before .before .before .before .before .before .before .before .before .before .before .before .loop-test .taken) (c .before .before .before .before .before .before .before .before .before .before .before .decode-basic .ensures) (m .ensures) (not-true (m .result .fits) (c .if1 .taken)))
 
-add-pos : tie.Need-add-pos Inv-loop μ-loop
-add-pos c = let g = c .before .before .before .before .before .before .before .before .before .before .before .before .before .before .before .before .before .good .0 in let i = along-inside (c .before .before .before .before .before .before .before .before .before .before .before .before .before .loop .inv) (c .before .before .before .before .before .before .before .before .before .before .before .before .loop-test .taken) (c .before .before .before .before .before .before .before .before .before .before .before .decode-basic .ensures) in omega arith
+add-end-of : tie.Need-add-end-of Inv-loop μ-loop
+add-end-of c = let g = c .before .before .before .before .before .before .before .before .before .before .before .before .before .before .before .before .before .good .0 in omega (arith, c .before .before .before .before .before .before .before .before .before .before .before .before .loop-test .taken)
 
-mul-pos : tie.Need-mul-pos Inv-loop μ-loop
-mul-pos c = let d = c .before .before .before .before .before .before .before .before .before .before .before .before .decode-basic .ensures .divs in omega arith
-
-add-pos-2 : tie.Need-add-pos-2 Inv-loop μ-loop
-add-pos-2 c = let g = c .before .before .before .before .before .before .before .before .before .before .before .before .before .before .before .before .before .before .good .0 in let i = along-inside (c .before .before .before .before .before .before .before .before .before .before .before .before .before .before .loop .inv) (c .before .before .before .before .before .before .before .before .before .before .before .before .before .loop-test .taken) (c .before .before .before .before .before .before .before .before .before .before .before .before .decode-basic .ensures) in omega arith
-
-mul-pos-2 : tie.Need-mul-pos-2 Inv-loop μ-loop
-mul-pos-2 c = let d = c .before .before .before .before .before .before .before .before .before .before .before .before .before .decode-basic .ensures .cons in omega arith
-
-add-pos-3 : tie.Need-add-pos-3 Inv-loop μ-loop
-add-pos-3 c = let g = c .before .before .before .before .before .before .before .before .before .before .before .before .before .before .before .before .before .before .before .good .0 in let i = along-inside (c .before .before .before .before .before .before .before .before .before .before .before .before .before .before .before .loop .inv) (c .before .before .before .before .before .before .before .before .before .before .before .before .before .before .loop-test .taken) (c .before .before .before .before .before .before .before .before .before .before .before .before .before .decode-basic .ensures) in omega arith
+end-of-requires : tie.Need-end-of-requires Inv-loop μ-loop
+end-of-requires c κs = along-opened (c .before .before .before .before .before .before .before .before .before .before .before .before .before .loop .inv) (c .before .before .before .before .before .before .before .before .before .before .before .before .loop-test .taken)
 
 loop-less : tie.Need-loop-less Inv-loop μ-loop
-loop-less c = let h = c .before .before .before .before .before .before .before .before .before .before .before .before .before .before .loop-test .taken in omega arith
+loop-less c = let h = c .before .before .before .before .before .before .before .before .before .before .before .before .before .loop-test .taken in omega (arith, c .end-of .ensures)
 
 loop-again : tie.Need-loop-again Inv-loop μ-loop
 loop-again c =
-    let m = c .before .before .before .before .before .before .before .before .meet-first in
-    along-next (c .before .before .before .before .before .before .before .before .before .before .before .before .before .before .before .loop .inv) (c .before .before .before .before .before .before .before .before .before .before .before .before .before .before .loop-test .taken) (c .before .before .before .before .before .before .before .before .before .before .before .before .before .decode-basic .ensures) (m .ensures) (m .kept .1 .1 .0) (m .kept .1 .1 .1 .1 .0) (m .kept .1 .1 .1 .1 .1 .0) (m .kept .1 .1 .1 .1 .1 .1 .0) (not-false (m .result .fits) (c .before .before .if1 .left))
+    let m = c .before .before .before .before .before .before .before .meet-first in
+    along-next (c .before .before .before .before .before .before .before .before .before .before .before .before .before .before .loop .inv) (c .before .before .before .before .before .before .before .before .before .before .before .before .before .loop-test .taken) (c .before .before .before .before .before .before .before .before .before .before .before .before .decode-basic .ensures) (m .ensures) _ (c .end-of .ensures) (m .kept .1 .1 .0) (m .kept .1 .1 .1 .1 .0) (m .kept .1 .1 .1 .1 .1 .0) (m .kept .1 .1 .1 .1 .1 .1 .0) (not-false (m .result .fits) (c .before .if1 .left))
 
 same-length-2 : tie.Need-same-length-2 Inv-loop μ-loop
 same-length-2 c = c .before .loop .inv .same
@@ -100,11 +91,8 @@ intersect-spec =
     meet-first-requires
     same-length
     returns
-    add-pos
-    mul-pos
-    add-pos-2
-    mul-pos-2
-    add-pos-3
+    add-end-of
+    end-of-requires
     loop-less
     loop-again
     same-length-2

@@ -8,7 +8,7 @@ use Rattle.algebra.specs.Cut.{keeps, bothFits}
 use Rattle.codec.proofs.Valid.{bytes-of}
 use Rattle.operations.specs.Operations.{meeting}
 use Rattle.operations.proofs.Meeting.{SoundOver}
-use Rattle.subtraction.proofs.Along.{Along, along-start, along-end, along-opened, along-inside, along-valid, along-stop, along-next}
+use Rattle.subtraction.proofs.Along.{Along, along-start, along-end, along-opened, along-valid, along-stop, along-next}
 use Rattle.operations.proofs.pairs.meet_all.Statement.{statement}
 use Rattle.operations.proofs.pairs.meet_all.Tie as tie
 use Rattle.operations.proofs.pairs.meet_all.Reads as reads
@@ -57,28 +57,19 @@ same-length-4 c = c .before .before .before .before .before .before .before .bef
 returns : tie.Need-returns Inv-loop μ-loop
 returns c = let m = c .before .before .before .before .before .before .before .before .meet in along-stop (c .before .before .before .before .before .before .before .before .before .before .before .before .before .before .before .loop .inv) (c .before .before .before .before .before .before .before .before .before .before .before .before .before .before .loop-test .taken) (c .before .before .before .before .before .before .before .before .before .before .before .before .before .decode-basic .ensures) (m .ensures) (not-true (m .result .fits) (c .if1 .taken))
 
-add-pos : tie.Need-add-pos Inv-loop μ-loop
-add-pos c = let g = c .before .before .before .before .before .before .before .before .before .before .before .before .before .before .before .before .before .before .before .before .good .1 .0 in let i = along-inside (c .before .before .before .before .before .before .before .before .before .before .before .before .before .before .before .loop .inv) (c .before .before .before .before .before .before .before .before .before .before .before .before .before .before .loop-test .taken) (c .before .before .before .before .before .before .before .before .before .before .before .before .before .decode-basic .ensures) in omega arith
+add-end-of : tie.Need-add-end-of Inv-loop μ-loop
+add-end-of c = let g = c .before .before .before .before .before .before .before .before .before .before .before .before .before .before .before .before .before .before .before .before .good .1 .0 in omega (arith, c .before .before .before .before .before .before .before .before .before .before .before .before .before .before .loop-test .taken)
 
-mul-pos : tie.Need-mul-pos Inv-loop μ-loop
-mul-pos c = let d = c .before .before .before .before .before .before .before .before .before .before .before .before .before .before .decode-basic .ensures .divs in omega arith
-
-add-pos-2 : tie.Need-add-pos-2 Inv-loop μ-loop
-add-pos-2 c = let g = c .before .before .before .before .before .before .before .before .before .before .before .before .before .before .before .before .before .before .before .before .before .good .1 .0 in let i = along-inside (c .before .before .before .before .before .before .before .before .before .before .before .before .before .before .before .before .loop .inv) (c .before .before .before .before .before .before .before .before .before .before .before .before .before .before .before .loop-test .taken) (c .before .before .before .before .before .before .before .before .before .before .before .before .before .before .decode-basic .ensures) in omega arith
-
-mul-pos-2 : tie.Need-mul-pos-2 Inv-loop μ-loop
-mul-pos-2 c = let d = c .before .before .before .before .before .before .before .before .before .before .before .before .before .before .before .decode-basic .ensures .cons in omega arith
-
-add-pos-3 : tie.Need-add-pos-3 Inv-loop μ-loop
-add-pos-3 c = let g = c .before .before .before .before .before .before .before .before .before .before .before .before .before .before .before .before .before .before .before .before .before .before .good .1 .0 in let i = along-inside (c .before .before .before .before .before .before .before .before .before .before .before .before .before .before .before .before .before .loop .inv) (c .before .before .before .before .before .before .before .before .before .before .before .before .before .before .before .before .loop-test .taken) (c .before .before .before .before .before .before .before .before .before .before .before .before .before .before .before .decode-basic .ensures) in omega arith
+end-of-requires : tie.Need-end-of-requires Inv-loop μ-loop
+end-of-requires c κs = along-opened (c .before .before .before .before .before .before .before .before .before .before .before .before .before .before .before .loop .inv) (c .before .before .before .before .before .before .before .before .before .before .before .before .before .before .loop-test .taken)
 
 loop-less : tie.Need-loop-less Inv-loop μ-loop
-loop-less c = let h = c .before .before .before .before .before .before .before .before .before .before .before .before .before .before .before .before .loop-test .taken in omega arith
+loop-less c = let h = c .before .before .before .before .before .before .before .before .before .before .before .before .before .before .before .loop-test .taken in omega (arith, c .end-of .ensures)
 
 loop-again : tie.Need-loop-again Inv-loop μ-loop
 loop-again c =
-    let m = c .before .before .before .before .before .before .before .before .before .before .meet in
-    along-next (c .before .before .before .before .before .before .before .before .before .before .before .before .before .before .before .before .before .loop .inv) (c .before .before .before .before .before .before .before .before .before .before .before .before .before .before .before .before .loop-test .taken) (c .before .before .before .before .before .before .before .before .before .before .before .before .before .before .before .decode-basic .ensures) (m .ensures) (m .kept .1 .1 .0) (m .kept .1 .1 .1 .1 .0) (m .kept .1 .1 .1 .1 .1 .0) (m .kept .1 .1 .1 .1 .1 .1 .0) (not-false (m .result .fits) (c .before .before .if1 .left))
+    let m = c .before .before .before .before .before .before .before .before .before .meet in
+    along-next (c .before .before .before .before .before .before .before .before .before .before .before .before .before .before .before .before .loop .inv) (c .before .before .before .before .before .before .before .before .before .before .before .before .before .before .before .loop-test .taken) (c .before .before .before .before .before .before .before .before .before .before .before .before .before .before .decode-basic .ensures) (m .ensures) _ (c .end-of .ensures) (m .kept .1 .1 .0) (m .kept .1 .1 .1 .1 .0) (m .kept .1 .1 .1 .1 .1 .0) (m .kept .1 .1 .1 .1 .1 .1 .0) (not-false (m .result .fits) (c .before .if1 .left))
 
 same-length-5 : tie.Need-same-length-5 Inv-loop μ-loop
 same-length-5 c = c .before .loop .inv .same
@@ -110,11 +101,8 @@ meet-all-spec =
     same-length-3
     same-length-4
     returns
-    add-pos
-    mul-pos
-    add-pos-2
-    mul-pos-2
-    add-pos-3
+    add-end-of
+    end-of-requires
     loop-less
     loop-again
     same-length-5

@@ -15,25 +15,19 @@ slice-aggregate-divided c = search needs
 divided-requires : tie.Need-divided-requires
 divided-requires c κs = search needs
 
-mul-judged : tie.Need-mul-judged
-mul-judged c = search needs
-
-add-judged : tie.Need-add-judged
-add-judged c = search needs
-
 array-share-prefix-q : tie.Need-array-share-prefix-q
 array-share-prefix-q c = search needs
 
 slice-aggregate-judged : tie.Need-slice-aggregate-judged
 slice-aggregate-judged c =
     let d = c .before .before in let k = d .divided .kept .1 .1 .1 .0 in let l = d .before .before .no-values .ensures .0 in let f = d .divided .ensures .few in
-    omega (arith, length-take (d .divided .result) (d .divided .last .1 .1 .1 .0))
+    omega (arith, length-take (d .divided .result .count) (d .divided .last .1 .1 .1 .0))
 
 judged-requires : tie.Need-judged-requires
 judged-requires c κs =
     let d = c .before .before in let st = d .before .before .before .before in
     let k = d .divided .kept .1 .1 .1 .0 in let l = d .before .before .no-values .ensures .0 in let f = d .divided .ensures .few in
-    (d .divided .ensures .there, st .pre .1, record { few = omega (arith, length-take (d .divided .result) (d .divided .last .1 .1 .1 .0)); values = take-within _ (d .divided .last .1 .1 .1 .0) (d .divided .result) (d .divided .ensures .values) })
+    (d .divided .ensures .past .there, st .pre .1, record { few = omega (arith, length-take (d .divided .result .count) (d .divided .last .1 .1 .1 .0)); values = take-within _ (d .divided .last .1 .1 .1 .0) (d .divided .result .count) (d .divided .ensures .values) })
 
 returns : tie.Need-returns
 returns c =
@@ -47,8 +41,6 @@ spanned-spec =
     no-values-requires
     slice-aggregate-divided
     divided-requires
-    mul-judged
-    add-judged
     array-share-prefix-q
     slice-aggregate-judged
     judged-requires

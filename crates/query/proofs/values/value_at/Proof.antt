@@ -1,11 +1,10 @@
 use mathlib.Core.Path.{sym, ap₂, _∙_}
 use Prim.Native.Nat.{_+_, _-_}
-use lib.ListN.{take, drop}
 use lib.IntN.{_+ℤ_}
 use mir.Syntax.{w64}
 use Rattle.integers.specs.Mach.{toZ-ofZ, result-is}
 use Rattle.model.specs.Sets.{dot}
-use Rattle.codec.specs.Bytes.{valueOf, signed, signedList}
+use Rattle.codec.specs.Bytes.{constantIn, axesIn, divisionsIn}
 use Rattle.query.proofs.Reading.{dots-fit, value-fits, value-one}
 use borrow.Author.Needs.{needs}
 use Rattle.query.proofs.values.value_at.Statement.{statement}
@@ -33,7 +32,7 @@ returns c k =
     toZ-ofZ (add-result s)
     ∙ ap₂ _+ℤ_ (result-is w64 (s .s32-at .result) (s .s32-at .ok) ∙ s .s32-at .ensures .0)
     (toZ-ofZ (add-a d2) ∙ ap₂ _+ℤ_ (result-is w64 (d1 .dot-at .result) (d1 .dot-at .ok) ∙ d1 .dot-at .ensures .0) (result-is w64 (d2 .dot-at2 .result) (d2 .dot-at2 .ok) ∙ d2 .dot-at2 .ensures .0))
-    ∙ sym (value-one (signed 4 (valueOf (take 4 t))) (dot (signedList 8 (drop 4 t)) x +ℤ dot (signedList 8 (drop 20 t)) q))
+    ∙ sym (value-one (constantIn t) (dot (axesIn t) x +ℤ dot (divisionsIn t) q))
 
 pub value-at-spec : {M : Type 1} → statement M
 value-at-spec = tie.close (tie.spec dot-at-requires dot-at-requires-2 add-a s32-at-requires add-result returns)

@@ -1,15 +1,15 @@
-use Rattle.model.specs.Sets as S
-use Rattle.records.proofs.Filling.{one-more}
-use native.Mathlib.Omega.{arith}
-use mathlib.Core.Path.{_≡_, refl, sym, ap, ap₂, _∙_, subst}
-use mathlib.Core.Bool.{true, _||_}
+use mathlib.Core.Path.{_≡_, refl, sym, ap, ap₂, _∙_, subst, subst₂}
+use mathlib.Core.Bool.{true}
 use mathlib.Core.List.{List, [], map}
-use Prim.Native.Nat.{ℕ, _+_, _-_, _<_}
-use lib.ListN.{length, take, drop, getD, length-set}
-use lib.Dec.{eqb}
-use Rattle.codec.specs.Bytes.{readDivision, readConstraint, kindOf}
+use native.Mathlib.Omega.{arith}
+use Prim.Native.Nat.{ℕ, _+_, _-_, _≤_, _<_}
+use lib.ListN.{length, take, getD, length-set}
+use Rattle.model.specs.Sets as S
 use Rattle.model.specs.Values.{divisionOf, constraintOf}
-use Rattle.records.proofs.Filling.{Filling, Settled, fill-start, fill-division, fill-constraint, division-room, constraint-room, settle, decoded, stored}
+use Rattle.codec.specs.Bytes.{isDivision, isConstraint, divisionBody, constraintBody, readDivision, readConstraint, kindOf}
+use Rattle.codec.specs.Places.{divisionAt, constraintAt}
+use Rattle.codec.proofs.Standing.{DivisionAt, ConstraintAt}
+use Rattle.records.proofs.Filling.{Filling, Settled, one-more, fill-start, fill-division, fill-constraint, division-here, constraint-here, settled, decoded, stored}
 use Rattle.records.proofs.decoding.decode_basic.Statement.{statement}
 use Rattle.records.proofs.decoding.decode_basic.Tie as tie
 
@@ -31,80 +31,143 @@ no-divisions-requires c κs = tt
 loop-holds : tie.Need-loop-holds Inv-loop μ-loop Inv-loop2 μ-loop2
 loop-holds c = let st = c .before .before in (fill-start (st .args .s .now) (st .args .start) (st .pre), refl, c .no-divisions .ensures)
 
-code-requires : tie.Need-code-requires Inv-loop μ-loop Inv-loop2 μ-loop2
-code-requires c κs = tt
+division-at-requires : tie.Need-division-at-requires Inv-loop μ-loop Inv-loop2 μ-loop2
+division-at-requires c κs = tt
 
-add-tail : tie.Need-add-tail Inv-loop μ-loop Inv-loop2 μ-loop2
-add-tail c = let t1 = c in let co = t1 .before in let m = co .before in let nd = m .before in let l = nd .before in let st = l .before in let s = st .args .s .now in let first = st .args .start in let at = m .loop .at in let ds = m .loop .ds in let d = m .loop .d in let D = map divisionOf (take d ds) in let f = m .loop .inv .0 in let e : getD s at 0 ≡ 18 = sym (co .code .ensures) ∙ t1 .if1 .taken in let room = division-room s first at D [] f e in let dl = m .loop .inv .1 in let ll = m .loop .inv .2 in omega arith
+-- ---- a division: the start, those read before it, and what stands at the place
+abbrev start : tie.At-loop Inv-loop μ-loop Inv-loop2 μ-loop2 → tie.Start Inv-loop μ-loop Inv-loop2 μ-loop2
+start m = m .before .before .before
 
-tail-requires : tie.Need-tail-requires Inv-loop μ-loop Inv-loop2 μ-loop2
-tail-requires c κs = let t1 = c in let co = t1 .before in let m = co .before in let nd = m .before in let l = nd .before in let st = l .before in let s = st .args .s .now in let first = st .args .start in let at = m .loop .at in let ds = m .loop .ds in let d = m .loop .d in let D = map divisionOf (take d ds) in let f = m .loop .inv .0 in let e : getD s at 0 ≡ 18 = sym (co .code .ensures) ∙ t1 .if1 .taken in let room = division-room s first at D [] f e in let dl = m .loop .inv .1 in let ll = m .loop .inv .2 in omega arith
+module _ (t : tie.Then1 Inv-loop μ-loop Inv-loop2 μ-loop2) where
+  abbrev m : tie.At-loop Inv-loop μ-loop Inv-loop2 μ-loop2
+  m = t .before .before
+
+  abbrev s : List ℕ
+  s = start m .args .s .now
+
+  abbrev D : List S.Division
+  D = map divisionOf (take (m .loop .d) (m .loop .ds))
+
+  code : isDivision (getD s (m .loop .at) 0) ≡ true
+  code = sym (t .before .division-at .ensures) ∙ t .if1 .taken
+
+  here : DivisionAt (m .loop .inv .0 .n) s (m .loop .at) (m .loop .inv .0 .k)
+  here = division-here s (start m .args .start) (m .loop .at) D [] (m .loop .inv .0) code
+
+  few : m .loop .d < 8
+  few = let f = here .few in let d = m .loop .inv .0 .d in let e = m .loop .inv .1 in omega arith
+
+head-requires : tie.Need-head-requires Inv-loop μ-loop Inv-loop2 μ-loop2
+head-requires c κs = here c .whole
+
+body-requires : tie.Need-body-requires Inv-loop μ-loop Inv-loop2 μ-loop2
+body-requires c κs = here (c .before) .whole
 
 read-division-requires : tie.Need-read-division-requires Inv-loop μ-loop Inv-loop2 μ-loop2
-read-division-requires c κs = let ta = c in let t1 = ta .before in let co = t1 .before in let m = co .before in let nd = m .before in let l = nd .before in let st = l .before in let s = st .args .s .now in let first = st .args .start in let at = m .loop .at in let ds = m .loop .ds in let d = m .loop .d in let D = map divisionOf (take d ds) in let f = m .loop .inv .0 in let e : getD s at 0 ≡ 18 = sym (co .code .ensures) ∙ t1 .if1 .taken in let room = division-room s first at D [] f e in let dl = m .loop .inv .1 in let ll = m .loop .inv .2 in let q = ap length (ta .tail .ensures) in omega arith
+read-division-requires c κs = (subst (λ (t : List ℕ). divisionBody ≤ length t) (sym (c .body .ensures)) (here (c .before .before) .body), c .before .head .ensures .1)
 
 mul-ds : tie.Need-mul-ds Inv-loop μ-loop Inv-loop2 μ-loop2
-mul-ds c = let rd = c in let ta = rd .before in let t1 = ta .before in let co = t1 .before in let m = co .before in let nd = m .before in let l = nd .before in let st = l .before in let s = st .args .s .now in let first = st .args .start in let at = m .loop .at in let ds = m .loop .ds in let d = m .loop .d in let D = map divisionOf (take d ds) in let f = m .loop .inv .0 in let e : getD s at 0 ≡ 18 = sym (co .code .ensures) ∙ t1 .if1 .taken in let room = division-room s first at D [] f e in let dl = m .loop .inv .1 in let ll = m .loop .inv .2 in omega arith
+mul-ds c = let f = few (c .before .before .before) in omega arith
 
 array-set-from-ds : tie.Need-array-set-from-ds Inv-loop μ-loop Inv-loop2 μ-loop2
-array-set-from-ds c = let rd = c in let ta = rd .before in let t1 = ta .before in let co = t1 .before in let m = co .before in let nd = m .before in let l = nd .before in let st = l .before in let s = st .args .s .now in let first = st .args .start in let at = m .loop .at in let ds = m .loop .ds in let d = m .loop .d in let D = map divisionOf (take d ds) in let f = m .loop .inv .0 in let e : getD s at 0 ≡ 18 = sym (co .code .ensures) ∙ t1 .if1 .taken in let room = division-room s first at D [] f e in let dl = m .loop .inv .1 in let ll = m .loop .inv .2 in omega arith
+array-set-from-ds c = let t = c .before .before .before in let f = few t in let l = m t .loop .inv .2 in omega arith
 
 add-d : tie.Need-add-d Inv-loop μ-loop Inv-loop2 μ-loop2
-add-d c = let rd = c in let ta = rd .before in let t1 = ta .before in let co = t1 .before in let m = co .before in let nd = m .before in let l = nd .before in let st = l .before in let s = st .args .s .now in let first = st .args .start in let at = m .loop .at in let ds = m .loop .ds in let d = m .loop .d in let D = map divisionOf (take d ds) in let f = m .loop .inv .0 in let e : getD s at 0 ≡ 18 = sym (co .code .ensures) ∙ t1 .if1 .taken in let room = division-room s first at D [] f e in let dl = m .loop .inv .1 in let ll = m .loop .inv .2 in omega arith
+add-d c = let f = few (c .before .before .before) in omega arith
 
-add-at : tie.Need-add-at Inv-loop μ-loop Inv-loop2 μ-loop2
-add-at c = let rd = c in let ta = rd .before in let t1 = ta .before in let co = t1 .before in let m = co .before in let nd = m .before in let l = nd .before in let st = l .before in let s = st .args .s .now in let first = st .args .start in let at = m .loop .at in let ds = m .loop .ds in let d = m .loop .d in let D = map divisionOf (take d ds) in let f = m .loop .inv .0 in let e : getD s at 0 ≡ 18 = sym (co .code .ensures) ∙ t1 .if1 .taken in let room = division-room s first at D [] f e in let dl = m .loop .inv .1 in let ll = m .loop .inv .2 in omega arith
+next-requires : tie.Need-next-requires Inv-loop μ-loop Inv-loop2 μ-loop2
+next-requires c κs = here (c .before .before .before) .whole
 
 loop-less : tie.Need-loop-less Inv-loop μ-loop Inv-loop2 μ-loop2
-loop-less c = let rd = c in let ta = rd .before in let t1 = ta .before in let co = t1 .before in let m = co .before in let nd = m .before in let l = nd .before in let st = l .before in let s = st .args .s .now in let first = st .args .start in let at = m .loop .at in let ds = m .loop .ds in let d = m .loop .d in let D = map divisionOf (take d ds) in let f = m .loop .inv .0 in let e : getD s at 0 ≡ 18 = sym (co .code .ensures) ∙ t1 .if1 .taken in let room = division-room s first at D [] f e in let dl = m .loop .inv .1 in let ll = m .loop .inv .2 in omega arith
+loop-less c = let h = here (c .before .before .before .before) .whole in let r = h .room in let w = h .known in omega (arith, c .next .ensures)
 
 loop-again : tie.Need-loop-again Inv-loop μ-loop Inv-loop2 μ-loop2
-loop-again c = let rd = c in let ta = rd .before in let t1 = ta .before in let co = t1 .before in let m = co .before in let nd = m .before in let l = nd .before in let st = l .before in let s = st .args .s .now in let first = st .args .start in let at = m .loop .at in let ds = m .loop .ds in let d = m .loop .d in let D = map divisionOf (take d ds) in let f = m .loop .inv .0 in let e : getD s at 0 ≡ 18 = sym (co .code .ensures) ∙ t1 .if1 .taken in let room = division-room s first at D [] f e in let dl = m .loop .inv .1 in let ll = m .loop .inv .2 in let h : d < length ds = omega arith in let w = stored divisionOf ds d (rd .read-division .result) (readDivision (drop (at + 1) s)) h (rd .read-division .ensures ∙ ap readDivision (ta .tail .ensures)) in (subst (λ (X : List S.Division). Filling s first (at + 23) X []) (sym w) (fill-division s first at D [] f e), ap (λ (j : ℕ). j + 1) dl ∙ sym (one-more D (readDivision (drop (at + 1) s))) ∙ ap length (sym w), length-set ds d (rd .read-division .result) ∙ ll)
+loop-again c =
+    let v = c .before in let b = v .before in let e = b .before in let t = e .before in let l = m t .loop in let first = start (m t) .args .start in
+    let f = few t in let n = l .inv .2 in let h : l .d < length (l .ds) = omega arith in
+    let w = stored divisionOf (l .ds) (l .d) (v .read-division .result) (divisionAt (s t) (l .at)) h (v .read-division .ensures ∙ ap₂ readDivision (e .head .ensures .0) (b .body .ensures)) in (
+      subst₂ (λ (p : ℕ) (X : List S.Division). Filling (s t) first p X []) (sym (c .next .ensures)) (sym w) (fill-division (s t) first (l .at) (D t) [] (l .inv .0) (code t)),
+      ap (λ (j : ℕ). j + 1) (l .inv .1) ∙ sym (one-more (D t) (divisionAt (s t) (l .at))) ∙ ap length (sym w),
+      length-set (l .ds) (l .d) (v .read-division .result) ∙ n,
+    )
 
 no-constraints-requires : tie.Need-no-constraints-requires Inv-loop μ-loop Inv-loop2 μ-loop2
 no-constraints-requires c κs = tt
 
 loop2-holds : tie.Need-loop2-holds Inv-loop μ-loop Inv-loop2 μ-loop2
-loop2-holds c = let nr = c in let e1 = nr .before in let co = e1 .before in let m = co .before in let nd = m .before in let l = nd .before in let st = l .before in let f = m .loop .inv .0 in (record { filling = f; no-more = settle (st .args .s .now) (st .args .start) (m .loop .at) (map divisionOf (take (m .loop .d) (m .loop .ds))) [] f (λ q. e1 .if1 .left (co .code .ensures ∙ q)) }, refl, nr .no-constraints .ensures)
+loop2-holds c =
+    let e = c .before in let y = e .before in let m = y .before in let a = start m .args in
+    (settled (a .s .now) (a .start) (m .loop .at) (map divisionOf (take (m .loop .d) (m .loop .ds))) [] (m .loop .inv .0) (sym (y .division-at .ensures) ∙ e .if1 .left), refl, c .no-constraints .ensures)
 
-code-requires-2 : tie.Need-code-requires-2 Inv-loop μ-loop Inv-loop2 μ-loop2
-code-requires-2 c κs = tt
+constraint-at-requires : tie.Need-constraint-at-requires Inv-loop μ-loop Inv-loop2 μ-loop2
+constraint-at-requires c κs = tt
 
-is-constraint-requires : tie.Need-is-constraint-requires Inv-loop μ-loop Inv-loop2 μ-loop2
-is-constraint-requires c κs = tt
+-- ---- a constraint
+abbrev earlier : tie.At-loop2 Inv-loop μ-loop Inv-loop2 μ-loop2 → tie.At-loop Inv-loop μ-loop Inv-loop2 μ-loop2
+earlier m = m .before .before .before .before
 
-code-requires-3 : tie.Need-code-requires-3 Inv-loop μ-loop Inv-loop2 μ-loop2
-code-requires-3 c κs = tt
+module _ (t : tie.Then2 Inv-loop μ-loop Inv-loop2 μ-loop2) where
+  abbrev m2 : tie.At-loop2 Inv-loop μ-loop Inv-loop2 μ-loop2
+  m2 = t .before .before
 
-add-tail-2 : tie.Need-add-tail-2 Inv-loop μ-loop Inv-loop2 μ-loop2
-add-tail-2 c = let c3 = c in let t2 = c3 .before in let ir = t2 .before in let c2 = ir .before in let m2 = c2 .before in let nr = m2 .before in let e1 = nr .before in let co = e1 .before in let m = co .before in let nd = m .before in let l = nd .before in let st = l .before in let s = st .args .s .now in let first = st .args .start in let at = m2 .loop2 .at in let ds = m .loop .ds in let d = m .loop .d in let D = map divisionOf (take d ds) in let rs = m2 .loop2 .rs in let r = m2 .loop2 .r in let R = map constraintOf (take r rs) in let f = m2 .loop2 .inv .0 in let e : (eqb (getD s at 0) 19 || eqb (getD s at 0) 20) ≡ true = ap (λ (b : ℕ). eqb b 19 || eqb b 20) (sym (c2 .code2 .ensures)) ∙ sym (ir .is-constraint .ensures) ∙ t2 .if2 .taken in let room = constraint-room s first at D R (f .filling) e in let rl = m2 .loop2 .inv .1 in let ll = m2 .loop2 .inv .2 in omega arith
+  abbrev s2 : List ℕ
+  s2 = start (earlier m2) .args .s .now
 
-tail-requires-2 : tie.Need-tail-requires-2 Inv-loop μ-loop Inv-loop2 μ-loop2
-tail-requires-2 c κs = let c3 = c in let t2 = c3 .before in let ir = t2 .before in let c2 = ir .before in let m2 = c2 .before in let nr = m2 .before in let e1 = nr .before in let co = e1 .before in let m = co .before in let nd = m .before in let l = nd .before in let st = l .before in let s = st .args .s .now in let first = st .args .start in let at = m2 .loop2 .at in let ds = m .loop .ds in let d = m .loop .d in let D = map divisionOf (take d ds) in let rs = m2 .loop2 .rs in let r = m2 .loop2 .r in let R = map constraintOf (take r rs) in let f = m2 .loop2 .inv .0 in let e : (eqb (getD s at 0) 19 || eqb (getD s at 0) 20) ≡ true = ap (λ (b : ℕ). eqb b 19 || eqb b 20) (sym (c2 .code2 .ensures)) ∙ sym (ir .is-constraint .ensures) ∙ t2 .if2 .taken in let room = constraint-room s first at D R (f .filling) e in let rl = m2 .loop2 .inv .1 in let ll = m2 .loop2 .inv .2 in omega arith
+  abbrev E : List S.Division
+  E = map divisionOf (take (earlier m2 .loop .d) (earlier m2 .loop .ds))
+
+  abbrev R : List S.Constraint
+  R = map constraintOf (take (m2 .loop2 .r) (m2 .loop2 .rs))
+
+  code2 : isConstraint (getD s2 (m2 .loop2 .at) 0) ≡ true
+  code2 = sym (t .before .constraint-at .ensures) ∙ t .if2 .taken
+
+  here2 : ConstraintAt (m2 .loop2 .inv .0 .filling .n) s2 (m2 .loop2 .at) (m2 .loop2 .inv .0 .filling .k)
+  here2 = constraint-here s2 (start (earlier m2) .args .start) (m2 .loop2 .at) E R (m2 .loop2 .inv .0 .filling) code2
+
+  few2 : m2 .loop2 .r < 48
+  few2 = let f = here2 .few in let d = m2 .loop2 .inv .0 .filling .r in let e = m2 .loop2 .inv .1 in omega arith
+
+code-requires : tie.Need-code-requires Inv-loop μ-loop Inv-loop2 μ-loop2
+code-requires c κs = tt
+
+body-requires-2 : tie.Need-body-requires-2 Inv-loop μ-loop Inv-loop2 μ-loop2
+body-requires-2 c κs = here2 (c .before) .whole
 
 read-constraint-requires : tie.Need-read-constraint-requires Inv-loop μ-loop Inv-loop2 μ-loop2
-read-constraint-requires c κs = let ta = c in let c3 = ta .before in let t2 = c3 .before in let ir = t2 .before in let c2 = ir .before in let m2 = c2 .before in let nr = m2 .before in let e1 = nr .before in let co = e1 .before in let m = co .before in let nd = m .before in let l = nd .before in let st = l .before in let s = st .args .s .now in let first = st .args .start in let at = m2 .loop2 .at in let ds = m .loop .ds in let d = m .loop .d in let D = map divisionOf (take d ds) in let rs = m2 .loop2 .rs in let r = m2 .loop2 .r in let R = map constraintOf (take r rs) in let f = m2 .loop2 .inv .0 in let e : (eqb (getD s at 0) 19 || eqb (getD s at 0) 20) ≡ true = ap (λ (b : ℕ). eqb b 19 || eqb b 20) (sym (c2 .code2 .ensures)) ∙ sym (ir .is-constraint .ensures) ∙ t2 .if2 .taken in let room = constraint-room s first at D R (f .filling) e in let rl = m2 .loop2 .inv .1 in let ll = m2 .loop2 .inv .2 in let q = ap length (ta .tail2 .ensures) in omega arith
+read-constraint-requires c κs = subst (λ (t : List ℕ). constraintBody ≤ length t) (sym (c .body2 .ensures)) (here2 (c .before .before) .body)
 
 mul-rs : tie.Need-mul-rs Inv-loop μ-loop Inv-loop2 μ-loop2
-mul-rs c = let rr = c in let ta = rr .before in let c3 = ta .before in let t2 = c3 .before in let ir = t2 .before in let c2 = ir .before in let m2 = c2 .before in let nr = m2 .before in let e1 = nr .before in let co = e1 .before in let m = co .before in let nd = m .before in let l = nd .before in let st = l .before in let s = st .args .s .now in let first = st .args .start in let at = m2 .loop2 .at in let ds = m .loop .ds in let d = m .loop .d in let D = map divisionOf (take d ds) in let rs = m2 .loop2 .rs in let r = m2 .loop2 .r in let R = map constraintOf (take r rs) in let f = m2 .loop2 .inv .0 in let e : (eqb (getD s at 0) 19 || eqb (getD s at 0) 20) ≡ true = ap (λ (b : ℕ). eqb b 19 || eqb b 20) (sym (c2 .code2 .ensures)) ∙ sym (ir .is-constraint .ensures) ∙ t2 .if2 .taken in let room = constraint-room s first at D R (f .filling) e in let rl = m2 .loop2 .inv .1 in let ll = m2 .loop2 .inv .2 in omega arith
+mul-rs c = let f = few2 (c .before .before .before) in omega arith
 
 array-set-from-rs : tie.Need-array-set-from-rs Inv-loop μ-loop Inv-loop2 μ-loop2
-array-set-from-rs c = let rr = c in let ta = rr .before in let c3 = ta .before in let t2 = c3 .before in let ir = t2 .before in let c2 = ir .before in let m2 = c2 .before in let nr = m2 .before in let e1 = nr .before in let co = e1 .before in let m = co .before in let nd = m .before in let l = nd .before in let st = l .before in let s = st .args .s .now in let first = st .args .start in let at = m2 .loop2 .at in let ds = m .loop .ds in let d = m .loop .d in let D = map divisionOf (take d ds) in let rs = m2 .loop2 .rs in let r = m2 .loop2 .r in let R = map constraintOf (take r rs) in let f = m2 .loop2 .inv .0 in let e : (eqb (getD s at 0) 19 || eqb (getD s at 0) 20) ≡ true = ap (λ (b : ℕ). eqb b 19 || eqb b 20) (sym (c2 .code2 .ensures)) ∙ sym (ir .is-constraint .ensures) ∙ t2 .if2 .taken in let room = constraint-room s first at D R (f .filling) e in let rl = m2 .loop2 .inv .1 in let ll = m2 .loop2 .inv .2 in omega arith
+array-set-from-rs c = let t = c .before .before .before in let f = few2 t in let l = m2 t .loop2 .inv .2 in omega arith
 
 add-r : tie.Need-add-r Inv-loop μ-loop Inv-loop2 μ-loop2
-add-r c = let rr = c in let ta = rr .before in let c3 = ta .before in let t2 = c3 .before in let ir = t2 .before in let c2 = ir .before in let m2 = c2 .before in let nr = m2 .before in let e1 = nr .before in let co = e1 .before in let m = co .before in let nd = m .before in let l = nd .before in let st = l .before in let s = st .args .s .now in let first = st .args .start in let at = m2 .loop2 .at in let ds = m .loop .ds in let d = m .loop .d in let D = map divisionOf (take d ds) in let rs = m2 .loop2 .rs in let r = m2 .loop2 .r in let R = map constraintOf (take r rs) in let f = m2 .loop2 .inv .0 in let e : (eqb (getD s at 0) 19 || eqb (getD s at 0) 20) ≡ true = ap (λ (b : ℕ). eqb b 19 || eqb b 20) (sym (c2 .code2 .ensures)) ∙ sym (ir .is-constraint .ensures) ∙ t2 .if2 .taken in let room = constraint-room s first at D R (f .filling) e in let rl = m2 .loop2 .inv .1 in let ll = m2 .loop2 .inv .2 in omega arith
+add-r c = let f = few2 (c .before .before .before) in omega arith
 
-add-at-2 : tie.Need-add-at-2 Inv-loop μ-loop Inv-loop2 μ-loop2
-add-at-2 c = let rr = c in let ta = rr .before in let c3 = ta .before in let t2 = c3 .before in let ir = t2 .before in let c2 = ir .before in let m2 = c2 .before in let nr = m2 .before in let e1 = nr .before in let co = e1 .before in let m = co .before in let nd = m .before in let l = nd .before in let st = l .before in let s = st .args .s .now in let first = st .args .start in let at = m2 .loop2 .at in let ds = m .loop .ds in let d = m .loop .d in let D = map divisionOf (take d ds) in let rs = m2 .loop2 .rs in let r = m2 .loop2 .r in let R = map constraintOf (take r rs) in let f = m2 .loop2 .inv .0 in let e : (eqb (getD s at 0) 19 || eqb (getD s at 0) 20) ≡ true = ap (λ (b : ℕ). eqb b 19 || eqb b 20) (sym (c2 .code2 .ensures)) ∙ sym (ir .is-constraint .ensures) ∙ t2 .if2 .taken in let room = constraint-room s first at D R (f .filling) e in let rl = m2 .loop2 .inv .1 in let ll = m2 .loop2 .inv .2 in omega arith
+next-requires-2 : tie.Need-next-requires-2 Inv-loop μ-loop Inv-loop2 μ-loop2
+next-requires-2 c κs = here2 (c .before .before .before) .whole
 
 loop2-less : tie.Need-loop2-less Inv-loop μ-loop Inv-loop2 μ-loop2
-loop2-less c = let rr = c in let ta = rr .before in let c3 = ta .before in let t2 = c3 .before in let ir = t2 .before in let c2 = ir .before in let m2 = c2 .before in let nr = m2 .before in let e1 = nr .before in let co = e1 .before in let m = co .before in let nd = m .before in let l = nd .before in let st = l .before in let s = st .args .s .now in let first = st .args .start in let at = m2 .loop2 .at in let ds = m .loop .ds in let d = m .loop .d in let D = map divisionOf (take d ds) in let rs = m2 .loop2 .rs in let r = m2 .loop2 .r in let R = map constraintOf (take r rs) in let f = m2 .loop2 .inv .0 in let e : (eqb (getD s at 0) 19 || eqb (getD s at 0) 20) ≡ true = ap (λ (b : ℕ). eqb b 19 || eqb b 20) (sym (c2 .code2 .ensures)) ∙ sym (ir .is-constraint .ensures) ∙ t2 .if2 .taken in let room = constraint-room s first at D R (f .filling) e in let rl = m2 .loop2 .inv .1 in let ll = m2 .loop2 .inv .2 in omega arith
+loop2-less c = let h = here2 (c .before .before .before .before) .whole in let r = h .room in let w = h .known in omega (arith, c .next2 .ensures)
 
 loop2-again : tie.Need-loop2-again Inv-loop μ-loop Inv-loop2 μ-loop2
-loop2-again c = let rr = c in let ta = rr .before in let c3 = ta .before in let t2 = c3 .before in let ir = t2 .before in let c2 = ir .before in let m2 = c2 .before in let nr = m2 .before in let e1 = nr .before in let co = e1 .before in let m = co .before in let nd = m .before in let l = nd .before in let st = l .before in let s = st .args .s .now in let first = st .args .start in let at = m2 .loop2 .at in let ds = m .loop .ds in let d = m .loop .d in let D = map divisionOf (take d ds) in let rs = m2 .loop2 .rs in let r = m2 .loop2 .r in let R = map constraintOf (take r rs) in let f = m2 .loop2 .inv .0 in let e : (eqb (getD s at 0) 19 || eqb (getD s at 0) 20) ≡ true = ap (λ (b : ℕ). eqb b 19 || eqb b 20) (sym (c2 .code2 .ensures)) ∙ sym (ir .is-constraint .ensures) ∙ t2 .if2 .taken in let room = constraint-room s first at D R (f .filling) e in let rl = m2 .loop2 .inv .1 in let ll = m2 .loop2 .inv .2 in let h : r < length rs = omega arith in let mr = readConstraint (kindOf (getD s at 0)) (drop (at + 1) s) in let w = stored constraintOf rs r (rr .read-constraint .result) mr h (rr .read-constraint .ensures ∙ ap₂ (λ (b : ℕ) (y : List ℕ). readConstraint (kindOf b) y) (c3 .code3 .ensures) (ta .tail2 .ensures)) in (subst (λ (X : List S.Constraint). Settled s first (at + 37) D X) (sym w) (fill-constraint s first at D R f e), ap (λ (j : ℕ). j + 1) rl ∙ sym (one-more R mr) ∙ ap length (sym w), length-set rs r (rr .read-constraint .result) ∙ ll)
+loop2-again c =
+    let v = c .before in let b = v .before in let e = b .before in let t = e .before in let l = m2 t .loop2 in let first = start (earlier (m2 t)) .args .start in
+    let f = few2 t in let n = l .inv .2 in let h : l .r < length (l .rs) = omega arith in
+    let w = stored constraintOf (l .rs) (l .r) (v .read-constraint .result) (constraintAt (s2 t) (l .at)) h
+    (v .read-constraint .ensures ∙ ap₂ (λ (b : ℕ) (y : List ℕ). readConstraint (kindOf b) y) (e .code .ensures) (b .body2 .ensures)) in (
+      subst₂ (λ (p : ℕ) (X : List S.Constraint). Settled (s2 t) first p (E t) X) (sym (c .next2 .ensures)) (sym w) (fill-constraint (s2 t) first (l .at) (E t) (R t) (l .inv .0) (code2 t)),
+      ap (λ (j : ℕ). j + 1) (l .inv .1) ∙ sym (one-more (R t) (constraintAt (s2 t) (l .at))) ∙ ap length (sym w),
+      length-set (l .rs) (l .r) (v .read-constraint .result) ∙ n,
+    )
 
 returns : tie.Need-returns Inv-loop μ-loop Inv-loop2 μ-loop2
-returns c = let e2 = c in let ir = e2 .before in let c2 = ir .before in let m2 = c2 .before in let nr = m2 .before in let e1 = nr .before in let co = e1 .before in let m = co .before in let nd = m .before in let l = nd .before in let st = l .before in let at = m2 .loop2 .at in let s = st .args .s .now in decoded s (st .args .start) at (m .loop .ds) (m2 .loop2 .rs) (m .loop .d) (m2 .loop2 .r) (m2 .loop2 .inv .0) (m .loop .inv .1) (m2 .loop2 .inv .1) (m .loop .inv .2) (m2 .loop2 .inv .2) (ap (λ (b : ℕ). eqb b 19 || eqb b 20) (sym (c2 .code2 .ensures)) ∙ sym (ir .is-constraint .ensures) ∙ e2 .if2 .left)
+returns c =
+    let y = c .before in let n = y .before in let m = earlier n in let a = start m .args in
+    decoded (a .s .now) (a .start) (n .loop2 .at) (m .loop .ds) (n .loop2 .rs) (m .loop .d) (n .loop2 .r) (n .loop2 .inv .0) (m .loop .inv .1) (n .loop2 .inv .1) (m .loop .inv .2) (n .loop2 .inv .2)
+    (sym (y .constraint-at .ensures) ∙ c .if2 .left)
 
 pub decode-basic-spec : {M : Type 1} → statement M
 decode-basic-spec =
@@ -116,28 +179,26 @@ decode-basic-spec =
     μ-loop2
     no-divisions-requires
     loop-holds
-    code-requires
-    add-tail
-    tail-requires
+    division-at-requires
+    head-requires
+    body-requires
     read-division-requires
     mul-ds
     array-set-from-ds
     add-d
-    add-at
+    next-requires
     loop-less
     loop-again
     no-constraints-requires
     loop2-holds
-    code-requires-2
-    is-constraint-requires
-    code-requires-3
-    add-tail-2
-    tail-requires-2
+    constraint-at-requires
+    code-requires
+    body-requires-2
     read-constraint-requires
     mul-rs
     array-set-from-rs
     add-r
-    add-at-2
+    next-requires-2
     loop2-less
     loop2-again
     returns)

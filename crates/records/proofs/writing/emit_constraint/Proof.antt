@@ -5,6 +5,7 @@ use native.Mathlib.Omega.{arith}
 use lib.ListN.{length}
 use Rattle.model.specs.Values.{constraintOf}
 use Rattle.codec.specs.Bytes.{encodeCommand, constraint}
+use Rattle.codec.specs.Places.{constraintWidth}
 use Rattle.records.specs.Writing.{Emitted}
 use Rattle.records.proofs.Emitting.{put-fresh}
 use borrow.Author.Needs.{needs}
@@ -40,7 +41,7 @@ same-length-2 c = search needs
 
 returns-2 : tie.Need-returns-2
 returns-2 c = let w = c .before .before in let b = w .before .before .before .before in let st = b .before .before .before .before in let r = st .args .r in
-    let n : length (encodeCommand (constraint (constraintOf r))) ≡ 37 = let x = b .put-constraint2 .ensures .0 .ends in let y = b .put-constraint2 .ensures .1 in omega arith in
+    let n : length (encodeCommand (constraint (constraintOf r))) ≡ constraintWidth (constraintOf r) = let x = b .put-constraint2 .ensures .0 .ends in let y = b .put-constraint2 .ensures .1 in omega arith in
     let l : b .put-constraint2 .last .0 ≡ encodeCommand (constraint (constraintOf r)) = b .put-constraint2 .ensures .0 .bytes ∙ put-fresh (encodeCommand (constraint (constraintOf r))) _ (sym n) in
     let q = w .copy-bytes .ensures .ends in
     (subst (λ (l : List ℕ). Emitted l (st .args .out .now) (st .args .at) (w .copy-bytes .result) (w .copy-bytes .last .1 .0)) l (w .copy-bytes .ensures), omega (arith, ap length l))

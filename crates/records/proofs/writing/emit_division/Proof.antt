@@ -5,6 +5,7 @@ use native.Mathlib.Omega.{arith}
 use lib.ListN.{length}
 use Rattle.model.specs.Values.{divisionOf}
 use Rattle.codec.specs.Bytes.{encodeCommand, division}
+use Rattle.codec.specs.Places.{divisionWidth}
 use Rattle.records.specs.Writing.{Emitted}
 use Rattle.records.proofs.Emitting.{put-fresh}
 use borrow.Author.Needs.{needs}
@@ -40,7 +41,7 @@ same-length-2 c = search needs
 
 returns-2 : tie.Need-returns-2
 returns-2 c = let w = c .before .before in let b = w .before .before .before .before in let st = b .before .before .before .before in let e = st .args .e in
-    let n : length (encodeCommand (division (divisionOf e))) ≡ 23 = let x = b .put-division2 .ensures .0 .ends in let y = b .put-division2 .ensures .1 in omega arith in
+    let n : length (encodeCommand (division (divisionOf e))) ≡ divisionWidth (divisionOf e) = let x = b .put-division2 .ensures .0 .ends in let y = b .put-division2 .ensures .1 in omega arith in
     let l : b .put-division2 .last .0 ≡ encodeCommand (division (divisionOf e)) = b .put-division2 .ensures .0 .bytes ∙ put-fresh (encodeCommand (division (divisionOf e))) _ (sym n) in
     let q = w .copy-bytes .ensures .ends in
     (subst (λ (l : List ℕ). Emitted l (st .args .out .now) (st .args .at) (w .copy-bytes .result) (w .copy-bytes .last .1 .0)) l (w .copy-bytes .ensures), omega (arith, ap length l))

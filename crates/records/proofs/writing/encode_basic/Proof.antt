@@ -4,6 +4,7 @@ use Prim.Native.Nat.{ℕ, _+_, _-_, _*_, _≤_, _<_}
 use native.Mathlib.Omega.{arith}
 use lib.ListN.{length, take, length-map}
 use Rattle.model.specs.Lists.{concatMap}
+use Rattle.codec.specs.Places.{longestDivision, longestConstraint}
 use Rattle.records.specs.Writing.{Emitted}
 use Rattle.records.proofs.Emitting.{emitted-none, emitted-more, emitted-next, divisionBytes, constraintBytes, encode-basic}
 use borrow.Author.Needs.{needs}
@@ -16,13 +17,13 @@ use Rattle.records.proofs.writing.emit_division.Reads as emit-division-
 use Rattle.records.proofs.writing.emit_opening.Reads as emit-opening-reads
 
 abbrev Inv-loop : tie.InvT-loop
-Inv-loop out₀ at b divs cons p₀ i₀ out p i = (i ≤ divs) × (length out ≡ length out₀) × (p ≡ p₀ + 23 * i) × Emitted (concatMap divisionBytes (take i (b .divisions))) out₀ p₀ p out
+Inv-loop out₀ at b divs cons p₀ i₀ out p i = (i ≤ divs) × (length out ≡ length out₀) × (p ≤ p₀ + longestDivision * i) × Emitted (concatMap divisionBytes (take i (b .divisions))) out₀ p₀ p out
 
 abbrev μ-loop : tie.MeasureT-loop
 μ-loop out₀ at b divs cons p₀ i₀ out p i = divs - i
 
 abbrev Inv-loop2 : tie.InvT-loop2
-Inv-loop2 out₀ at b divs cons p₀ i j₀ out p j = (j ≤ cons) × (length out ≡ length out₀) × (p ≡ p₀ + 37 * j) × Emitted (concatMap constraintBytes (take j (b .constraints))) out₀ p₀ p out
+Inv-loop2 out₀ at b divs cons p₀ i j₀ out p j = (j ≤ cons) × (length out ≡ length out₀) × (p ≤ p₀ + longestConstraint * j) × Emitted (concatMap constraintBytes (take j (b .constraints))) out₀ p₀ p out
 
 abbrev μ-loop2 : tie.MeasureT-loop2
 μ-loop2 out₀ at b divs cons p₀ i j₀ out p j = cons - j

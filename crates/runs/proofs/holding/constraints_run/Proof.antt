@@ -1,57 +1,48 @@
 use native.Mathlib.Omega.{arith}
 use mathlib.Core.Path.{_≡_, sym, ap, _∙_, subst}
-use mathlib.Core.Bool.{true, _||_}
+use mathlib.Core.Bool.{true}
 use mathlib.Core.List.{List, map}
 use borrow.Author.Needs.{needs}
 use borrow.Author.Tests.{not-true, not-false}
-use Prim.Native.Nat.{ℕ, _+_, _-_, _*_}
-use lib.Dec.{eqb}
+use Prim.Native.Nat.{ℕ, _+_, _-_}
 use lib.IntN.{ℤ}
 use lib.ListN.{length, getD}
 use Rattle.model.specs.Lists.{all}
-use Rattle.codec.specs.Places.{basicAt}
+use Rattle.codec.specs.Places.{basicAt, constraintAt}
+use Rattle.codec.specs.Bytes.{isConstraint}
 use Rattle.bounds.specs.Intervals.{Interval, quotientSide, canHold, boxOf}
 use Rattle.bounds.specs.Ends.{canStand}
-use Rattle.bounds.specs.Rows.{startOf, Numbered, constraintAt}
+use Rattle.bounds.specs.Rows.{startOf, Numbered}
 use Rattle.runs.specs.Upward.{widened}
-use Rattle.bounds.proofs.Standing.{ConstraintAt}
+use Rattle.codec.proofs.Standing.{ConstraintAt}
 use Rattle.runs.proofs.Upward.{lasts-one, more-than-none}
 use Rattle.bounds.proofs.Bounds.{Opening, opening-start, opening-at, opening-form, opening-few, opening-stop, opening-falls, opening-next, opening-end}
 use Rattle.runs.proofs.holding.constraints_run.Statement.{statement}
 use Rattle.runs.proofs.holding.constraints_run.Tie as tie
 
 abbrev Inv-loop : tie.InvT-loop
-Inv-loop s k low high r ql qh most i₀ at₀ i at = Opening s (startOf r) (canStand (boxOf low high) (boxOf ql qh)) at i
+Inv-loop s k low high r ql qh first most i₀ at₀ i at = Opening s (startOf r) (canStand (boxOf low high) (boxOf ql qh)) at i
 
 abbrev μ-loop : tie.MeasureT-loop
-μ-loop s k low high r ql qh most i₀ at₀ i at = length s - at
-
-place-requires : tie.Need-place-requires Inv-loop μ-loop
-place-requires c κs = c .before .pre .0 .row .place
-
-mul-at : tie.Need-mul-at Inv-loop μ-loop
-mul-at c = let f = c .before .before .pre .2 .few in omega arith
-
-add-at : tie.Need-add-at Inv-loop μ-loop
-add-at c = let i = c .before .before .pre .3 .there .here .inside in let e = c .place .ensures in omega arith
+μ-loop s k low high r ql qh first most i₀ at₀ i at = length s - at
 
 loop-holds : tie.Need-loop-holds Inv-loop μ-loop
 loop-holds c =
-    let st = c .before .before in let a = st .args in let p = st .pre in let d = length (a .ql .now) in let ok = canStand (boxOf (a .low .now) (a .high .now)) (boxOf (a .ql .now) (a .qh .now)) in
-    subst (λ (x : ℕ). Opening (a .s .now) (startOf (a .r .now)) ok (x + 23 * d) d) (sym (c .place .ensures)) (opening-start (a .s .now) (startOf (a .r .now)) d ok (p .0 .row .opened) (p .3))
+    let st = c .before in let a = st .args in let p = st .pre in
+    opening-start (a .s .now) (startOf (a .r .now)) (a .first) (length (a .ql .now)) (canStand (boxOf (a .low .now) (a .high .now)) (boxOf (a .ql .now) (a .qh .now))) (p .0 .row .opened) (p .3) (p .4)
 
 -- each constraint by itself is the whole
 whole : (st : tie.Start Inv-loop μ-loop) → let a = st .args in
     all (canStand (boxOf (a .low .now) (a .high .now)) (boxOf (a .ql .now) (a .qh .now))) (basicAt (a .s .now) (startOf (a .r .now)) .constraints) ≡ canHold (boxOf (a .low .now) (a .high .now)) (basicAt (a .s .now) (startOf (a .r .now)))
-whole st = let a = st .args in ap (λ (y : List Interval). all (canStand (boxOf (a .low .now) (a .high .now)) y) (basicAt (a .s .now) (startOf (a .r .now)) .constraints)) (st .pre .4)
+whole st = let a = st .args in ap (λ (y : List Interval). all (canStand (boxOf (a .low .now) (a .high .now)) y) (basicAt (a .s .now) (startOf (a .r .now)) .constraints)) (st .pre .5)
 
 -- a turn: its start, the constraint at its place
 module _ (t : tie.Then1 Inv-loop μ-loop) where
   abbrev m : tie.At-loop Inv-loop μ-loop
-  m = t .before .before .before
+  m = t .before .before
 
   abbrev st : tie.Start Inv-loop μ-loop
-  st = m .before .before .before
+  st = m .before .before
 
   abbrev s : List ℕ
   s = st .args .s .now
@@ -65,24 +56,22 @@ module _ (t : tie.Then1 Inv-loop μ-loop) where
   abbrev qs : List Interval
   qs = boxOf (st .args .ql .now) (st .args .qh .now)
 
-  test : (eqb (getD s (m .loop .at) 0) 19 || eqb (getD s (m .loop .at) 0) 20) ≡ true
-  test = ap (λ (b : ℕ). eqb b 19 || eqb b 20) (sym (t .before .before .code .ensures)) ∙ sym (t .before .is-constraint .ensures) ∙ t .if1 .taken
+  test : isConstraint (getD s (m .loop .at) 0) ≡ true
+  test = sym (t .before .constraint-at .ensures) ∙ t .if1 .taken
 
   here : ConstraintAt (m .loop .inv .tail .n) s (m .loop .at) (m .loop .inv .tail .k)
   here = opening-at s (startOf r) (canStand xs qs) (m .loop .at) (m .loop .i) (m .loop .inv) test
 
   rule : Numbered s r (m .loop .at) (m .loop .i)
   rule = record {
-    room = here .room;
+    whole = here .whole;
+    body = here .body;
     few = opening-few s (startOf r) (canStand xs qs) (m .loop .at) (m .loop .i) (m .loop .inv) test;
     form = opening-form s (startOf r) (canStand xs qs) (m .loop .at) (m .loop .i) (m .loop .inv) test;
   }
 
-code-requires : tie.Need-code-requires Inv-loop μ-loop
-code-requires c κs = search needs
-
-is-constraint-requires : tie.Need-is-constraint-requires Inv-loop μ-loop
-is-constraint-requires c κs = search needs
+constraint-at-requires : tie.Need-constraint-at-requires Inv-loop μ-loop
+constraint-at-requires c κs = search needs
 
 can-stand-requires : tie.Need-can-stand-requires Inv-loop μ-loop
 can-stand-requires c κs = let t = c in (st t .pre .0, st t .pre .1, st t .pre .2, rule t)
@@ -90,7 +79,7 @@ can-stand-requires c κs = let t = c in (st t .pre .0, st t .pre .1, st t .pre .
 constraint-run-requires : tie.Need-constraint-run-requires Inv-loop μ-loop
 constraint-run-requires c κs =
     let y = c .before in let t = y .before in let a = st t .args in let p = st t .pre in
-    (p .0, p .1, p .2, p .3 .there .here .inside, rule t, p .5, p .6, lasts-one (a .s .now) (a .k) (a .low .now) (a .high .now) (startOf (a .r .now)) (constraintAt (a .s .now) (m t .loop .at)) (qs t) (p .4) (sym (y .can-stand .ensures) ∙ not-true _ (c .if2 .taken)))
+    (p .0, p .1, p .2, rule t, p .6, p .7, lasts-one (a .s .now) (a .k) (a .low .now) (a .high .now) (startOf (a .r .now)) (constraintAt (a .s .now) (m t .loop .at)) (qs t) (p .5) (sym (y .can-stand .ensures) ∙ not-true _ (c .if2 .taken)))
 
 returns : tie.Need-returns Inv-loop μ-loop
 returns c =
@@ -102,26 +91,27 @@ returns c =
       few = e .1 .1;
     }
 
-add-at-2 : tie.Need-add-at-2 Inv-loop μ-loop
-add-at-2 c = let r = here (c .before .before) .room in omega arith
+next-requires : tie.Need-next-requires Inv-loop μ-loop
+next-requires c κs = here (c .before .before) .whole
 
 add-i : tie.Need-add-i Inv-loop μ-loop
-add-i c = let f = rule (c .before .before) .few in omega arith
+add-i c = let f = rule (c .before .before .before) .few in omega arith
 
 loop-less : tie.Need-loop-less Inv-loop μ-loop
-loop-less c = let r = here (c .before .before) .room in omega arith
+loop-less c = let h = here (c .before .before .before) .whole in let r = h .room in let w = h .known in omega (arith, c .next .ensures)
 
 loop-again : tie.Need-loop-again Inv-loop μ-loop
 loop-again c =
-    let y = c .before in let t = y .before in
-    opening-next (s t) (startOf (r t)) (canStand (xs t) (qs t)) (m t .loop .at) (m t .loop .i) (m t .loop .inv) (test t) (sym (y .can-stand .ensures) ∙ not-false _ (c .if2 .left))
+    let e = c .before in let y = e .before in let t = y .before in
+    subst (λ (p : ℕ). Opening (s t) (startOf (r t)) (canStand (xs t) (qs t)) p (m t .loop .i + 1)) (sym (c .next .ensures))
+    (opening-next (s t) (startOf (r t)) (canStand (xs t) (qs t)) (m t .loop .at) (m t .loop .i) (m t .loop .inv) (test t) (sym (y .can-stand .ensures) ∙ not-false _ (e .if2 .left)))
 
 returns-2 : tie.Need-returns-2 Inv-loop μ-loop
 returns-2 c =
-    let i = c .before in let m = i .before .before in let st = m .before .before .before in let a = st .args in
+    let i = c .before in let m = i .before in let st = m .before .before in let a = st .args in
     record {
       is = opening-end (a .s .now) (startOf (a .r .now)) (canStand (boxOf (a .low .now) (a .high .now)) (boxOf (a .ql .now) (a .qh .now))) (m .loop .at) (m .loop .i) (m .loop .inv)
-          (ap (λ (b : ℕ). eqb b 19 || eqb b 20) (sym (i .before .code .ensures)) ∙ sym (i .is-constraint .ensures) ∙ c .if1 .left) ∙ whole st;
+          (sym (i .constraint-at .ensures) ∙ c .if1 .left) ∙ whole st;
       far = λ h. absurd (omega arith);
       few = omega arith;
     }
@@ -132,16 +122,12 @@ constraints-run-spec =
     (tie.spec
     Inv-loop
     μ-loop
-    place-requires
-    mul-at
-    add-at
     loop-holds
-    code-requires
-    is-constraint-requires
+    constraint-at-requires
     can-stand-requires
     constraint-run-requires
     returns
-    add-at-2
+    next-requires
     add-i
     loop-less
     loop-again

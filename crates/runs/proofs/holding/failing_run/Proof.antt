@@ -1,9 +1,7 @@
-use mathlib.Core.Path.{subst}
+use mathlib.Core.Path.{sym, _∙_, subst}
 use native.Mathlib.Omega.{arith}
 use Prim.Native.Nat.{ℕ}
 use lib.ListN.{length-take}
-use Rattle.bounds.specs.Ends.{Past}
-use Rattle.bounds.specs.Rows.{startOf}
 use Rattle.runs.specs.Upward.{Failing}
 use Rattle.bounds.proofs.Reading.{take-within}
 use borrow.Author.Needs.{needs}
@@ -34,7 +32,7 @@ array-share-prefix-ql c = search needs
 slice-aggregate-constraints-run : tie.Need-slice-aggregate-constraints-run
 slice-aggregate-constraints-run c =
     let d = c .before .before .before .before in let f = d .bounded .ensures .few in let l = d .bounded .ensures .lows in
-    omega (arith, length-take (d .bounded .result) (d .bounded .last .1 .1 .1 .1 .1 .0))
+    omega (arith, length-take (d .bounded .result .count) (d .bounded .last .1 .1 .1 .1 .1 .0))
 
 array-share-prefix-qh : tie.Need-array-share-prefix-qh
 array-share-prefix-qh c = search needs
@@ -42,17 +40,18 @@ array-share-prefix-qh c = search needs
 slice-aggregate-constraints-run-2 : tie.Need-slice-aggregate-constraints-run-2
 slice-aggregate-constraints-run-2 c =
     let d = c .before .before .before .before .before in let f = d .bounded .ensures .few in let l = d .bounded .ensures .highs in
-    omega (arith, length-take (d .bounded .result) (d .bounded .last .1 .1 .1 .1 .1 .1 .0))
+    omega (arith, length-take (d .bounded .result .count) (d .bounded .last .1 .1 .1 .1 .1 .1 .0))
 
 constraints-run-requires : tie.Need-constraints-run-requires
 constraints-run-requires c κs =
     let d = c .before .before .before .before .before in let y = d .before .before .before .before .before .before in let st = y .before .before .before in let e = d .bounded .ensures in
-    let ql = d .bounded .last .1 .1 .1 .1 .1 .0 in let qh = d .bounded .last .1 .1 .1 .1 .1 .1 .0 in let m = d .bounded .result in
+    let ql = d .bounded .last .1 .1 .1 .1 .1 .0 in let qh = d .bounded .last .1 .1 .1 .1 .1 .1 .0 in let m = d .bounded .result .count in
     let f = e .few in let l = e .lows in let h = e .highs in (
       y .settle .ensures .0,
       st .pre .1,
       record { few = omega (arith, length-take m ql); same = omega (arith, length-take m ql, length-take m qh); lows = take-within 549755813888 ql m (e .low-size); highs = take-within 549755813888 qh m (e .high-size) },
-      subst (Past (st .args .s .now) (startOf (y .settle .last .1 .1 .1 .1 .0))) (slice-aggregate-constraints-run (c .before)) (record { count = e .count; there = e .there; same = e .same }),
+      e .past,
+      sym (slice-aggregate-constraints-run (c .before)) ∙ e .count,
       e .is,
       st .pre .3,
       st .pre .4,

@@ -5,7 +5,7 @@ use mathlib.Core.List.{List}
 use lib.ListN.{length-take}
 use Rattle.bounds.specs.Intervals.{Interval, boxOf}
 use Rattle.bounds.specs.Ends.{canStand}
-use Rattle.bounds.specs.Rows.{constraintAt}
+use Rattle.codec.specs.Places.{constraintAt}
 use Rattle.bounds.proofs.Reading.{take-within}
 use Rattle.runs.proofs.lasting.can_over.Statement.{statement}
 use Rattle.runs.proofs.lasting.can_over.Tie as tie
@@ -30,19 +30,19 @@ array-share-prefix-ql c = search needs
 
 slice-aggregate-can-stand : tie.Need-slice-aggregate-can-stand
 slice-aggregate-can-stand c =
-    let d = c .before .before .before in let f = d .bounded .ensures .few in let l = d .bounded .ensures .lows in omega (arith, length-take (d .bounded .result) (d .bounded .last .1 .1 .1 .1 .1 .0))
+    let d = c .before .before .before in let f = d .bounded .ensures .few in let l = d .bounded .ensures .lows in omega (arith, length-take (d .bounded .result .count) (d .bounded .last .1 .1 .1 .1 .1 .0))
 
 array-share-prefix-qh : tie.Need-array-share-prefix-qh
 array-share-prefix-qh c = search needs
 
 slice-aggregate-can-stand-2 : tie.Need-slice-aggregate-can-stand-2
 slice-aggregate-can-stand-2 c =
-    let d = c .before .before .before .before in let f = d .bounded .ensures .few in let l = d .bounded .ensures .highs in omega (arith, length-take (d .bounded .result) (d .bounded .last .1 .1 .1 .1 .1 .1 .0))
+    let d = c .before .before .before .before in let f = d .bounded .ensures .few in let l = d .bounded .ensures .highs in omega (arith, length-take (d .bounded .result .count) (d .bounded .last .1 .1 .1 .1 .1 .1 .0))
 
 can-stand-requires : tie.Need-can-stand-requires
 can-stand-requires c κs =
     let d = c .before .before .before .before in let st = d .before .before .before .before .before .before in let e = d .bounded .ensures in
-    let ql = d .bounded .last .1 .1 .1 .1 .1 .0 in let qh = d .bounded .last .1 .1 .1 .1 .1 .1 .0 in let m = d .bounded .result in
+    let ql = d .bounded .last .1 .1 .1 .1 .1 .0 in let qh = d .bounded .last .1 .1 .1 .1 .1 .1 .0 in let m = d .bounded .result .count in
     let f = e .few in let l = e .lows in let h = e .highs in
     (st .pre .0, st .pre .1, record { few = omega (arith, length-take m ql); same = omega (arith, length-take m ql, length-take m qh); lows = take-within 549755813888 ql m (e .low-size); highs = take-within 549755813888 qh m (e .high-size) }, st .pre .2)
 

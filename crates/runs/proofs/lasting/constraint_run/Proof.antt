@@ -27,12 +27,10 @@ guess-requires : tie.Need-guess-requires
 guess-requires c κs =
     let g1 = c .before in let st = g1 .before .before .before in let a = st .args in let p = st .pre in (
       row-loose (a .s .now) (length (a .low .now)) (a .r .now) (p .1 .few) (p .0 .row),
-      p .3,
       p .2,
       record { axis = axis st; from-size = back-within (omega arith) (g1 .gap .ensures .1); to-size = back-within (omega arith) (c .gap2 .ensures .1) },
-      p .4 .room,
-      p .4 .few,
-      p .6,
+      p .3,
+      p .5,
     )
 
 returns-2 : tie.Need-returns-2
@@ -41,7 +39,7 @@ returns-2 c = search needs
 lasts-requires : tie.Need-lasts-requires
 lasts-requires c κs =
     let g = c .before in let st = g .before .before .before .before .before in let a = st .args in let p = st .pre in
-    (p .0, p .1, p .4, reach-less (a .k) (a .high .now) (g .guess .result) (a .most) (g .guess .ensures .1) (p .5), g .guess .ensures .0)
+    (p .0, p .1, p .3, reach-less (a .k) (a .high .now) (g .guess .result) (a .most) (g .guess .ensures .1) (p .4), g .guess .ensures .0)
 
 returns-3 : tie.Need-returns-3
 returns-3 c =

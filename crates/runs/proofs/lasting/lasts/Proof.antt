@@ -6,10 +6,10 @@ use borrow.Author.Tests.{not-true}
 use Prim.Native.Nat.{_+_, _-_}
 use lib.IntN.{ℤ}
 use lib.ListN.{length, length-take}
-use Rattle.codec.specs.Places.{basicAt}
+use Rattle.codec.specs.Places.{basicAt, constraintAt}
 use Rattle.bounds.specs.Intervals.{boxOf, quotientSide}
 use Rattle.bounds.specs.Ends.{Ends, canStand}
-use Rattle.bounds.specs.Rows.{startOf, Settled, constraintAt}
+use Rattle.bounds.specs.Rows.{startOf, Settled}
 use Rattle.runs.specs.Upward.{Reach}
 use Rattle.runs.proofs.Upward.{reach-most, settled-wide, ends-wide}
 use Rattle.runs.proofs.lasting.lasts.Statement.{statement}

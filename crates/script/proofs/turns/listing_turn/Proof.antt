@@ -1,14 +1,11 @@
-use Rattle.listing.specs.Written.{Wrote}
-use Rattle.session.specs.Turns.{lineOf}
 use Rattle.session.specs.declared.Cursor.{Cursor}
-use mathlib.Core.Path.{refl, ap, sym, subst, _∙_}
+use mathlib.Core.Path.{refl, ap, sym, _∙_}
 use mathlib.Core.List.{List, []}
-use Prim.Native.Nat.{ℕ, _+_, _-_}
+use Prim.Native.Nat.{ℕ, _-_}
 use native.Mathlib.Omega.{arith}
-use lib.ListN.{length, drop, getD}
+use lib.ListN.{drop}
 use Rattle.script.proofs.TurnLaws.{says-quiet, says-same}
 use Rattle.session.proofs.Turning.{over-end, over-unknown, over-cut, line-there}
-use lib.ListN.{length-drop}
 use Rattle.session.specs.Turns.{memory, lineTurn, stateAt}
 use Rattle.session.specs.declared.Listing.the-variants.{Nothing, From}
 use Rattle.session.specs.declared.Next.the-variants.{Goes}
@@ -65,22 +62,15 @@ returns-3 c =
     ∙ ap (λ (l : List ℕ). lineTurn (st .args .axes) (memory [] [] []) (st .args .c) (drop (st .args .c .place) l)) (at-table .table .ensures))
     (says-quiet (stateAt (st .args .axes) Nothing) (memory [] [] []) Goes (st .args .out .now) (c .over3 .ensures))
 
-add-tail : tie.Need-add-tail
-add-tail c = search needs
-
-tail-requires : tie.Need-tail-requires
-tail-requires c κs = search needs
-
 line-requires : tie.Need-line-requires
 line-requires c κs =
-    let at-width = c .before .before .before .before in let at-table = at-width .before .before .before in let st = at-table .before .before .before .before in
-    let e = at-width .width .ensures in
-    let t = ap length (c .before .tail .ensures) in
-    record { axes = st .pre .2; line-long = st .pre .3; few-basics = st .pre .1 .few-basics; few-divisions = st .pre .1 .few-divisions; known = omega arith; whole = omega (arith, length-drop (st .args .c .place + 1) (at-table .table .result .now)) }
+    let at-width = c .before .before .before in let at-if1 = at-width .before .before in let st = at-if1 .before .before .before .before .before in
+    let e = at-width .width .ensures in let n = c .before .before .if2 .left in let l = c .before .if3 .left in let h = at-if1 .if1 .left in
+    record { axes = st .pre .2; line-long = st .pre .3; few-basics = st .pre .1 .few-basics; few-divisions = st .pre .1 .few-divisions; whole = record { known = omega arith; room = omega arith } }
 
 past-requires : tie.Need-past-requires
 past-requires c κs =
-    let st = c .before .before .before .before .before .before .before .before .before .before .before .before .before .before in
+    let st = c .before .before .before .before .before .before .before .before .before .before .before .before .before in
     let f = st .pre .0 .fit (st .args .c .set) in
     let i = st .pre .1 .place-in in
     (omega arith, st .pre .1 .few-basics, st .pre .1 .few-divisions)
@@ -90,14 +80,14 @@ same-length c = search needs
 
 returns-4 : tie.Need-returns-4
 returns-4 c =
-    let at-line = c .before .before .before in let at-tail = at-line .before .before in let at-if3 = at-tail .before in let at-if2 = at-if3 .before in let at-width = at-if2 .before in
+    let at-line = c .before .before .before in let at-if3 = at-line .before .before in let at-if2 = at-if3 .before in let at-width = at-if2 .before in
     let at-if1 = at-width .before .before in let at-table = at-if1 .before in let st = at-table .before .before .before .before in
     says-same
     (sym
     (line-there (st .args .axes) (memory [] [] []) (st .args .c) _ (st .args .c .place) (at-if1 .if1 .left) (at-width .width .result) (at-width .width .ensures) (at-if2 .if2 .left)
     (at-if3 .if3 .left))
     ∙ ap (λ (l : List ℕ). lineTurn (st .args .axes) (memory [] [] []) (st .args .c) (drop (st .args .c .place) l)) (at-table .table .ensures))
-    (record { text = subst (λ (l : List ℕ). Wrote (lineOf (st .args .axes) (st .args .c) (getD (at-table .table .result .now) (st .args .c .place) 0) l) (st .args .out .now) 0 (at-line .line .result) (at-line .line .last .1 .1 .1 .1 .0)) (at-tail .tail .ensures) (at-line .line .ensures .wrote); used = refl; state = ap (λ (x : Cursor). stateAt (st .args .axes) (From x)) (c .past .ensures); next = refl })
+    (record { text = at-line .line .ensures .wrote; used = refl; state = ap (λ (x : Cursor). stateAt (st .args .axes) (From x)) (c .past .ensures); next = refl })
 
 pub listing-turn-spec : {M : Type 1} → statement M
 listing-turn-spec =
@@ -113,8 +103,6 @@ listing-turn-spec =
     sub-if3
     over-requires-3
     returns-3
-    add-tail
-    tail-requires
     line-requires
     past-requires
     same-length

@@ -1,10 +1,10 @@
-use lib.Dec.{eqb}
-use mathlib.Core.Path.{ap, ap₂, sym}
+use mathlib.Core.Path.{ap, ap₂, sym, _∙_}
 use mathlib.Core.Bool.{Bool, cond}
 use Prim.Native.Nat.{ℕ, _+_, _-_}
 use native.Mathlib.Omega.{arith}
-use Rattle.script.proofs.TurnLaws.{past-is, width-most}
-use borrow.Author.Tests.{eq-eqb, ne-eqb}
+use Rattle.codec.specs.Bytes.{isDivision}
+use Rattle.codec.proofs.Parsing.{width-most}
+use Rattle.script.proofs.TurnLaws.{past-is}
 use borrow.Author.Needs.{needs}
 use Rattle.script.proofs.turns.past.Statement.{statement}
 use Rattle.script.proofs.turns.past.Tie as tie
@@ -15,33 +15,46 @@ width-requires c κs = search needs
 add-place : tie.Need-add-place
 add-place c = let w = width-most (c .before .before .args .b) in let e = c .before .width .ensures in omega arith
 
+is-opening-requires : tie.Need-is-opening-requires
+is-opening-requires c κs = search needs
+
 add-t9 : tie.Need-add-t9
 add-t9 c = search needs
 
 returns : tie.Need-returns
 returns c =
-    let st = c .before .before .before in
-    past-is (st .args .c) (st .args .b) _ _ _ (ap (λ (w : ℕ). st .args .c .place + w) (c .before .before .width .ensures))
-    (ap (λ (x : Bool). cond x (st .args .c .basics + 1) (st .args .c .basics)) (sym (eq-eqb _ _ (c .if1 .taken))))
-    (ap (λ (x : Bool). cond x 0 (cond (eqb (st .args .b) 0x12) (st .args .c .divisions + 1) (st .args .c .divisions))) (sym (eq-eqb _ _ (c .if1 .taken))))
+    let o = c .before in let w = o .before .before in let a = w .before .args in let q = sym (c .if1 .taken) ∙ o .is-opening .ensures in
+    past-is (a .c) (a .b) _ _ _ (ap (λ (m : ℕ). a .c .place + m) (w .width .ensures))
+    (ap (λ (x : Bool). cond x (a .c .basics + 1) (a .c .basics)) q) (ap (λ (x : Bool). cond x 0 (cond (isDivision (a .b)) (a .c .divisions + 1) (a .c .divisions))) q)
 
-add-t10 : tie.Need-add-t10
-add-t10 c = search needs
+is-division-requires : tie.Need-is-division-requires
+is-division-requires c κs = search needs
+
+add-t11 : tie.Need-add-t11
+add-t11 c = search needs
 
 returns-2 : tie.Need-returns-2
 returns-2 c =
-    let at-width = c .before .before .before in let st = at-width .before in
-    past-is (st .args .c) (st .args .b) _ _ _ (ap (λ (w : ℕ). st .args .c .place + w) (at-width .width .ensures))
-    (ap (λ (x : Bool). cond x (st .args .c .basics + 1) (st .args .c .basics)) (sym (ne-eqb _ _ (c .before .if1 .left))))
-    (ap₂ (λ (x y : Bool). cond x 0 (cond y (st .args .c .divisions + 1) (st .args .c .divisions))) (sym (ne-eqb _ _ (c .before .if1 .left))) (sym (eq-eqb _ _ (c .if2 .taken))))
+    let d = c .before in let e = d .before in let o = e .before in let w = o .before .before in let a = w .before .args in let q = sym (e .if1 .left) ∙ o .is-opening .ensures in
+    past-is (a .c) (a .b) _ _ _ (ap (λ (m : ℕ). a .c .place + m) (w .width .ensures))
+    (ap (λ (x : Bool). cond x (a .c .basics + 1) (a .c .basics)) q) (ap₂ (λ (x y : Bool). cond x 0 (cond y (a .c .divisions + 1) (a .c .divisions))) q (sym (c .if2 .taken) ∙ d .is-division .ensures))
 
 returns-3 : tie.Need-returns-3
 returns-3 c =
-    let at-width = c .before .before .before in let st = at-width .before in
-    past-is (st .args .c) (st .args .b) _ _ _ (ap (λ (w : ℕ). st .args .c .place + w) (at-width .width .ensures))
-    (ap (λ (x : Bool). cond x (st .args .c .basics + 1) (st .args .c .basics)) (sym (ne-eqb _ _ (c .before .if1 .left))))
-    (ap₂ (λ (x y : Bool). cond x 0 (cond y (st .args .c .divisions + 1) (st .args .c .divisions))) (sym (ne-eqb _ _ (c .before .if1 .left))) (sym (ne-eqb _ _ (c .if2 .left))))
+    let d = c .before in let e = d .before in let o = e .before in let w = o .before .before in let a = w .before .args in let q = sym (e .if1 .left) ∙ o .is-opening .ensures in
+    past-is (a .c) (a .b) _ _ _ (ap (λ (m : ℕ). a .c .place + m) (w .width .ensures))
+    (ap (λ (x : Bool). cond x (a .c .basics + 1) (a .c .basics)) q) (ap₂ (λ (x y : Bool). cond x 0 (cond y (a .c .divisions + 1) (a .c .divisions))) q (sym (c .if2 .left) ∙ d .is-division .ensures))
 
 pub past-spec : {M : Type 1} → statement M
 past-spec =
-    tie.close (tie.spec width-requires add-place add-t9 returns add-t10 returns-2 returns-3)
+    tie.close
+    (tie.spec
+    width-requires
+    add-place
+    is-opening-requires
+    add-t9
+    returns
+    is-division-requires
+    add-t11
+    returns-2
+    returns-3)

@@ -1,7 +1,7 @@
 use Prim.Native.Nat.{_-_}
 use borrow.Author.Tests.{ne-eqb}
-use Rattle.bounds.proofs.numbers.is_constraint.Statement.{statement}
-use Rattle.bounds.proofs.numbers.is_constraint.Tie as tie
+use Rattle.codec.proofs.layout.is_constraint.Statement.{statement}
+use Rattle.codec.proofs.layout.is_constraint.Tie as tie
 
 returns : tie.Need-returns
 returns c = rw (c .if1 .taken)

@@ -1,0 +1,145 @@
+// The layout of a set's bytes: command bytes, widths, and where the numbers of a command stand. No other crate knows it
+// otherwise.
+ghost use mathlib.Core.Path.{_≡_};
+ghost use Prim.Native.Nat.{_<_};
+ghost use lib.ListN.{getD};
+ghost use Rattle.codec.specs.Bytes.{isOpening, isDivision, isConstraint, isEquality, goesOn, bodyOf, widthOf};
+ghost use Rattle.codec.specs.Places.{headAt, bodyAt, nextOf, Whole};
+use crate::readers::code;
+use crate::readers::tail;
+use integers::u16_at;
+
+pub const OPENS: u8 = 0x11;
+
+pub const DIVISION: u8 = 0x12;
+
+pub const EQUALITY: u8 = 0x13;
+
+pub const INEQUALITY: u8 = 0x14;
+
+// Of a body: where the constant, the axes and, of a constraint, the divisions stand.
+pub const CONSTANT_PLACE: usize = 0;
+
+pub const AXES_PLACE: usize = 4;
+
+pub const DIVISIONS_PLACE: usize = 20;
+
+// The most bytes that a division and a constraint have.
+pub const LONGEST_DIVISION: usize = 23;
+
+pub const LONGEST_CONSTRAINT: usize = 37;
+
+// How long the body of a division is, and of a constraint; and what stands before it.
+const DIVISION_BODY: usize = 20;
+
+const CONSTRAINT_BODY: usize = 36;
+
+const DIVISION_HEAD: usize = 3;
+
+const CONSTRAINT_HEAD: usize = 1;
+
+// Divisions that are past: how many, and the place after them.
+pub struct Passed {
+    pub count: usize,
+    pub next: usize,
+}
+
+pub fn is_opening(b: u8) -> bool
+    ensures { λ r. ⌜ r ≡ isOpening b ⌝ }
+{
+    b == OPENS
+}
+
+pub fn is_division(b: u8) -> bool
+    ensures { λ r. ⌜ r ≡ isDivision b ⌝ }
+{
+    b == DIVISION
+}
+
+pub fn is_constraint(b: u8) -> bool
+    ensures { λ r. ⌜ r ≡ isConstraint b ⌝ }
+{
+    if b == EQUALITY {
+        return true;
+    }
+    b == INEQUALITY
+}
+
+pub fn is_equality(b: u8) -> bool
+    ensures { λ r. ⌜ r ≡ isEquality b ⌝ }
+{
+    b == EQUALITY
+}
+
+pub fn width(b: u8) -> usize
+    ensures { λ r. ⌜ r ≡ widthOf b ⌝ }
+{
+    if b == OPENS {
+        return 1;
+    }
+    if is_division(b) {
+        return DIVISION_HEAD + DIVISION_BODY;
+    }
+    if is_constraint(b) {
+        return CONSTRAINT_HEAD + CONSTRAINT_BODY;
+    }
+    0
+}
+
+// Whether a division, a constraint is at a place; whether the basic set goes on there.
+pub fn division_at(s: &[u8], at: usize) -> bool
+    ensures { λ r. ⌜ r ≡ isDivision (getD (now (s .entry)) at 0) ⌝ }
+{
+    is_division(code(s, at))
+}
+
+pub fn constraint_at(s: &[u8], at: usize) -> bool
+    ensures { λ r. ⌜ r ≡ isConstraint (getD (now (s .entry)) at 0) ⌝ }
+{
+    is_constraint(code(s, at))
+}
+
+pub fn goes_on(s: &[u8], at: usize) -> bool
+    ensures { λ r. ⌜ r ≡ goesOn (getD (now (s .entry)) at 0) ⌝ }
+{
+    OPENS < code(s, at)
+}
+
+// What stands between the first byte of the command at a place and its body: the divisor of a division, otherwise 0.
+pub fn head(s: &[u8], at: usize) -> u64
+    requires { ⌜ Whole (now s) at ⌝ }
+    ensures is { λ r. ⌜ r ≡ headAt (now (s .entry)) at ⌝ }
+    ensures size { λ r. ⌜ r < 4294967296 ⌝ }
+{
+    if division_at(s, at) {
+        return u16_at(s, at + 1);
+    }
+    0
+}
+
+fn body_place(b: u8) -> usize
+    ensures { λ r. ⌜ r ≡ bodyOf b ⌝ }
+{
+    if is_division(b) {
+        return DIVISION_HEAD;
+    }
+    CONSTRAINT_HEAD
+}
+
+// The bytes of the command at a place from its constant on.
+pub fn body<'a>(s: &'a [u8], at: usize) -> &'a [u8]
+    requires { ⌜ Whole (now s) at ⌝ }
+    ensures { λ r. ⌜ now r ≡ bodyAt (now (s .entry)) at ⌝ }
+{
+    let p = body_place(code(s, at));
+    tail(s, at + p)
+}
+
+// The place after the command at a place.
+pub fn next(s: &[u8], at: usize) -> usize
+    requires { ⌜ Whole (now s) at ⌝ }
+    ensures { λ r. ⌜ r ≡ nextOf (now (s .entry)) at ⌝ }
+{
+    let w = width(code(s, at));
+    at + w
+}
