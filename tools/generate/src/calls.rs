@@ -12,6 +12,7 @@ use crate::runs;
 use crate::sets::World;
 use crate::walks;
 use crate::wider;
+use hexscript::layout::LONGEST_SET;
 use hexscript::tokens::hex;
 
 pub const KINDS: [&str; 16] = [
@@ -143,7 +144,7 @@ fn room(rng: &mut Rng, line: impl Fn(usize) -> String) -> String {
     if rng.chance(25) {
         return line(rng.pick(&[0, 1, 74, 75, 300, 8_000]));
     }
-    let answer = second::run_call(&line(65_000));
+    let answer = second::run_call(&line(LONGEST_SET));
     let length: i64 = answer.split(' ').nth(1).and_then(|w| w.parse().ok()).unwrap_or(0);
     let length = if answer.starts_with("gives") { length } else { rng.range(0, 200) };
     let spare = rng.pick(&[-1, -1, 0, 0, 0, 1, 2, 40]);

@@ -1,93 +1,121 @@
 //! Faults in the bytes of a set, made on purpose so that each refusal from 2 to 9 is reached
 //! at any place of the set, and faults at random.
 
-use crate::model::commands;
-use crate::model::Basic;
+use crate::model::{commands, Basic, Division};
 use crate::rng::Rng;
+use hexscript::layout::{
+    find, Command, Part, BASIC, CONSTANT, DIVISION, DIVISOR, EQUALITY, INEQUALITY, MOST_BASIC_SETS, MOST_DIVISIONS,
+    MOST_RULES, OF_AXES, SET,
+};
 
-/// The places in the list of whole commands with a code from `codes`.
-fn with_code(list: &[Vec<u8>], codes: &[u8]) -> Vec<usize> {
-    let whole = |c: &Vec<u8>| match c.first() {
-        Some(0x11) => c.len() == 1,
-        Some(0x12) => c.len() == 23,
-        Some(_) => c.len() == 37,
-        None => false,
-    };
-    (0..list.len()).filter(|&i| whole(&list[i]) && codes.contains(&list[i][0])).collect()
+/// The places in the list of the whole commands that are so.
+fn places(list: &[Vec<u8>], is: impl Fn(&Command) -> bool) -> Vec<usize> {
+    let whole = |bytes: &[u8]| find(SET, *bytes.first()?).filter(|command| command.length() == bytes.len());
+    (0..list.len()).filter(|&i| whole(&list[i]).is_some_and(&is)).collect()
 }
 
 /// One of those places.
-fn one(rng: &mut Rng, list: &[Vec<u8>], codes: &[u8]) -> Option<usize> {
-    let places = with_code(list, codes);
+fn one(rng: &mut Rng, list: &[Vec<u8>], is: impl Fn(&Command) -> bool) -> Option<usize> {
+    let places = places(list, is);
     if places.is_empty() { None } else { Some(rng.pick(&places)) }
+}
+
+/// A division or a rule.
+fn has_numbers(command: &Command) -> bool {
+    command.is_division() || command.is_rule()
+}
+
+fn layout(command: &[u8]) -> &'static Command {
+    find(SET, command[0]).expect("a command of a set")
+}
+
+/// Where a part that the command has begins.
+fn place(command: &[u8], part: Part) -> usize {
+    layout(command).place(part).expect("a part of the command")
 }
 
 fn put16(command: &mut [u8], at: usize, value: i64) {
     command[at..at + 2].copy_from_slice(&(value as u16).to_le_bytes());
 }
 
+fn put_constant(command: &mut [u8], value: i32) {
+    let at = place(command, CONSTANT);
+    command[at..at + 4].copy_from_slice(&value.to_le_bytes());
+}
+
+/// The place of any coefficient, of an axis or a division.
+fn any_coefficient(rng: &mut Rng, command: &[u8]) -> usize {
+    let first = place(command, OF_AXES);
+    first + 2 * rng.below((command.len() - first) / 2)
+}
+
 /// A number out of its range (7): a constant or a coefficient, at any place.
 fn out_of_range(rng: &mut Rng, command: &mut [u8]) {
-    let division = command[0] == 0x12;
-    let first = if division { 7 } else { 5 };
-    if rng.chance(70) || command[0] == 0x14 {
-        let place = rng.below((command.len() - first) / 2);
-        put16(command, first + 2 * place, -32_768);
+    let (division, equality) = (layout(command).is_division(), layout(command).is_equality());
+    if rng.chance(70) || !(division || equality) {
+        let at = any_coefficient(rng, command);
+        put16(command, at, -32_768);
     } else if division {
-        let c: i32 = rng.pick(&[1_000_000_001, -1_000_000_001, i32::MIN, i32::MAX]);
-        command[3..7].copy_from_slice(&c.to_le_bytes());
+        put_constant(command, rng.pick(&[1_000_000_001, -1_000_000_001, i32::MIN, i32::MAX]));
     } else {
-        command[1..5].copy_from_slice(&i32::MIN.to_le_bytes());
+        put_constant(command, i32::MIN);
     }
 }
 
 /// A number at one of the places, which may be absent (8 if so).
 fn at_any_place(rng: &mut Rng, command: &mut [u8]) {
-    let first = if command[0] == 0x12 { 7 } else { 5 };
-    let place = rng.below((command.len() - first) / 2);
-    put16(command, first + 2 * place, rng.pick(&[5, -1, 32_767]));
+    let at = any_coefficient(rng, command);
+    put16(command, at, rng.pick(&[5, -1, 32_767]));
 }
 
 /// A command too many (9): a basic set, a division or a rule repeated.
 fn too_many(rng: &mut Rng, list: &mut Vec<Vec<u8>>) {
-    let code = rng.pick(&[0x11, 0x12, 0x13, 0x14]);
-    let places = with_code(list, &[code]);
+    let code = rng.pick(&[BASIC, DIVISION, EQUALITY, INEQUALITY]);
+    let places = places(list, |command| command.code == code);
     let Some(&place) = places.last() else { return };
-    let count = match code {
-        0x11 => 33,
-        0x12 => 9,
-        _ => 49,
+    let most = match code {
+        BASIC => MOST_BASIC_SETS,
+        DIVISION => MOST_DIVISIONS,
+        _ => MOST_RULES,
     };
     let copy = list[place].clone();
     let short = rng.below(3); // now and then just within the limit
-    list.splice(place..place, std::iter::repeat_n(copy, count - short));
+    list.splice(place..place, std::iter::repeat_n(copy, most + 1 - short));
+}
+
+/// A byte that is no command of a set.
+fn unknown(rng: &mut Rng) -> u8 {
+    let mut codes = vec![0x00, 0x10, 0x15, 0x40, 0x99, 0xFF];
+    codes.retain(|&code| find(SET, code).is_none());
+    rng.pick(&codes)
 }
 
 /// One fault that aims at a refusal; none where the set has no place for it.
 fn aimed(rng: &mut Rng, list: &mut Vec<Vec<u8>>) {
-    let place = rng.below(list.len());
+    let at = rng.below(list.len());
     match rng.below(9) {
-        0 => list.insert(place, vec![rng.pick(&[0x00, 0x10, 0x15, 0x40, 0x99, 0xFF])]),
+        0 => list.insert(at, vec![unknown(rng)]),
         1 => {
-            let keep = rng.below(list[place].len() + 1);
-            list[place].truncate(keep);
-            list.truncate(place + 1);
+            let keep = rng.below(list[at].len() + 1);
+            list[at].truncate(keep);
+            list.truncate(at + 1);
         }
-        2 => list.retain(|c| c[..] != [0x11]),
-        3 => list.push([&[0x12, 2, 0][..], &[0; 20]].concat()),
-        4 => list.swap(place, 0),
+        2 => list.retain(|c| c[..] != [BASIC]),
+        3 => list.push(Division { d: 2, c: 0, axes: [0; 8] }.bytes()),
+        4 => list.swap(at, 0),
         5 => {
-            if let Some(i) = one(rng, list, &[0x12]) {
-                put16(&mut list[i], 1, rng.pick(&[0, 32_768, 65_535, 40_000]));
+            if let Some(i) = one(rng, list, |command| command.code == DIVISION) {
+                let divisor = place(&list[i], DIVISOR);
+                put16(&mut list[i], divisor, rng.pick(&[0, 32_768, 65_535, 40_000]));
             }
         }
         6 => {
-            if let Some(i) = one(rng, list, &[0x12, 0x13, 0x14]) {
+            if let Some(i) = one(rng, list, has_numbers) {
                 out_of_range(rng, &mut list[i]);
             }
         }
         7 => {
-            if let Some(i) = one(rng, list, &[0x12, 0x13, 0x14]) {
+            if let Some(i) = one(rng, list, has_numbers) {
                 at_any_place(rng, &mut list[i]);
             }
         }

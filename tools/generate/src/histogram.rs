@@ -1,6 +1,7 @@
 //! What the generated scripts and calls reach, by `second`.
 
 use crate::{calls, counting, events, extremes, fleets, runs, scripts, states};
+use hexscript::layout::{cut, set_of, AXES, END, SCRIPT};
 use hexscript::tokens::unhex;
 use second::algebra::{complement, difference, intersection, union, Watch};
 use second::ask::{check_corners, check_limit, Sides};
@@ -111,23 +112,16 @@ fn count_output(output: &[u8], counts: &mut Counts) {
     }
 }
 
-/// The bytes of the commands after `10`, up to the first that is no whole command of a script.
+/// The bytes of the commands after `10`, up to the first that is no whole one, another `10` or `00`.
 fn commands(script: &[u8]) -> Vec<&[u8]> {
     let mut out = Vec::new();
     let mut rest = script.get(2..).unwrap_or(&[]);
-    while let Some(&code) = rest.first() {
-        let length = match code {
-            0x40 => 4 + rest.get(2..4).map_or(usize::MAX - 4, |b| usize::from(u16::from_le_bytes([b[0], b[1]]))),
-            0x41..=0x43 => 4,
-            0x44 => 3,
-            0x45 => 2,
-            0x46 => 34,
-            0x47 => 70,
-            _ => break,
-        };
-        let Some(command) = rest.get(..length) else { break };
-        out.push(command);
-        rest = &rest[length..];
+    while let Ok((command, own)) = cut(SCRIPT, rest) {
+        if [AXES, END].contains(&command.code) {
+            break;
+        }
+        out.push(own);
+        rest = &rest[own.len()..];
     }
     out
 }
@@ -156,7 +150,7 @@ fn operate(kind: &str, a: &Set, b: &Set, watch: &mut Watch) -> Option<Set> {
 fn result(n: u8, command: &[u8], sets: &[Set], watch: &mut Watch) -> Option<Set> {
     let set = |i: usize| sets.get(usize::from(command[i]));
     match command[0] {
-        0x40 => parse(n, &command[4..]).ok(),
+        0x40 => parse(n, set_of(command)).ok(),
         0x41 => union(set(2)?, set(3)?).ok(),
         0x42..=0x44 => operate(kind_of(command), set(2)?, set(command.len() - 1)?, watch),
         _ => None,

@@ -1,5 +1,7 @@
 //! Sets as the generator writes them. Numbers may be out of range: that is how refusals are reached.
 
+use hexscript::layout::{BASIC, DIVISION, EQUALITY, INEQUALITY};
+
 #[derive(Clone, Copy, PartialEq)]
 pub struct Division {
     pub d: u16,
@@ -29,7 +31,7 @@ fn numbers(values: &[i16]) -> impl Iterator<Item = u8> + '_ {
 
 impl Division {
     pub fn bytes(&self) -> Vec<u8> {
-        let mut out = vec![0x12];
+        let mut out = vec![DIVISION];
         out.extend(self.d.to_le_bytes());
         out.extend(self.c.to_le_bytes());
         out.extend(numbers(&self.axes));
@@ -39,7 +41,7 @@ impl Division {
 
 impl Rule {
     pub fn bytes(&self) -> Vec<u8> {
-        let mut out = vec![if self.equality { 0x13 } else { 0x14 }];
+        let mut out = vec![if self.equality { EQUALITY } else { INEQUALITY }];
         out.extend(self.constant.to_le_bytes());
         out.extend(numbers(&self.axes));
         out.extend(numbers(&self.divisions));
@@ -51,7 +53,7 @@ impl Rule {
 pub fn commands(set: &[Basic]) -> Vec<Vec<u8>> {
     let mut out = Vec::new();
     for basic in set {
-        out.push(vec![0x11]);
+        out.push(vec![BASIC]);
         out.extend(basic.divisions.iter().map(Division::bytes));
         out.extend(basic.rules.iter().map(Rule::bytes));
     }

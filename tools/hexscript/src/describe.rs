@@ -1,130 +1,69 @@
 //! Bytes back into readable tokens: a difference is shown as text that can become a stored case.
 
-/// A reader over bytes that may end anywhere.
-struct Reader<'a> {
-    bytes: &'a [u8],
-    at: usize,
-}
-
-impl<'a> Reader<'a> {
-    fn take(&mut self, count: usize) -> Option<&'a [u8]> {
-        let part = self.bytes.get(self.at..self.at.checked_add(count)?)?;
-        self.at += count;
-        Some(part)
-    }
-
-    fn rest(&mut self) -> &'a [u8] {
-        let part = &self.bytes[self.at..];
-        self.at = self.bytes.len();
-        part
-    }
-}
+use crate::layout::{cut, set_of, Command, Field, Part, END, LOAD, SCRIPT, SET};
 
 fn raw(bytes: &[u8]) -> String {
     bytes.iter().map(|b| format!("{b:02X}")).collect::<Vec<_>>().join(" ")
 }
 
-fn joined(kind: &str, numbers: &[i64]) -> String {
-    format!("{kind}:{}", numbers.iter().map(i64::to_string).collect::<Vec<_>>().join(","))
-}
-
-fn i16s(bytes: &[u8]) -> Vec<i64> {
-    bytes.chunks(2).map(|c| i64::from(i16::from_le_bytes([c[0], c[1]]))).collect()
-}
-
-fn i32s(bytes: &[u8]) -> Vec<i64> {
-    bytes.chunks(4).map(|c| i64::from(i32::from_le_bytes([c[0], c[1], c[2], c[3]]))).collect()
-}
-
-/// One command of a set, or nothing where it is unknown or cut off.
-fn set_command(reader: &mut Reader) -> Option<String> {
-    let start = reader.at;
-    let text = match reader.take(1)?[0] {
-        0x11 => Some("11".to_string()),
-        0x12 => reader.take(22).map(|b| {
-            let d = i64::from(u16::from_le_bytes([b[0], b[1]]));
-            format!("12 {} {} {}", joined("u16", &[d]), joined("i32", &i32s(&b[2..6])), joined("i16", &i16s(&b[6..])))
-        }),
-        command @ (0x13 | 0x14) => reader.take(36).map(|b| {
-            let (axes, divisions) = (i16s(&b[4..20]), i16s(&b[20..]));
-            format!("{command:02X} {} {} {}", joined("i32", &i32s(&b[..4])), joined("i16", &axes), joined("i16", &divisions))
-        }),
-        _ => None,
-    };
-    if text.is_none() {
-        reader.at = start;
+/// Numbers of one field: bytes as they are, the others as `tokens` reads them.
+fn numbers(field: &Field, bytes: &[u8]) -> String {
+    if field.width == 1 {
+        return raw(bytes);
     }
-    text
+    let sign = if field.signed { 'i' } else { 'u' };
+    let numbers: Vec<String> = bytes.chunks(field.width).map(|number| field.get(number).to_string()).collect();
+    format!("{sign}{}:{}", 8 * field.width, numbers.join(","))
+}
+
+/// The code and the numbers of a command, without the set of a load.
+fn tokens(command: &Command, bytes: &[u8]) -> String {
+    let mut out = raw(&bytes[..1]);
+    let mut rest = &bytes[1..];
+    for part in command.parts {
+        let (own, after) = rest.split_at(part.length());
+        if let Part::One(field) | Part::Axes(field) | Part::Divisions(field) = part {
+            out.push_str(&format!(" {}", numbers(field, own)));
+        }
+        rest = after;
+    }
+    out
+}
+
+/// The commands of the table that the bytes begin with, one a line; the other bytes follow as they are.
+fn lines(commands: &'static [Command], bytes: &[u8], line: fn(&Command, &[u8]) -> String) -> String {
+    let mut lines = Vec::new();
+    let mut rest = bytes;
+    while let Ok((command, own)) = cut(commands, rest) {
+        if command.code == END {
+            break;
+        }
+        lines.push(line(command, own));
+        rest = &rest[own.len()..];
+    }
+    if !rest.is_empty() {
+        lines.push(raw(rest));
+    }
+    lines.join("\n")
 }
 
 /// A set in tokens, a command a line; bytes that are no whole command follow as they are.
 pub fn set(bytes: &[u8]) -> String {
-    let mut reader = Reader { bytes, at: 0 };
-    let mut lines = Vec::new();
-    while let Some(line) = set_command(&mut reader) {
-        lines.push(line);
+    lines(SET, bytes, tokens)
+}
+
+fn script_line(command: &Command, bytes: &[u8]) -> String {
+    let (tokens, word) = (tokens(command, bytes), command.word);
+    if command.code == LOAD {
+        let inner = set(set_of(bytes)).replace('\n', "\n  ");
+        return format!("{tokens} {{  # {word}\n  {inner}\n}}");
     }
-    let rest = reader.rest();
-    if !rest.is_empty() {
-        lines.push(raw(rest));
-    }
-    lines.join("\n")
-}
-
-fn load(reader: &mut Reader) -> Option<String> {
-    let head = reader.take(3)?;
-    let bytes = reader.take(usize::from(u16::from_le_bytes([head[1], head[2]])))?;
-    let inner = set(bytes).replace('\n', "\n  ");
-    Some(format!("40 {} {{  # load\n  {inner}\n}}", raw(&head[..1])))
-}
-
-fn member(reader: &mut Reader) -> Option<String> {
-    let b = reader.take(33)?;
-    Some(format!("46 {} {}  # member", raw(&b[..1]), joined("i32", &i32s(&b[1..]))))
-}
-
-fn search(reader: &mut Reader) -> Option<String> {
-    let b = reader.take(69)?;
-    let limit = i64::from(u32::from_le_bytes([b[1], b[2], b[3], b[4]]));
-    let (low, high) = (joined("i32", &i32s(&b[5..37])), joined("i32", &i32s(&b[37..])));
-    Some(format!("47 {} {} {low} {high}  # search", raw(&b[..1]), joined("u32", &[limit])))
-}
-
-fn script_command(reader: &mut Reader) -> Option<String> {
-    let start = reader.at;
-    let plain = |reader: &mut Reader, code: &str, count: usize, what: &str| {
-        reader.take(count).map(|b| format!("{code} {}  # {what}", raw(b)))
-    };
-    let text = match reader.take(1)?[0] {
-        0x10 => plain(reader, "10", 1, "axes"),
-        0x40 => load(reader),
-        0x41 => plain(reader, "41", 3, "union"),
-        0x42 => plain(reader, "42", 3, "intersection"),
-        0x43 => plain(reader, "43", 3, "difference"),
-        0x44 => plain(reader, "44", 2, "complement"),
-        0x45 => plain(reader, "45", 1, "list"),
-        0x46 => member(reader),
-        0x47 => search(reader),
-        _ => None,
-    };
-    if text.is_none() {
-        reader.at = start;
-    }
-    text
+    format!("{tokens}  # {word}")
 }
 
 /// A script in tokens, a command a line; from `00`, an unknown or a cut-off command on, the bytes.
 pub fn script(bytes: &[u8]) -> String {
-    let mut reader = Reader { bytes, at: 0 };
-    let mut lines = Vec::new();
-    while let Some(line) = script_command(&mut reader) {
-        lines.push(line);
-    }
-    let rest = reader.rest();
-    if !rest.is_empty() {
-        lines.push(raw(rest));
-    }
-    lines.join("\n")
+    lines(SCRIPT, bytes, script_line)
 }
 
 /// A line-mode call with its sets in tokens.

@@ -2,5 +2,6 @@
 
 pub mod describe;
 pub mod files;
+pub mod layout;
 pub mod runner;
 pub mod tokens;

@@ -8,6 +8,7 @@ use generate::model::{self, encode, Rule};
 use generate::rng::Rng;
 use generate::sets::World;
 use generate::wider;
+use hexscript::layout::{LONGEST_DIVISION, LONGEST_RULE};
 use hexscript::tokens::{hex, unhex};
 use std::rc::Rc;
 
@@ -77,7 +78,7 @@ fn may_refuse(first: &[model::Basic], cutters: &[model::Basic]) -> bool {
         first.iter().map(f).max().unwrap_or(0) + cutters.iter().map(f).sum::<usize>()
     };
     let (divisions, rules) = (most(|b| b.divisions.len()), most(|b| b.rules.len()));
-    let bytes = pieces.saturating_mul(1 + 23 * divisions + 37 * (rules + cutters.len()));
+    let bytes = pieces.saturating_mul(1 + LONGEST_DIVISION * divisions + LONGEST_RULE * (rules + cutters.len()));
     pieces > 32 || divisions > 8 || rules > 40 || bytes > ROOM
 }
 
@@ -88,7 +89,7 @@ fn pairs_may_refuse(a: &[model::Basic], b: &[model::Basic]) -> bool {
         sum(a) * b.len() + sum(b) * a.len()
     };
     let (divisions, rules, pairs) = (all(|b| b.divisions.len()), all(|b| b.rules.len()), a.len() * b.len());
-    pairs > 32 || pairs + 23 * divisions + 37 * rules > ROOM
+    pairs > 32 || pairs + LONGEST_DIVISION * divisions + LONGEST_RULE * rules > ROOM
 }
 
 /// A kept candidate is tight and has a point with fractions: on sets this small the test is never wide.

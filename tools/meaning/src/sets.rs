@@ -1,6 +1,8 @@
 //! Sets read from bytes and what they mean: its own reading and its own membership, so that no
 //! fault of `second` is shared. (document 01, "Points, rules, sets" and "Bytes of a set")
 
+use hexscript::layout::{cut, BASIC, CONSTANT, DIVISOR, OF_AXES, OF_DIVISIONS, SET};
+
 #[derive(PartialEq)]
 pub struct Division {
     pub d: i128,
@@ -27,43 +29,30 @@ pub struct Basic {
 
 pub type Set = Vec<Basic>;
 
-fn i16s(bytes: &[u8]) -> Vec<i128> {
-    bytes.chunks(2).map(|b| i128::from(i16::from_le_bytes([b[0], b[1]]))).collect()
-}
-
-fn i32_at(bytes: &[u8]) -> i128 {
-    i128::from(i32::from_le_bytes([bytes[0], bytes[1], bytes[2], bytes[3]]))
-}
-
 /// The set of good bytes; nothing where they are no set.
 pub fn read(bytes: &[u8]) -> Option<Set> {
     let mut set = Set::new();
     let mut at = 0;
     while at < bytes.len() {
-        let length = match bytes[at] {
-            0x11 => 1,
-            0x12 => 23,
-            0x13 | 0x14 => 37,
-            _ => return None,
+        let (command, own) = cut(SET, &bytes[at..]).ok()?;
+        let numbers = |part| -> Option<Vec<i128>> {
+            let numbers = command.numbers(part, own)?;
+            Some(numbers.into_iter().map(i128::from).collect())
         };
-        let command = bytes.get(at..at + length)?;
-        if command[0] == 0x11 {
+        if command.code == BASIC {
             set.push(Basic { offset: at, ..Basic::default() });
         }
         let basic = set.last_mut()?;
-        basic.length += length;
-        match command[0] {
-            0x11 => {}
-            0x12 => {
-                let d = i128::from(u16::from_le_bytes([command[1], command[2]]));
-                basic.divisions.push(Division { d, c: i32_at(&command[3..]), axes: i16s(&command[7..]) });
-            }
-            code => {
-                let rule = Rule { equality: code == 0x13, constant: i32_at(&command[1..]), places: i16s(&command[5..]) };
-                basic.rules.push(rule);
-            }
+        basic.length += own.len();
+        if command.is_division() {
+            let (d, c) = (numbers(DIVISOR)?[0], numbers(CONSTANT)?[0]);
+            basic.divisions.push(Division { d, c, axes: numbers(OF_AXES)? });
         }
-        at += length;
+        if command.is_rule() {
+            let places = [numbers(OF_AXES)?, numbers(OF_DIVISIONS)?].concat();
+            basic.rules.push(Rule { equality: command.is_equality(), constant: numbers(CONSTANT)?[0], places });
+        }
+        at += own.len();
     }
     Some(set)
 }

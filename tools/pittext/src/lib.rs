@@ -3,7 +3,7 @@
 //! Text that is read gives exactly the bytes it tells; every string of bytes can be written as text, and reading that
 //! gives the bytes back.
 
-pub mod layout;
+pub mod counts;
 pub mod read;
 pub mod write;
 

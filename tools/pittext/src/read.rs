@@ -1,6 +1,7 @@
 //! Text to the bytes of a script.
 
-use crate::layout::{field, Command, Counts, Field, Part, SCRIPT, SET, SET_LENGTH};
+use crate::counts::Counts;
+use hexscript::layout::{field, Command, Field, Part, SCRIPT, SET, SET_LENGTH};
 use std::fmt;
 
 /// The first line that cannot be written as bytes.
@@ -88,7 +89,7 @@ impl Reader {
         let body = parts(command, rest, counts)?;
         out.push(command.code);
         out.extend(&body);
-        self.counts.pass(command.code, &body);
+        self.counts.pass(command, &body);
         Ok(())
     }
 
@@ -152,14 +153,14 @@ fn parts(command: &Command, words: &[&str], counts: Counts) -> Result<Vec<u8>, S
     if command.is_padded() && counts.axes.is_none() {
         return Err(format!("'{}' before any 'axes': only 'full {}' can stand here", command.word, command.word));
     }
-    let expected: usize = command.parts.iter().map(|part| part.words(&counts)).sum();
+    let expected: usize = command.parts.iter().map(|part| counts.words(part)).sum();
     if words.len() != expected {
         return Err(format!("{}: {expected} words, {} given", takes(command, &counts), words.len()));
     }
     let mut out = Vec::new();
     let mut rest = words;
     for part in command.parts {
-        let (own, after) = rest.split_at(part.words(&counts));
+        let (own, after) = rest.split_at(counts.words(part));
         match part {
             Part::One(field) | Part::Axes(field) | Part::Divisions(field) => {
                 let start = out.len();
@@ -182,7 +183,7 @@ fn takes(command: &Command, counts: &Counts) -> String {
     let name = |part: &Part| match part {
         Part::One(field) => field.name.to_string(),
         Part::Axes(field) | Part::Divisions(field) => {
-            let count = part.words(counts);
+            let count = counts.words(part);
             format!("{count} {}{}", field.name, if count == 1 { "" } else { "s" })
         }
         Part::Word(word) => format!("'{word}'"),

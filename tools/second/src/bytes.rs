@@ -10,9 +10,6 @@ pub const DIVISION: u8 = 0x12;
 pub const EQUALITY: u8 = 0x13;
 pub const INEQUALITY: u8 = 0x14;
 
-pub const DIVISION_BYTES: usize = 23;
-pub const RULE_BYTES: usize = 37;
-
 const LARGEST_COEFFICIENT: i64 = 32_767;
 const LARGEST_DIVISOR: i64 = 32_767;
 const LARGEST_DIVISION_CONSTANT: i64 = 1_000_000_000;
@@ -31,29 +28,33 @@ pub fn parse(n: u8, bytes: &[u8]) -> Result<Set, u8> {
     let n = check_axes(n)?;
     let mut set = Set::empty(n);
     let mut rest = bytes;
-    while let Some((&command, after)) = rest.split_first() {
+    while !rest.is_empty() {
         // "within one 2, 3, 4, 5, 9, 6, 7, 8": 2 and 3 here.
-        let length = command_length(command)?;
-        if rest.len() < length {
-            return Err(refusal::CUT_OFF);
-        }
-        let body = &after[..length - 1];
+        let (command, body, after) = split_command(rest)?;
         match command {
             OPEN => open_basic(&mut set)?,
             DIVISION => add_division(&mut set, body)?,
             EQUALITY => add_rule(&mut set, Kind::Equality, body)?,
             _ => add_rule(&mut set, Kind::Inequality, body)?,
         }
-        rest = &rest[length..];
+        rest = after;
     }
     Ok(set)
 }
 
+/// The first command, what belongs to it, and what follows, or 2 or 3.
+pub fn split_command(bytes: &[u8]) -> Result<(u8, &[u8], &[u8]), u8> {
+    let (&command, rest) = bytes.split_first().ok_or(refusal::CUT_OFF)?;
+    let (body, after) = rest.split_at_checked(command_length(command)? - 1).ok_or(refusal::CUT_OFF)?;
+    Ok((command, body, after))
+}
+
+/// "23 bytes", "37 bytes", the command byte among them.
 fn command_length(command: u8) -> Result<usize, u8> {
     match command {
         OPEN => Ok(1),
-        DIVISION => Ok(DIVISION_BYTES),
-        EQUALITY | INEQUALITY => Ok(RULE_BYTES),
+        DIVISION => Ok(23),
+        EQUALITY | INEQUALITY => Ok(37),
         _ => Err(refusal::UNKNOWN_COMMAND),
     }
 }
@@ -163,20 +164,16 @@ fn not_all_zero(places: &[i64]) -> bool {
 /// rule fits it too ("Cutting rules" negates coefficients within ±32,767 and
 /// makes constants −c − 1 or c − 1, the latter of c ≥ −2,147,483,647 only).
 pub fn encode(set: &Set) -> Vec<u8> {
-    let mut out = Vec::with_capacity(encoded_length(set));
-    for basic in &set.basics {
-        encode_basic(basic, &mut out);
-    }
-    out
+    set.basics.iter().flat_map(encode_basic).collect()
 }
 
-fn encode_basic(basic: &BasicSet, out: &mut Vec<u8>) {
-    out.push(OPEN);
+fn encode_basic(basic: &BasicSet) -> Vec<u8> {
+    let mut out = vec![OPEN];
     for division in &basic.divisions {
         out.push(DIVISION);
         out.extend((division.d as u16).to_le_bytes());
         out.extend((division.c as i32).to_le_bytes());
-        encode_coefficients(&division.axes, out);
+        encode_coefficients(&division.axes, &mut out);
     }
     for rule in &basic.rules {
         out.push(match rule.kind {
@@ -184,9 +181,10 @@ fn encode_basic(basic: &BasicSet, out: &mut Vec<u8>) {
             Kind::Inequality => INEQUALITY,
         });
         out.extend((rule.constant as i32).to_le_bytes());
-        encode_coefficients(&rule.axes, out);
-        encode_coefficients(&rule.divs, out);
+        encode_coefficients(&rule.axes, &mut out);
+        encode_coefficients(&rule.divs, &mut out);
     }
+    out
 }
 
 fn encode_coefficients(coefficients: &[i64; 8], out: &mut Vec<u8>) {
@@ -196,7 +194,7 @@ fn encode_coefficients(coefficients: &[i64; 8], out: &mut Vec<u8>) {
 }
 
 pub fn basic_length(basic: &BasicSet) -> usize {
-    1 + DIVISION_BYTES * basic.divisions.len() + RULE_BYTES * basic.rules.len()
+    encode_basic(basic).len()
 }
 
 pub fn encoded_length(set: &Set) -> usize {

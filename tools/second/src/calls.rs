@@ -2,9 +2,7 @@
 
 use crate::algebra::{complement, difference, intersection, union, unwatched};
 use crate::ask::{holder, member, part, search, Sides, Table};
-use crate::bytes::{
-    encode, parse, read_division, read_rule, DIVISION, DIVISION_BYTES, EQUALITY, INEQUALITY, RULE_BYTES,
-};
+use crate::bytes::{encode, parse, read_division, read_rule, split_command, DIVISION, EQUALITY, INEQUALITY};
 use crate::count::{count, counts, Count};
 use crate::extreme::{extreme, Aim, Extreme};
 use crate::fleet::fleet;
@@ -308,24 +306,28 @@ impl<'a> Fields<'a> {
 
     /// Division commands and nothing else.
     fn divisions(&mut self) -> Option<Vec<Division>> {
-        self.bytes()?.chunks(DIVISION_BYTES).map(division).collect()
+        let bytes = self.bytes()?;
+        let mut rest = &bytes[..];
+        let mut divisions = Vec::new();
+        while !rest.is_empty() {
+            let (command, body, after) = split_command(rest).ok()?;
+            divisions.push((command == DIVISION).then(|| read_division(body))?);
+            rest = after;
+        }
+        Some(divisions)
     }
 
     /// One rule command.
     fn rule(&mut self) -> Option<Rule> {
         let bytes = self.bytes()?;
-        let kind = match *bytes.first()? {
+        let (command, body, after) = split_command(&bytes).ok()?;
+        let kind = match command {
             EQUALITY => Kind::Equality,
             INEQUALITY => Kind::Inequality,
             _ => return None,
         };
-        (bytes.len() == RULE_BYTES).then(|| read_rule(kind, &bytes[1..]))
+        after.is_empty().then(|| read_rule(kind, body))
     }
-}
-
-fn division(command: &[u8]) -> Option<Division> {
-    let whole = command.len() == DIVISION_BYTES && command[0] == DIVISION;
-    whole.then(|| read_division(&command[1..]))
 }
 
 /// Lower-case hex; `-` for the empty string.

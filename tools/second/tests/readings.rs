@@ -50,7 +50,7 @@ fn reading_03_absent_places() {
     assert_eq!(check(1, &bytes), "7");
     // A division of another basic set is absent in this one.
     let mut other = set(1, "basic; div 2 0 1; ge 0 1 1; basic; ge 0 1");
-    let rule = other.len() - 37;
+    let rule = other.len() - (bytes.len() - 1);
     other[rule + 5 + 16] = 1; // place 9
     assert_eq!(check(1, &other), "8");
 }

@@ -67,7 +67,8 @@ fn ends_of_the_ranges() {
 
 #[test]
 fn order_within_one_command() {
-    let cut_division = division(0, 0, &[])[..22].to_vec();
+    let mut cut_division = division(0, 0, &[]);
+    cut_division.pop();
     // 3 before 4 and 5.
     assert_eq!(check(1, &cut_division), "3");
     let after_rule = opened(&[rule(0x14, 0, &[]), cut_division]);

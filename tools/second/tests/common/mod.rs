@@ -1,10 +1,9 @@
 //! What the tests share: sets from listing lines, scripts piece by piece.
 #![allow(dead_code)]
 
-use second::bytes::RULE_BYTES;
 use second::calls::hex;
 use second::listing::{read_basic, read_set};
-use second::{encode, run_call, run_script, Set};
+use second::{encode, run_call, run_script, BasicSet, Set};
 
 /// The bytes of a set given as listing lines with `;` between them, each
 /// basic set opened by `basic`.
@@ -77,10 +76,8 @@ pub fn extreme(kind: &str, n: u8, bytes: &[u8], k: u64, expression: (i32, &[i32]
 /// `back K`, with `;` between them. A rule is written over the axes and divisions of the last start with 1 to 8 axes.
 pub fn walk_line(steps: &str) -> String {
     let (mut n, mut divisions) = (1, String::new());
-    let commands = |n: usize, lines: &str| {
-        let basic = read_basic(n, lines).expect("listing lines");
-        encode(&Set { n, basics: vec![basic] })[1..].to_vec()
-    };
+    let basic = |n: usize, lines: &str| read_basic(n, lines).expect("listing lines");
+    let commands = |n: usize, basic: BasicSet| hex(&encode(&Set { n, basics: vec![basic] })[1..]);
     let mut line = |step: &str| match step.trim().split_once(' ').expect("a step") {
         ("start", given) => {
             let (axes, lines) = given.split_once('/').unwrap_or((given, ""));
@@ -88,11 +85,11 @@ pub fn walk_line(steps: &str) -> String {
             if (1..=8).contains(&axes) {
                 (n, divisions) = (axes, lines.replace('/', "\n"));
             }
-            format!("start {axes} {}", hex(&commands(n, &divisions)))
+            format!("start {axes} {}", commands(n, basic(n, &divisions)))
         }
         ("add", rule) => {
-            let all = commands(n, &format!("{divisions}\n{rule}"));
-            format!("add {}", hex(&all[all.len() - RULE_BYTES..]))
+            let rules = basic(n, &format!("{divisions}\n{rule}")).rules;
+            format!("add {}", commands(n, BasicSet { divisions: Vec::new(), rules }))
         }
         _ => step.trim().to_string(),
     };
