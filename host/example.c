@@ -39,7 +39,7 @@ static int look(const char *when, const uint8_t *set, size_t length, const int32
 int main(void)
 {
     static table permit, closure;
-    static uint8_t allowed[8000];
+    static uint8_t allowed[LONGEST_SET];
     const int16_t tonnes[8] = {1}, less[8] = {-1}, road[8] = {0, 1}, no_road[8] = {0, -1};
     const int16_t minute[8] = {0, 0, 1}, none[8] = {0};
 

@@ -83,7 +83,7 @@ static void print(int64_t said, const pitsets_fraction *value)
 static void half_hour(int32_t h, const uint8_t *allowed, size_t length)
 {
     static table at;
-    static uint8_t there[8000];
+    static uint8_t there[LONGEST_SET];
     printf("half hour %2" PRId32 ":", h);
     for (int32_t road = 1; road <= ROADS; road++) {
         pitsets_fraction value = {{0, 0}, {0, 0}};
@@ -98,7 +98,7 @@ static void half_hour(int32_t h, const uint8_t *allowed, size_t length)
 int main(void)
 {
     static table permitted, closed, open_ended;
-    static uint8_t allowed[8000];
+    static uint8_t allowed[LONGEST_SET];
     pitsets_fraction value;
     permit(&permitted);
     closure(&closed);

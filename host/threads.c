@@ -4,12 +4,23 @@
 #include <string.h>
 
 #include "pitsets.h"
+#include "writing.h"
 
 enum { ROUNDS = 2000 };
 
 /* 0 ≤ x ≤ 2186, and the points with floor(x / 10) = 218 (document 01, "Worked on the board") */
-static const uint8_t range[75] = {0x11, 0x14, 0, 0, 0, 0, 1, 0, [38] = 0x14, 0x8A, 0x08, 0, 0, 0xFF, 0xFF};
-static const uint8_t tenth[61] = {0x11, 0x12, 10, 0, 0, 0, 0, 0, 1, 0, [24] = 0x13, 0x26, 0xFF, 0xFF, 0xFF, [45] = 1};
+static table range, tenth;
+
+static void write_sets(void)
+{
+    const int16_t up[8] = {1}, down[8] = {-1}, none[8] = {0};
+    basic_set(&range);
+    at_least_0(&range, 0, up, 0);
+    at_least_0(&range, 2186, down, 0);
+    basic_set(&tenth);
+    division(&tenth, 10, 0, up);
+    exactly_0(&tenth, -218, none, 1);
+}
 
 /* of the difference: in, out, in, out */
 static const int32_t fleet[4] = {2179, 2180, 0, -1};
@@ -33,9 +44,9 @@ static int weighed(int round)
     const int32_t axes[8] = {2}, divisions[8] = {0};
     pitsets_fraction v;
     memset(&v, round & 0xFF, sizeof v);
-    int64_t r = pitsets_least(1, tenth, sizeof tenth, 1, -5000, axes, divisions, &v);
+    int64_t r = pitsets_least(1, tenth.bytes, tenth.length, 1, -5000, axes, divisions, &v);
     if (r != PITSETS_VALUE || pitsets_double(&v) != -640 || v.denominator.low != 1 || v.denominator.high) return 0;
-    r = pitsets_greatest(1, tenth, sizeof tenth, 1, -5000, axes, divisions, &v);
+    r = pitsets_greatest(1, tenth.bytes, tenth.length, 1, -5000, axes, divisions, &v);
     return r == PITSETS_VALUE && pitsets_double(&v) == -622 && v.denominator.low == 1 && !v.denominator.high;
 }
 
@@ -57,16 +68,22 @@ typedef struct {
     int failed;
 } own;
 
+/* the range without the tenth */
+static int64_t less(uint8_t *result, size_t length)
+{
+    return pitsets_difference(1, range.bytes, range.length, tenth.bytes, tenth.length, result, length);
+}
+
 static void *work(void *given)
 {
     own *mine = given;
     int *failed = &mine->failed;
     uint8_t first[200], again[200];
-    int64_t length = pitsets_difference(1, range, sizeof range, tenth, sizeof tenth, first, sizeof first);
+    int64_t length = less(first, sizeof first);
     if (length != 135) *failed = 1;
     for (int i = 0; i < ROUNDS; i++) {
         memset(again, i & 0xFF, sizeof again);
-        if (pitsets_difference(1, range, sizeof range, tenth, sizeof tenth, again, sizeof again) != length) *failed = 1;
+        if (less(again, sizeof again) != length) *failed = 1;
         if (memcmp(first, again, sizeof first)) *failed = 1;
         if (pitsets_member(1, first, (size_t)length, 2179, 0, 0, 0, 0, 0, 0, 0) != 1) *failed = 1;
         if (pitsets_member(1, first, (size_t)length, 2180, 0, 0, 0, 0, 0, 0, 0) != 0) *failed = 1;
@@ -81,6 +98,7 @@ int main(void)
 {
     static own each[2];
     pthread_t t[2];
+    write_sets();
     for (int i = 0; i < 2; i++)
         if (pthread_create(&t[i], NULL, work, &each[i])) return 2;
     for (int i = 0; i < 2; i++) pthread_join(t[i], NULL);

@@ -12,10 +12,11 @@
 
 #include <inttypes.h>
 
+#include "layout.h"
 #include "line.h"
 #include "pitsets.h"
 
-enum { DIVISION_BYTES = 23, RULE_BYTES = 37, EDGE = 9, DIRTY = 0xA5 };
+enum { EDGE = 9, DIRTY = 0xA5 };
 enum step_kind { START, ADD, MARK_AS, BACK_TO };
 
 typedef struct {
@@ -91,44 +92,50 @@ static int64_t little_endian(const uint8_t *p, int bytes)
     return value - ((value >> (8 * bytes - 1)) << (8 * bytes));
 }
 
-/* the commands in the next word, each of so many bytes; `-` is none */
-static uint8_t *commands(char **rest, size_t width, size_t *count)
+/* the bytes of the next word; `-` is none */
+static uint8_t *word_bytes(char **rest, size_t *length)
 {
     char *w = word(rest);
-    size_t length = strcmp(w, "-") ? strlen(w) / 2 : 0;
-    uint8_t *bytes = malloc(length + 1);
+    *length = strcmp(w, "-") ? strlen(w) / 2 : 0;
+    uint8_t *bytes = malloc(*length + 1);
     if (!bytes) exit(2);
-    for (size_t i = 0; i < length; i++) bytes[i] = (uint8_t)(digit(w[2 * i]) * 16 + digit(w[2 * i + 1]));
-    if (length % width) broken("bad line");
-    *count = length / width;
+    for (size_t i = 0; i < *length; i++) bytes[i] = (uint8_t)(digit(w[2 * i]) * 16 + digit(w[2 * i + 1]));
     return bytes;
+}
+
+static void take_coefficients(const uint8_t *p, int32_t coefficients[8])
+{
+    for (int i = 0; i < 8; i++) coefficients[i] = (int32_t)little_endian(p + 2 * i, 2);
 }
 
 static void take_divisions(char **rest, step *s)
 {
-    uint8_t *bytes = commands(rest, DIVISION_BYTES, &s->count);
-    s->divisions = malloc(s->count * sizeof *s->divisions + 1);
+    size_t length;
+    uint8_t *bytes = word_bytes(rest, &length), *end = bytes + length;
+    s->divisions = malloc((length + 1) * sizeof *s->divisions);
     if (!s->divisions) exit(2);
-    for (size_t k = 0; k < s->count; k++) {
-        const uint8_t *p = bytes + k * DIVISION_BYTES;
-        pitsets_division *d = &s->divisions[k];
-        if (p[0] != 0x12) broken("bad line");
-        d->divisor = p[1] | p[2] << 8;
-        d->constant = (int32_t)little_endian(p + 3, 4);
-        for (int i = 0; i < 8; i++) d->axes[i] = (int32_t)little_endian(p + 7 + 2 * i, 2);
+    for (const uint8_t *p = bytes; p < end; s->count++) {
+        const command *c = whole_command(p, end);
+        if (!c || c->kind != DIVISION) broken("bad line");
+        pitsets_division *d = &s->divisions[s->count];
+        d->divisor = (int32_t)head_number(c, p);
+        d->constant = (int32_t)little_endian(p + c->constant, 4);
+        take_coefficients(p + axes_place(c), d->axes);
+        p += c->bytes;
     }
     free(bytes);
 }
 
 static void take_rule(char **rest, rule *r)
 {
-    size_t count;
-    uint8_t *p = commands(rest, RULE_BYTES, &count);
-    if (count != 1 || (p[0] != 0x13 && p[0] != 0x14)) broken("bad line");
-    r->equality = p[0] == 0x13;
-    r->constant = (int32_t)little_endian(p + 1, 4);
-    for (int i = 0; i < 8; i++) r->axes[i] = (int32_t)little_endian(p + 5 + 2 * i, 2);
-    for (int i = 0; i < 8; i++) r->divisions[i] = (int32_t)little_endian(p + 21 + 2 * i, 2);
+    size_t length;
+    uint8_t *p = word_bytes(rest, &length);
+    const command *c = whole_command(p, p + length);
+    if (!c || c->bytes != length || (c->kind != EQUALITY && c->kind != INEQUALITY)) broken("bad line");
+    r->equality = c->kind == EQUALITY;
+    r->constant = (int32_t)little_endian(p + c->constant, 4);
+    take_coefficients(p + axes_place(c), r->axes);
+    take_coefficients(p + divisions_place(c), r->divisions);
     free(p);
 }
 

@@ -50,7 +50,7 @@ static int refused(const char *what, int64_t result)
 int main(void)
 {
     static table permitted, closed;
-    static uint8_t rest[8000];
+    static uint8_t rest[LONGEST_SET];
     uint32_t counts[PITSETS_COUNTS], tested;
     permit(&permitted);
     closures(&closed);

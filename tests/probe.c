@@ -51,11 +51,12 @@ static void eight(char **rest, int32_t x[8])
     for (int i = 0; i < 8; i++) x[i] = (int32_t)strtol(word(rest), NULL, 10);
 }
 
-/* the place behind the basic set at a place */
+/* the place behind the basic set at a place; bytes that are no command are passed over: a set with a part has none */
 static size_t behind(const table *t, size_t at)
 {
-    at++;
-    while (at < t->length && t->bytes[at] != 0x11) at += t->bytes[at] == 0x12 ? 23 : 37;
+    const command *c;
+    do at += (c = command_of(t->bytes[at])) ? c->bytes : 1;
+    while (at < t->length && t->bytes[at] != OPENING_CODE);
     return at;
 }
 
@@ -84,7 +85,7 @@ static void check(char **rest)
 
 static void part(char **rest)
 {
-    static uint8_t out[2000];
+    static uint8_t out[LONGEST_BASIC_SET];
     size_t n = number(rest);
     table t = bytes(rest);
     size_t k = number(rest), length = probe_part(n, t.bytes, t.length, k, out, sizeof out);
@@ -108,7 +109,7 @@ static void member(char **rest)
 
 static void holder(char **rest)
 {
-    static uint8_t out[2000];
+    static uint8_t out[LONGEST_BASIC_SET];
     int32_t x[8];
     size_t n = number(rest);
     table a = bytes(rest), b = bytes(rest);

@@ -14,7 +14,7 @@ size_t after_probe_built(size_t axes, const uint8_t *set, size_t length, size_t 
 
 /* ---- one basic set, tested so many times: the pivots of all */
 
-typedef struct { const basic_set *set; size_t axes, length; uint8_t bytes[LONGEST]; } job;
+typedef struct { const basic_set *set; size_t axes, length; uint8_t bytes[LONGEST_BASIC_SET]; } job;
 
 static size_t before(const job *j, size_t times) { return before_probe_tests(j->axes, j->bytes, j->length, times); }
 static size_t after(const job *j, size_t times) { return after_probe_tests(j->axes, j->bytes, j->length, times); }

@@ -14,7 +14,7 @@ enum { TABLES = 4, LIMIT = 1000000 };
 typedef struct { size_t n, length; uint8_t *bytes; } handle;
 
 /* twice the longest: two sets may be too many for a union, which is then refused */
-static uint8_t tables[TABLES][2 * LONGEST];
+static uint8_t tables[TABLES][2 * LONGEST_SET];
 static handle results[TABLES];
 
 static const char *version(void) { return "this repository's static library"; }
@@ -40,9 +40,9 @@ static int64_t call(int operation, const handle *a, const handle *b, uint8_t *ta
 {
     switch (operation) {
     case UNION: return pitsets_union(a->n, a->bytes, a->length, b->bytes, b->length, table, a->length + b->length);
-    case INTERSECTION: return pitsets_intersection(a->n, a->bytes, a->length, b->bytes, b->length, table, LONGEST);
-    case DIFFERENCE: return pitsets_difference(a->n, a->bytes, a->length, b->bytes, b->length, table, LONGEST);
-    default: return pitsets_complement(a->n, a->bytes, a->length, table, LONGEST);
+    case INTERSECTION: return pitsets_intersection(a->n, a->bytes, a->length, b->bytes, b->length, table, LONGEST_SET);
+    case DIFFERENCE: return pitsets_difference(a->n, a->bytes, a->length, b->bytes, b->length, table, LONGEST_SET);
+    default: return pitsets_complement(a->n, a->bytes, a->length, table, LONGEST_SET);
     }
 }
 

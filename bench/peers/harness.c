@@ -69,7 +69,7 @@ __attribute__((noinline)) void measured(int operation, const loaded *l, const wo
 static void *load_box(const workcase *c)
 {
     static set s;
-    static uint8_t bytes[LONGEST];
+    static uint8_t bytes[LONGEST_SET];
     memset(&s, 0, sizeof s);
     s.n = c->n;
     s.count = 1;

@@ -8,20 +8,21 @@ int64_t floor_division(int64_t a, int64_t d) { return a / d - (a % d < 0); }
 static int32_t i32(const uint8_t *p) { return (int32_t)(p[0] | p[1] << 8 | p[2] << 16 | (uint32_t)p[3] << 24); }
 static int16_t i16(const uint8_t *p) { return (int16_t)(p[0] | p[1] << 8); }
 
-static void take_division(basic_set *b, const uint8_t *p)
+static void take_division(basic_set *b, const command *k, const uint8_t *p)
 {
     division *d = &b->div[b->divs++];
-    d->divisor = p[1] | p[2] << 8;
-    d->constant = i32(p + 3);
-    for (int j = 0; j < AXES; j++) d->axis[j] = i16(p + 7 + 2 * j);
+    d->divisor = (int32_t)head_number(k, p);
+    d->constant = i32(p + k->constant);
+    for (int j = 0; j < AXES; j++) d->axis[j] = i16(p + axes_place(k) + 2 * j);
 }
 
-static void take_constraint(basic_set *b, const uint8_t *p)
+/* division coefficients follow those of the axes */
+static void take_constraint(basic_set *b, const command *k, const uint8_t *p)
 {
     constraint *c = &b->con[b->cons++];
-    c->equality = p[0] == 0x13;
-    c->constant = i32(p + 1);
-    for (int j = 0; j < AXES + DIVISIONS; j++) c->coefficient[j] = i16(p + 5 + 2 * j);
+    c->equality = k->kind == EQUALITY;
+    c->constant = i32(p + k->constant);
+    for (int j = 0; j < AXES + DIVISIONS; j++) c->coefficient[j] = i16(p + axes_place(k) + 2 * j);
 }
 
 /* Reads what the workload program or an operation wrote: the layout and the counts are looked at, the numbers' ranges are not. */
@@ -32,21 +33,21 @@ int set_decode(set *s, int n, const uint8_t *p, size_t length)
     s->count = 0;
     while (p < end) {
         basic_set *b = s->count ? &s->basic[s->count - 1] : NULL;
-        size_t width = *p == 0x11 ? 1 : *p == 0x12 ? 23 : *p == 0x13 || *p == 0x14 ? 37 : 0;
-        if (!width || (size_t)(end - p) < width) return -1;
-        if (*p == 0x11) {
+        const command *k = whole_command(p, end);
+        if (!k) return -1;
+        if (k->kind == OPENING) {
             if (s->count == BASIC_SETS) return -1;
             b = &s->basic[s->count++];
             b->divs = b->cons = 0;
         } else if (!b) return -1;
-        else if (*p == 0x12) {
+        else if (k->kind == DIVISION) {
             if (b->cons || b->divs == DIVISIONS) return -1;
-            take_division(b, p);
+            take_division(b, k, p);
         } else {
             if (b->cons == CONSTRAINTS) return -1;
-            take_constraint(b, p);
+            take_constraint(b, k, p);
         }
-        p += width;
+        p += k->bytes;
     }
     return 0;
 }
@@ -61,14 +62,14 @@ size_t set_encode(const set *s, uint8_t *start)
 {
     uint8_t *p = start;
     for (const basic_set *b = s->basic; b < s->basic + s->count; b++) {
-        *p++ = 0x11;
+        *p++ = OPENING_CODE;
         for (const division *d = b->div; d < b->div + b->divs; d++) {
-            *p++ = 0x12;
+            *p++ = DIVISION_CODE;
             p = put(put(p, d->divisor, 2), d->constant, 4);
             for (int j = 0; j < AXES; j++) p = put(p, d->axis[j], 2);
         }
         for (const constraint *c = b->con; c < b->con + b->cons; c++) {
-            *p++ = c->equality ? 0x13 : 0x14;
+            *p++ = c->equality ? EQUALITY_CODE : INEQUALITY_CODE;
             p = put(p, c->constant, 4);
             for (int j = 0; j < AXES + DIVISIONS; j++) p = put(p, c->coefficient[j], 2);
         }

@@ -1,16 +1,13 @@
 /* Sets in document 01's bytes and decoded, membership by its definition (the judge of every column), and workload files. */
 #ifndef SETS_H
 #define SETS_H
-#include <stddef.h>
-#include <stdint.h>
+#include "../../host/layout.h"
 
 #ifdef __cplusplus
 extern "C" {
 #endif
 
 enum { AXES = 8, DIVISIONS = 8, CONSTRAINTS = 48, BASIC_SETS = 32 };
-/* the longest set of those limits, in bytes */
-enum { LONGEST = BASIC_SETS * (1 + DIVISIONS * 23 + CONSTRAINTS * 37) };
 
 typedef struct { int32_t divisor, constant; int16_t axis[AXES]; } division;
 typedef struct { int equality; int32_t constant; int16_t coefficient[AXES + DIVISIONS]; } constraint;
@@ -19,7 +16,7 @@ typedef struct { int n, count; basic_set basic[BASIC_SETS]; } set;
 
 /* 0, or -1 where the bytes are no set */
 int set_decode(set *s, int n, const uint8_t *p, size_t length);
-/* the length, which LONGEST bytes always hold */
+/* the length, which LONGEST_SET bytes always hold */
 size_t set_encode(const set *s, uint8_t *p);
 int basic_member(int n, const basic_set *b, const int32_t *x);
 int set_member(const set *s, const int32_t *x);

@@ -630,7 +630,7 @@ static const family *family_of(const char *name)
 static void write_case(const family *of, FILE *f)
 {
     static set s[SETS];
-    static uint8_t bytes[LONGEST];
+    static uint8_t bytes[LONGEST_SET];
     int32_t low[AXES] = {0}, high[AXES] = {0};
     uint32_t points = 256;
     int n = of->n ? of->n : from(1, 3);

@@ -1,6 +1,7 @@
 /* A search or a count as tools/second's line mode has it, `WORD N SET LIMIT L1..L8 H1..H8`, and the clock. */
 #ifndef ASKED_H
 #define ASKED_H
+#include "../../host/layout.h"
 #include <stdint.h>
 #include <stdio.h>
 #include <stdlib.h>
@@ -10,7 +11,7 @@
 #define EIGHT int32_t, int32_t, int32_t, int32_t, int32_t, int32_t, int32_t, int32_t
 #define ARGS(x) x[0], x[1], x[2], x[3], x[4], x[5], x[6], x[7]
 
-typedef struct { size_t n, length; uint32_t limit; int32_t side[2][8]; uint8_t set[65536]; } asked;
+typedef struct { size_t n, length; uint32_t limit; int32_t side[2][8]; uint8_t set[LONGEST_SET]; } asked;
 
 /* a call is repeated until so many seconds have passed */
 static const double ENOUGH = 0.001;

@@ -1,6 +1,7 @@
 /* What member and union cost: the check of a set's bytes, the whole question, which judges the rules where they stand, a
  * union of the set with itself, and a basic set decoded into a struct first. Least of many rounds. */
 #define _POSIX_C_SOURCE 200809L
+#include "../../host/layout.h"
 #include <stdint.h>
 #include <stdio.h>
 #include <stdlib.h>
@@ -22,17 +23,18 @@ static double now(void)
 
 static uint8_t *basic_set(uint8_t *s)
 {
-    *s++ = 0x11;
-    for (int d = 0; d < DIVISIONS; d++, s += 23) {
-        s[0] = 0x12;
+    const command *division = command_of(DIVISION_CODE), *rule = command_of(INEQUALITY_CODE);
+    *s++ = OPENING_CODE;
+    for (int d = 0; d < DIVISIONS; d++, s += division->bytes) {
+        s[0] = division->code;
         s[1] = 10;
-        for (int i = 0; i < AXES; i++) s[7 + 2 * i] = (uint8_t)(rand() % 5);
+        for (int i = 0; i < AXES; i++) s[axes_place(division) + 2 * (size_t)i] = (uint8_t)(rand() % 5);
     }
-    for (int c = 0; c < RULES; c++, s += 37) {
-        s[0] = 0x14;
-        s[1] = (uint8_t)rand();
-        for (int i = 0; i < AXES; i++) s[5 + 2 * i] = (uint8_t)(rand() % 5);
-        for (int i = 0; i < DIVISIONS; i++) s[21 + 2 * i] = (uint8_t)(rand() % 3);
+    for (int c = 0; c < RULES; c++, s += rule->bytes) {
+        s[0] = rule->code;
+        s[rule->constant] = (uint8_t)rand();
+        for (int i = 0; i < AXES; i++) s[axes_place(rule) + 2 * (size_t)i] = (uint8_t)(rand() % 5);
+        for (int i = 0; i < DIVISIONS; i++) s[divisions_place(rule) + 2 * (size_t)i] = (uint8_t)(rand() % 3);
     }
     return s;
 }
@@ -47,7 +49,7 @@ static uint8_t *basic_set(uint8_t *s)
 
 int main(void)
 {
-    static uint8_t set[8000], result[16000];
+    static uint8_t set[SETS * LONGEST_BASIC_SET], result[2 * sizeof set];
     uint8_t *end = basic_set(set);
     size_t one = (size_t)(end - set), all;
     for (int b = 1; b < SETS; b++) end = basic_set(end);

@@ -20,7 +20,7 @@ static void print_search(const workcase *c, const uint8_t *searched, size_t leng
 
 int main(int argc, char **argv)
 {
-    static uint8_t table[LONGEST];
+    static uint8_t table[LONGEST_SET];
     workload w;
     if (argc != 3) return 2;
     workload_read(&w, argv[1]);

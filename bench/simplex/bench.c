@@ -26,7 +26,7 @@ static ended plain_tests(const basic_set *b, size_t times)
 /* Adds the least times of one set. A call without tests is what ours costs beside them. */
 static void measure(size_t axes, const basic_set *b, sums *s)
 {
-    static uint8_t bytes[LONGEST];
+    static uint8_t bytes[LONGEST_BASIC_SET];
     size_t length = encode(b, bytes);
     double none = 1e18, all = 1e18, other = 1e18;
     ended e = plain_tests(b, 1);

@@ -341,14 +341,15 @@ static uint8_t *put_all(uint8_t *p, const int16_t *a) { for (int i = 0; i < 8; i
 
 size_t encode(const basic_set *b, uint8_t *out)
 {
-    uint8_t *p = put(out, 0x11, 1);
+    uint8_t *p = put(out, OPENING_CODE, 1);
     for (size_t i = 0; i < b->divs; i++) {
         const division *d = &b->divisions[i];
-        p = put_all(put(put(put(p, 0x12, 1), d->divisor, 2), (uint32_t)d->constant, 4), d->axes);
+        p = put_all(put(put(put(p, DIVISION_CODE, 1), d->divisor, 2), (uint32_t)d->constant, 4), d->axes);
     }
     for (size_t i = 0; i < b->cons; i++) {
         const constraint *c = &b->constraints[i];
-        p = put_all(put_all(put(put(p, c->equality ? 0x13 : 0x14, 1), (uint32_t)c->constant, 4), c->axes), c->divisions);
+        p = put(put(p, c->equality ? EQUALITY_CODE : INEQUALITY_CODE, 1), (uint32_t)c->constant, 4);
+        p = put_all(put_all(p, c->axes), c->divisions);
     }
     return (size_t)(p - out);
 }

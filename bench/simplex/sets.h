@@ -1,9 +1,10 @@
 /* Basic sets to test, made from a seed or read from a file. */
 #ifndef SETS_H
 #define SETS_H
+#include "../../host/layout.h"
 #include "plain.h"
 
-enum { SETS = 400, LONGEST = 2048 };
+enum { SETS = 400 };
 typedef struct { size_t axes, count; basic_set set[SETS]; } workload;
 
 /* Candidates of road closures cut from permits, as the dispatch software has them: five axes, 1 to 4 divisions. */
@@ -21,7 +22,7 @@ void large(workload *w, uint64_t seed, size_t rows, size_t columns, int most);
 void twins(const workload *w, int scaled, workload *near, workload *far);
 /* The sets of tools/generate/data/hard-sets.txt, as its lines say them. 0 where the file cannot be read. */
 int hard(workload *w, const char *path);
-/* Its bytes (document 01, "Bytes of a set"); their number. */
+/* Its bytes (document 01, "Bytes of a set"); their number, at most LONGEST_BASIC_SET. */
 size_t encode(const basic_set *b, uint8_t *out);
 
 #endif

@@ -16,7 +16,7 @@
 
 uint64_t probe_test(size_t, const uint8_t *, size_t, size_t);
 
-enum { ENOUGH_NS = 20000, MOST = 5000, DIVISION_BYTES = 23, RULE_BYTES = 37 };
+enum { ENOUGH_NS = 20000, MOST = 5000 };
 enum { DROPPED = 1, LONG = 2 }; /* of a test: 0 is point, 3 wide */
 
 /* a rule in the form of pitsets_state_add */
@@ -27,7 +27,8 @@ typedef struct {
     int64_t said;    /* to the last of them */
     int stopped;     /* at a rule that is wide or long */
     const basic_set *b;
-    uint8_t bytes[1 + DIVISIONS * DIVISION_BYTES + CONSTRAINTS * RULE_BYTES];
+    uint8_t bytes[LONGEST_BASIC_SET];
+    size_t end[1 + CONSTRAINTS]; /* how many of the bytes are those of the set with its first 0, 1, .. rules */
     pitsets_division divisions[DIVISIONS];
     rule rule[CONSTRAINTS];
     void *library;
@@ -50,11 +51,8 @@ static int64_t add(const grown *g, size_t i)
     return pitsets_state_add(&plan, r->equality, r->constant, r->axes, r->divisions);
 }
 
-/* the test of the set with its first `rules` rules, whose bytes those of the whole set begin with */
-static uint64_t tested(const grown *g, size_t rules)
-{
-    return probe_test(g->n, g->bytes, 1 + DIVISION_BYTES * (size_t)g->b->divs + RULE_BYTES * rules, 1);
-}
+/* the test of the set with its first `rules` rules */
+static uint64_t tested(const grown *g, size_t rules) { return probe_test(g->n, g->bytes, g->end[rules], 1); }
 
 static void grow_state(grown *g)
 {
@@ -152,14 +150,25 @@ static void build(grown *g, const char *family)
     }
 }
 
-static void take(grown *g, int n, const basic_set *b)
+/* the bytes, and how many of them each number of rules has */
+static void write_bytes(grown *g, int n, const basic_set *b)
 {
     static set one;
-    static uint8_t room[LONGEST];
     one.n = n;
     one.count = 1;
     one.basic[0] = *b;
-    memcpy(g->bytes, room, set_encode(&one, room));
+    const uint8_t *end = g->bytes + set_encode(&one, g->bytes);
+    size_t rules = 0;
+    for (const uint8_t *p = g->bytes; p < end; p += command_of(*p)->bytes) {
+        command_kind kind = command_of(*p)->kind;
+        if (kind == EQUALITY || kind == INEQUALITY) g->end[rules++] = (size_t)(p - g->bytes);
+    }
+    g->end[rules] = (size_t)(end - g->bytes);
+}
+
+static void take(grown *g, int n, const basic_set *b)
+{
+    write_bytes(g, n, b);
     g->n = (size_t)n;
     g->b = b;
     for (int j = 0; j < b->divs; j++) {
