@@ -7,6 +7,7 @@ use Prim.Native.Nat.{ℕ, zero, suc, _+_}
 use lib.IntN.{ℤ, pos, negℤ, _+ℤ_, _-ℤ_}
 use lib.Dec.{leb, eqb}
 use lib.ListN.{length, replicate}
+use Rattle.model.specs.Limits.{mostDivisions, mostConstraints, mostBasicSets}
 use Rattle.model.specs.Lists.{all, any, concatMap, filter, isNil}
 use Rattle.model.specs.Sets.{Division, Kind, equality, inequality, Constraint, BasicSet, Set, isZero}
 use Rattle.algebra.specs.Tighten.{void, tight, solvable}
@@ -78,8 +79,8 @@ addAt (suc i) c (z ∷ zs) = z ∷ addAt i c zs
 
 -- each of B's division coefficients at its new place, of 8
 abbrev pub move : List ℕ → List ℤ → List ℤ
-move [] cs = replicate 8 (pos 0)
-move (i ∷ is) [] = replicate 8 (pos 0)
+move [] cs = replicate mostDivisions (pos 0)
+move (i ∷ is) [] = replicate mostDivisions (pos 0)
 move (i ∷ is) (c ∷ cs) = addAt i c (move is cs)
 
 abbrev pub moveConstraint : List ℕ → Constraint → Constraint
@@ -149,13 +150,13 @@ module _ (keep : BasicSet → Bool) where
   -- between two cutters don't count)". A candidate counts whether or not the test would drop it
 
   abbrev pub joinFits : BasicSet → BasicSet → Bool
-  joinFits a b = leb (length (joinedDivisions a b)) 8
+  joinFits a b = leb (length (joinedDivisions a b)) mostDivisions
 
   abbrev pub candidatesFit : List Division → List Constraint → List Constraint → Bool
   candidatesFit ds w [] = true
   candidatesFit ds w (r ∷ rs) =
       let k : List BasicSet = kept ds w (opposites r) in
-      leb (length w + 1) 48 && cond (ends k r) true (candidatesFit ds (cond (isNil k) w (w ++ (tight r ∷ []))) rs)
+      leb (length w + 1) mostConstraints && cond (ends k r) true (candidatesFit ds (cond (isNil k) w (w ++ (tight r ∷ []))) rs)
 
   abbrev pub cutTightFits : BasicSet → BasicSet → Bool
   cutTightFits a c = joinFits a c && candidatesFit (joinedDivisions a c) (a .constraints) (movedConstraints a c)
@@ -169,7 +170,7 @@ module _ (keep : BasicSet → Bool) where
   cutAllFits (c ∷ cs) a = cutFits a c && all (cutAllFits cs) (cut a c)
 
   abbrev pub sizeFits : Set → Bool
-  sizeFits s = leb (length s) 32
+  sizeFits s = leb (length s) mostBasicSets
 
   abbrev pub unionFits : Set → Set → Bool
   unionFits s t = sizeFits (union s t)
@@ -178,7 +179,7 @@ module _ (keep : BasicSet → Bool) where
   differenceFits s t = all (cutAllFits t) s && sizeFits (difference s t)
 
   abbrev pub bothFits : BasicSet → BasicSet → Bool
-  bothFits a b = joinFits a b && leb (length (a .constraints) + length (b .constraints)) 48
+  bothFits a b = joinFits a b && leb (length (a .constraints) + length (b .constraints)) mostConstraints
 
   abbrev pub intersectionFits : Set → Set → Bool
   intersectionFits s t = all (λ (a : BasicSet). all (bothFits a) t) (concatMap solvable s) && sizeFits (intersection s t)

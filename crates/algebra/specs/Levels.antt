@@ -8,6 +8,7 @@ use Prim.Native.Nat.{ℕ, _≤_, _<_}
 use lib.Dec.{T}
 use lib.IntN.{ℤ}
 use lib.ListN.{length, getD, take}
+use Rattle.model.specs.Limits.{mostAxes}
 use Rattle.model.specs.Lists.{all, concatMap}
 use Rattle.model.specs.Sets.{BasicSet, Set, inBasic}
 use Rattle.algebra.specs.Cut.{cut, cutFits, sizeFits}
@@ -15,7 +16,7 @@ use Rattle.algebra.specs.Cut.{cut, cutFits, sizeFits}
 -- "Two places in the list are two pieces, alike or not": no point, however large, is at two places
 abbrev pub Disjoint : List BasicSet → Type 0
 Disjoint ps =
-    (x : List ℤ) → length x ≤ 8 → (d : BasicSet) (i j : ℕ) → i < length ps → j < length ps
+    (x : List ℤ) → length x ≤ mostAxes → (d : BasicSet) (i j : ℕ) → i < length ps → j < length ps
     → T (inBasic x (getD ps i d)) → T (inBasic x (getD ps j d)) → i ≡ j
 
 module _ (keep : BasicSet → Bool) where

@@ -5,13 +5,14 @@ use mathlib.Core.List.{List}
 use Prim.Native.Nat.{ℕ}
 use lib.Dec.{leb}
 use lib.ListN.{length}
+use Rattle.model.specs.Refusals.{overLimit, tableFull}
 use Rattle.model.specs.Sets.{Set}
 use Rattle.codec.specs.Bytes.{Answer, refused, gives, encode, decode}
 use Rattle.algebra.specs.Cut.{keeps, union, unionFits, intersection, intersectionFits, difference, differenceFits, complement, complementFits}
 
 -- 10 where a limit is passed, else 11 where the bytes are more than the table has, else the bytes
 abbrev pub result : Bool → ℕ → Set → Answer (List ℕ)
-result fits room s = cond fits (cond (leb (length (encode s)) room) (gives (encode s)) (refused 11)) (refused 10)
+result fits room s = cond fits (cond (leb (length (encode s)) room) (gives (encode s)) (refused tableFull)) (refused overLimit)
 
 abbrev pub onOne : (Set → Answer (List ℕ)) → Answer Set → Answer (List ℕ)
 onOne f (refused m) = refused m

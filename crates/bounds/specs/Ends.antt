@@ -7,9 +7,11 @@ use lib.IntN.{ℤ, pos, _+ℤ_, _*ℤ_}
 use lib.Signed.{nonNeg}
 use lib.ListN.{length, take, drop, getD}
 use Rattle.integers.specs.Z.{Within}
+use Rattle.model.specs.Limits.{mostAxes, mostDivisions, coefficientPlaces}
 use Rattle.model.specs.Sets.{Constraint}
 use Rattle.codec.specs.Places.{built, Past}
 use Rattle.codec.specs.declared.layout.Passed.{Passed}
+use Rattle.bounds.specs.Sizes.{mostMove, mostQuotient}
 use Rattle.bounds.specs.Intervals.{Interval, quotientSide, valueSide, canMeet, boxOf}
 
 -- every element is at most n in size
@@ -32,26 +34,26 @@ gain k f t cs = getD cs k (pos 0) *ℤ cond (nonNeg (getD cs k (pos 0))) f t
 
 -- the ends of as many sides, none beyond n in size
 pub record Ends (u v : List ℤ) (n : ℕ) : Type 0 where
-  pub few : length u ≤ 8
+  pub few : length u ≤ coefficientPlaces
   pub same : length v ≡ length u
   pub lows : AllWithin n u
   pub highs : AllWithin n v
 
 -- how far the ends of axis k move
 pub record Step (k : ℕ) (from to : ℤ) : Type 0 where
-  pub axis : k < 8
-  pub from-size : Within 2097152 from
-  pub to-size : Within 2097152 to
+  pub axis : k < mostAxes
+  pub from-size : Within mostMove from
+  pub to-size : Within mostMove to
 
 -- low and high begin with the ends of the values of the divisions from a place on, which d has passed
 pub record Bounded (s : List ℕ) (start : ℕ) (xs : List Interval) (low high : List ℤ) (d : Passed) : Type 0 where
-  pub few : d .count ≤ 8
+  pub few : d .count ≤ mostDivisions
   pub count : d .count ≡ length (built (drop start s) .divisions)
   pub is : boxOf (take (d .count) low) (take (d .count) high) ≡ map (quotientSide xs) (built (drop start s) .divisions)
-  pub lows : length low ≡ 8
-  pub highs : length high ≡ 8
-  pub low-size : AllWithin 549755813888 low
-  pub high-size : AllWithin 549755813888 high
+  pub lows : length low ≡ mostDivisions
+  pub highs : length high ≡ mostDivisions
+  pub low-size : AllWithin mostQuotient low
+  pub high-size : AllWithin mostQuotient high
   pub past : Past s start (d .next)
 
 -- the ends of a constraint: l and h those of its axes' part before axis k has moved, ql and qh those of the divisions' values

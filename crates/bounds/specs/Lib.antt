@@ -1,3 +1,4 @@
+pub mod Sizes
 pub mod Intervals
 pub mod Ends
 pub mod Rows

@@ -6,9 +6,11 @@ use Prim.Native.Nat.{ℕ, _+_, _≤_, _<_}
 use lib.IntN.{ℤ, pos, natAbs, _+ℤ_}
 use lib.ListN.{length, take, drop, getD}
 use Rattle.integers.specs.Z.{Within}
+use Rattle.model.specs.Limits.{mostAxes, mostCoordinate}
 use Rattle.model.specs.Sets.{Division, Constraint}
 use Rattle.codec.specs.Bytes.{constraintBody}
 use Rattle.codec.specs.Places.{basicAt, bodyAt, constraintAt, Whole, Opened}
+use Rattle.bounds.specs.Sizes.{mostAxesPart}
 use Rattle.bounds.specs.Ends.{best, gain}
 
 abbrev pub divisionAxes : Division → List ℤ
@@ -41,16 +43,16 @@ pub record Loose (s : List ℕ) (r : List ℤ) : Type 0 where
   pub places : length r ≡ 129
   pub place : getD r 128 (pos 0) ≡ pos (startOf r)
   pub opened : Opened s (startOf r)
-  pub least : (i : ℕ) → i < 56 → Within 274877906944 (getD r i (pos 0))
-  pub greatest : (i : ℕ) → i < 56 → Within 274877906944 (getD r (64 + i) (pos 0))
+  pub least : (i : ℕ) → i < 56 → Within mostAxesPart (getD r i (pos 0))
+  pub greatest : (i : ℕ) → i < 56 → Within mostAxesPart (getD r (64 + i) (pos 0))
 
 -- a row that is right for its box, of n axes
 pub record Row (s : List ℕ) (n : ℕ) (r : List ℤ) : Type 0 where
   pub places : length r ≡ 129
   pub place : getD r 128 (pos 0) ≡ pos (startOf r)
   pub opened : Opened s (startOf r)
-  pub lows : (j : ℕ) → j < 8 → Within 1048576 (getD r (56 + j) (pos 0))
-  pub highs : (j : ℕ) → j < 8 → Within 1048576 (getD r (120 + j) (pos 0))
+  pub lows : (j : ℕ) → j < mostAxes → Within mostCoordinate (getD r (56 + j) (pos 0))
+  pub highs : (j : ℕ) → j < mostAxes → Within mostCoordinate (getD r (120 + j) (pos 0))
   pub least : (i : ℕ) → i < 56 → getD r i (pos 0) ≡ best (getD (rowForms s r) i []) (lowsOf n r) (highsOf n r)
   pub greatest : (i : ℕ) → i < 56 → getD r (64 + i) (pos 0) ≡ best (getD (rowForms s r) i []) (highsOf n r) (lowsOf n r)
 
@@ -67,8 +69,8 @@ pub record Followed (s : List ℕ) (j k : ℕ) (low high r₀ r : List ℤ) : Ty
   pub place : getD r 128 (pos 0) ≡ getD r₀ 128 (pos 0)
   pub low-side : (j ≡ k → ⊥) → getD r (56 + j) (pos 0) ≡ getD low j (pos 0)
   pub high-side : (j ≡ k → ⊥) → getD r (120 + j) (pos 0) ≡ getD high j (pos 0)
-  pub lows : (i : ℕ) → i < 8 → (i ≡ j → ⊥) → getD r (56 + i) (pos 0) ≡ getD r₀ (56 + i) (pos 0)
-  pub highs : (i : ℕ) → i < 8 → (i ≡ j → ⊥) → getD r (120 + i) (pos 0) ≡ getD r₀ (120 + i) (pos 0)
+  pub lows : (i : ℕ) → i < mostAxes → (i ≡ j → ⊥) → getD r (56 + i) (pos 0) ≡ getD r₀ (56 + i) (pos 0)
+  pub highs : (i : ℕ) → i < mostAxes → (i ≡ j → ⊥) → getD r (120 + i) (pos 0) ≡ getD r₀ (120 + i) (pos 0)
 
 -- a row whose box is that from low to high but for axis k
 pub record Settled (s : List ℕ) (k : ℕ) (low high r : List ℤ) : Type 0 where

@@ -1,9 +1,11 @@
 // What the divisions and constraints of a row can reach over a box that the row has been settled to but for one axis.
 ghost use mathlib.Core.Path.{_≡_};
 ghost use lib.ListN.{length};
+ghost use Rattle.model.specs.Limits.{mostDivisions, mostCoordinate};
 ghost use Rattle.bounds.specs.Intervals.{boxOf};
 ghost use Rattle.bounds.specs.Ends.{AllWithin, Ends, Bounded, canStand};
 ghost use Rattle.codec.specs.Places.{constraintAt};
+ghost use Rattle.bounds.specs.Sizes.{mostQuotient};
 ghost use Rattle.bounds.specs.Rows.{startOf, Settled, Numbered};
 use crate::ends::can_meet;
 use crate::ends::quotient_end;
@@ -21,7 +23,7 @@ pub fn bounded(
     ql: &mut [i64],
     qh: &mut [i64],
 ) -> Passed
-    requires { ⌜ Settled (now s) k (now low) (now high) (now r) × Ends (now low) (now high) 1048576 × (length (now ql) ≡ 8) × AllWithin 549755813888 (now ql) × (length (now qh) ≡ 8) × AllWithin 549755813888 (now qh) ⌝ }
+    requires { ⌜ Settled (now s) k (now low) (now high) (now r) × Ends (now low) (now high) mostCoordinate × (length (now ql) ≡ mostDivisions) × AllWithin mostQuotient (now ql) × (length (now qh) ≡ mostDivisions) × AllWithin mostQuotient (now qh) ⌝ }
     ensures { λ d. ⌜ Bounded (now (s .entry)) (startOf (now (r .entry))) (boxOf (now (low .entry)) (now (high .entry))) (now (ql .exit)) (now (qh .exit)) d ⌝ }
 {
     let from = gap(low, k, r, 56);
@@ -53,7 +55,7 @@ pub fn can_stand(
     at: usize,
     i: usize,
 ) -> bool
-    requires { ⌜ Settled (now s) k (now low) (now high) (now r) × Ends (now low) (now high) 1048576 × Ends (now ql) (now qh) 549755813888 × Numbered (now s) (now r) at i ⌝ }
+    requires { ⌜ Settled (now s) k (now low) (now high) (now r) × Ends (now low) (now high) mostCoordinate × Ends (now ql) (now qh) mostQuotient × Numbered (now s) (now r) at i ⌝ }
     ensures { λ x. ⌜ x ≡ canStand (boxOf (now (low .entry)) (now (high .entry))) (boxOf (now (ql .entry)) (now (qh .entry))) (constraintAt (now (s .entry)) at) ⌝ }
 {
     let from = gap(low, k, r, 56);

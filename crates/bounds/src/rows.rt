@@ -7,7 +7,9 @@ ghost use Prim.Native.Nat.{ℕ, _+_, _≤_, _<_, _^_};
 ghost use lib.IntN.{pos, _-ℤ_};
 ghost use lib.ListN.{length, getD};
 ghost use Rattle.integers.specs.Z.{Within};
+ghost use Rattle.model.specs.Limits.{mostAxes, mostCoordinate};
 ghost use Rattle.codec.specs.Places.{Opened};
+ghost use Rattle.bounds.specs.Sizes.{mostMove};
 ghost use Rattle.bounds.specs.Ends.{AllWithin, Ends, Step};
 ghost use Rattle.bounds.specs.Rows.{startOf, rowForms, Loose, Row, Shifted, Followed, Settled};
 use crate::ends::moved;
@@ -16,7 +18,7 @@ use crate::ends::moved;
 pub fn fresh(start: usize) -> [i64; 129]
     requires { ⌜ start < 2 ^ 63 ⌝ }
     ensures place { λ r. ⌜ startOf r ≡ start ⌝ }
-    ensures row { λ r. ⌜ ((s : List ℕ) (n : ℕ) → n ≤ 8 → Opened s start → Row s n r) ⌝ }
+    ensures row { λ r. ⌜ ((s : List ℕ) (n : ℕ) → n ≤ mostAxes → Opened s start → Row s n r) ⌝ }
 {
     let mut r = [0i64; 129];
     r[128] = start as i64;
@@ -33,9 +35,9 @@ pub fn place(r: &[i64; 129]) -> usize
 
 // How far an end of axis k has to move, from that at place p + k of the row.
 pub fn gap(x: &[i64], k: usize, r: &[i64; 129], p: usize) -> i64
-    requires { ⌜ (k < length (now x)) × AllWithin 1048576 (now x) × (p + k < 129) × (length (now r) ≡ 129) × Within 1048576 (getD (now r) (p + k) (pos 0)) ⌝ }
+    requires { ⌜ (k < length (now x)) × AllWithin mostCoordinate (now x) × (p + k < 129) × (length (now r) ≡ 129) × Within mostCoordinate (getD (now r) (p + k) (pos 0)) ⌝ }
     ensures is { λ z. ⌜ z ≡ getD (now (x .entry)) k (pos 0) -ℤ getD (now (r .entry)) (p + k) (pos 0) ⌝ }
-    ensures size { λ z. ⌜ Within 2097152 z ⌝ }
+    ensures size { λ z. ⌜ Within mostMove z ⌝ }
 {
     x[k] - r[p + k]
 }
@@ -69,7 +71,7 @@ fn unmoved(from: i64, to: i64) -> bool
 
 // The side of axis j follows the box, unless j is k.
 fn follow(s: &[u8], j: usize, k: usize, low: &[i64], high: &[i64], r: &mut [i64; 129])
-    requires { ⌜ Row (now s) (length (now low)) (now r) × Ends (now low) (now high) 1048576 × (j < length (now low)) ⌝ }
+    requires { ⌜ Row (now s) (length (now low)) (now r) × Ends (now low) (now high) mostCoordinate × (j < length (now low)) ⌝ }
     ensures { λ _. ⌜ Followed (now (s .entry)) j k (now (low .entry)) (now (high .entry)) (now (r .entry)) (now (r .exit)) ⌝ }
 {
     if j == k {
@@ -87,7 +89,7 @@ fn follow(s: &[u8], j: usize, k: usize, low: &[i64], high: &[i64], r: &mut [i64;
 
 // Every side but that of axis k follows the box.
 pub fn settle(s: &[u8], k: usize, low: &[i64], high: &[i64], r: &mut [i64; 129])
-    requires { ⌜ Row (now s) (length (now low)) (now r) × Ends (now low) (now high) 1048576 × (k < length (now low)) ⌝ }
+    requires { ⌜ Row (now s) (length (now low)) (now r) × Ends (now low) (now high) mostCoordinate × (k < length (now low)) ⌝ }
     ensures is { λ _. ⌜ Settled (now (s .entry)) k (now (low .entry)) (now (high .entry)) (now (r .exit)) ⌝ }
     ensures place { λ _. ⌜ startOf (now (r .exit)) ≡ startOf (now (r .entry)) ⌝ }
 {

@@ -6,6 +6,7 @@ use Prim.Native.Nat.{ℕ, _+_, _*_, _≤_, _<_}
 use lib.Dec.{eqb}
 use lib.IntN.{ℤ, pos}
 use lib.ListN.{length, take}
+use Rattle.model.specs.Limits.{mostDivisions, mostConstraints}
 use Rattle.model.specs.Sets.{Kind, equality, inequality, Constraint, BasicSet, conditions}
 use Rattle.model.specs.Values.{constraintOf, basicSetOf}
 use Rattle.model.specs.declared.Constraint.{Constraint as StoredConstraint}
@@ -29,8 +30,8 @@ pub record Tables (rows : List (List ℤ)) (place kinds : List ℕ) : Type 0 whe
 
 -- a constraint may follow
 pub record Roomy (w : Stored) : Type 0 where
-  pub divs : w .divs ≤ 8
-  pub cons : w .cons < 48
+  pub divs : w .divs ≤ mostDivisions
+  pub cons : w .cons < mostConstraints
 
 -- the first constraints of b, then r
 abbrev pub withLast : BasicSet → ℕ → Constraint → BasicSet
@@ -69,8 +70,8 @@ pub record KeptOf (k : ℕ) (r : StoredConstraint) (h : Standing) (rows : List (
 
 -- the tables hold the test of the first constraints of w
 pub record Behind (w : Stored) (h : Standing) (rows : List (List ℤ)) (place kinds : List ℕ) (past : List (List ℤ)) (columns : List ℕ) : Type 0 where
-  pub divs : w .divs ≤ 8
-  pub cons : w .cons ≤ 48
+  pub divs : w .divs ≤ mostDivisions
+  pub cons : w .cons ≤ mostConstraints
   pub count : length (basicSetOf w .divisions) ≡ w .divs
   pub size : length (conditions (basicSetOf w)) ≡ 2 * w .divs + w .cons
   pub from : 2 * w .divs ≤ h .rows

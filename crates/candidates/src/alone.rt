@@ -3,6 +3,7 @@ ghost use mathlib.Core.Path.{_≡_};
 ghost use Prim.Native.Nat.{_≤_, _<_};
 ghost use lib.ListN.{length};
 ghost use Rattle.model.specs.Values.{constraintOf, basicSetOf};
+ghost use Rattle.model.specs.Limits.{mostConstraints};
 ghost use Rattle.algebra.specs.Cut as C;
 ghost use Rattle.records.specs.Sound.{Sound};
 ghost use Rattle.simplex.specs.Answers.{verdictOf};
@@ -36,7 +37,7 @@ pub fn keeps(b: BasicSet, rows: &mut [[i64; 18]], place: &mut [usize], kinds: &m
 
 // The first `at` constraints of w, then r.
 pub fn put(w: BasicSet, at: usize, r: Constraint) -> BasicSet
-    requires { ⌜ (at ≤ w .cons) × (at < 48) ⌝ }
+    requires { ⌜ (at ≤ w .cons) × (at < mostConstraints) ⌝ }
     ensures { λ q. ⌜ Putting w at r q ⌝ }
 {
     let mut q = w;

@@ -5,7 +5,9 @@ ghost use mathlib.Core.Path.{_≡_};
 ghost use Prim.Native.Nat.{_≤_};
 ghost use Rattle.simplex.specs.Table.{Fine};
 ghost use lib.ListN.{length};
+ghost use Rattle.model.specs.Limits.{mostPivots};
 ghost use Rattle.carrying.specs.Carried.{Went, RanBoth, isWide};
+use model::limit;
 
 pub fn is_wide(v: Verdict) -> bool
     ensures { λ r. ⌜ r ≡ isWide v ⌝ }
@@ -27,7 +29,7 @@ fn in_table(
     from: usize,
     out: &mut [[u64; 36]],
 ) -> Counted
-    requires { ⌜ Fine n (now t) (now place) (now kinds) × (from ≤ 200) × (length (now out) ≡ length (now t)) ⌝ }
+    requires { ⌜ Fine n (now t) (now place) (now kinds) × (from ≤ mostPivots) × (length (now out) ≡ length (now t)) ⌝ }
     ensures { λ x. ⌜ Went (now (t .entry)) (now (place .entry)) (now (kinds .entry)) from x ⌝ }
 {
     crate::carry::carry(t, out);
@@ -35,7 +37,7 @@ fn in_table(
 }
 
 fn widened(t: &[[i64; 18]], n: usize, place: &mut [usize], kinds: &[u8], from: usize) -> Counted
-    requires { ⌜ Fine n (now t) (now place) (now kinds) × (from ≤ 200) ⌝ }
+    requires { ⌜ Fine n (now t) (now place) (now kinds) × (from ≤ mostPivots) ⌝ }
     ensures { λ x. ⌜ Went (now (t .entry)) (now (place .entry)) (now (kinds .entry)) from x ⌝ }
 {
     let m = t.len();
@@ -53,7 +55,7 @@ pub fn run_both(t: &mut [[i64; 18]], n: usize, place: &mut [usize], kinds: &[u8]
     let p = first.pivots;
     let before = e.built;
     if is_wide(v) {
-        let w = widened(t, n, place, kinds, 200 - p);
+        let w = widened(t, n, place, kinds, limit::PIVOTS - p);
         let ended = w.ended;
         let built = before + w.built;
         return Counted { ended, built };

@@ -6,8 +6,10 @@ ghost use mathlib.Core.Path.{_≡_};
 ghost use Prim.Native.Nat.{_≤_};
 ghost use Rattle.integers.specs.Size.{bound};
 ghost use Rattle.wide_tableau.specs.Cells.{rowsOf, Sheets, Turns};
+ghost use Rattle.model.specs.Limits.{mostPivots};
 ghost use Rattle.simplex.specs.Table.{pivotRows, pivotPlace, pivotBuilt, Fine, CrossingAt};
 ghost use Rattle.carrying.specs.Carried.{WentTo};
+use model::limit;
 
 // Step 5: the row of variable v and the column of variable w; the number of rows built.
 pub fn pivot(t: &mut [[u64; 36]], n: usize, place: &mut [usize], v: usize, w: usize) -> usize
@@ -30,7 +32,7 @@ pub fn go_on(
     kinds: &[u8],
     from: usize,
 ) -> Counted
-    requires { ⌜ Sheets (now t) × Fine n (rowsOf (now t)) (now place) (now kinds) × (from ≤ 200) ⌝ }
+    requires { ⌜ Sheets (now t) × Fine n (rowsOf (now t)) (now place) (now kinds) × (from ≤ mostPivots) ⌝ }
     ensures { λ x. ⌜ WentTo (rowsOf (now (t .entry))) (now (place .entry)) (now (kinds .entry)) from x (now (t .exit)) (now (place .exit)) ⌝ }
 {
     let mut left = from;
@@ -41,7 +43,7 @@ pub fn go_on(
             Move::Stop(x) => {
                 let ended = Ended {
                     verdict: x,
-                    pivots: 200 - left,
+                    pivots: limit::PIVOTS - left,
                 };
                 return Counted { ended, built };
             }

@@ -12,6 +12,7 @@ ghost use Rattle.model.specs.Values.{basicSetOf};
 ghost use Rattle.feasibility.specs.Tableau.{rowsBuilt};
 ghost use Rattle.simplex.specs.Table.{Valid};
 ghost use Rattle.carrying.specs.Answers.{Tests, testBytes, testedOf};
+use model::limit;
 
 // The answer for a decoded basic set and the number of rows built for it, worked out in lent tables: nothing large is made for a
 // test.
@@ -30,7 +31,7 @@ pub fn test_counted(
     let k = b.divs;
     let cons = b.cons;
     let m = 2 * k + cons;
-    let n = 8 + k + m;
+    let n = limit::AXES + k + m;
     fill(b, rows, place, kinds);
     run_both(&mut rows[..m], k + 10, &mut place[..n], &kinds[..n])
 }

@@ -8,6 +8,7 @@ use Prim.Native.String.{String}
 use lib.IntN.{ℤ, pos, negsuc}
 use lib.Dec.{eqb}
 use lib.ListN.{length, replicate}
+use Rattle.model.specs.Limits.{setBytes}
 use Rattle.model.specs.Lists.{all}
 use Rattle.model.specs.Sets.{Division, Kind, equality, inequality, Constraint, Set, floorDiv}
 use Rattle.algebra.specs.Cut.{opposites, sameℤ, sameList}
@@ -100,11 +101,11 @@ pub data Case : Type 0 where
 abbrev pub right : Case → Bool
 right (member s x b) = givesBool (memberBytes 1 (encode s) (first x)) b
 right (floor z d q) = sameℤ (floorDiv z d) q
-right (minus s t r n) = givesBytes (differenceBytes 1 8000 (encode s) (encode t)) r n
-right (complement s r n) = givesBytes (complementBytes 1 8000 (encode s)) r n
-right (listed s r n input w) = givesBytes (complementBytes 1 8000 (encode s)) r n && sameBytes (script input) (codes w)
+right (minus s t r n) = givesBytes (differenceBytes 1 setBytes (encode s) (encode t)) r n
+right (complement s r n) = givesBytes (complementBytes 1 setBytes (encode s)) r n
+right (listed s r n input w) = givesBytes (complementBytes 1 setBytes (encode s)) r n && sameBytes (script input) (codes w)
 right (opposite r cs) = sameList (map (λ (o : Constraint). o .constant) (opposites r)) cs
-right (intersect s t r n) = givesBytes (intersectionBytes 1 8000 (encode s) (encode t)) r n
+right (intersect s t r n) = givesBytes (intersectionBytes 1 setBytes (encode s) (encode t)) r n
 right (search-case s l h k f n) = givesFound (searchBytes 1 (encode s) (first l) (first h) k) f n
 
 -- `10 01`, `40 00 4B 00` with A, `44 01 00`, `45 01`, `00`

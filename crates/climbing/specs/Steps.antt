@@ -15,6 +15,7 @@ use Rattle.model.specs.Values.{basicSetOf}
 use Rattle.model.specs.declared.BasicSet.{BasicSet}
 use Rattle.tableau.specs.Rows.{den, entry, first, violatedBy, helping, solveRow, rebuildRow, narrowRowAt, narrowRowsAt, Small, Line}
 use Rattle.wide_tableau.specs.Cells.{Turns, Becomes}
+use Rattle.model.specs.Limits.{mostAxes, mostPivots}
 use Rattle.simplex.specs.Table.{startRow, placeAt, kindNumber, moveAt, pivotRows, pivotPlace, Fine}
 use Rattle.simplex.specs.declared.Verdict.{Verdict}
 use Rattle.simplex.specs.declared.Verdict.the-variants.{Point, Dropped, Long, Wide}
@@ -171,7 +172,7 @@ halvesFrom m kinds greatest e =
     ]
 
 unfoldable pub halves : ℕ → List ℕ → Bool → List (List ℤ) → List ℤ → List ℕ → Extreme
-halves m kinds greatest rows goal place = halvesFrom m kinds greatest (reachWith m kinds 200 rows goal place)
+halves m kinds greatest rows goal place = halvesFrom m kinds greatest (reachWith m kinds mostPivots rows goal place)
 
 -- ---- what the functions ask and give
 
@@ -198,16 +199,16 @@ pub record Begun (b : BasicSet) (t : List (List ℕ)) (place kinds : List ℕ) :
   pub names : length place ≡ 80
   pub sames : length kinds ≡ 80
   pub rows : Turns (take (2 * b .divs + b .cons) t) (map (startRow (b .divs)) (conditions (basicSetOf b)))
-  pub places : (v : ℕ) → v < 8 + b .divs + (2 * b .divs + b .cons) → getD place v 0 ≡ placeAt (b .divs) v
-  pub kinds-are : (v : ℕ) → v < 8 + b .divs + (2 * b .divs + b .cons) → getD kinds v 0 ≡ kindNumber (sorts (basicSetOf b) v)
+  pub places : (v : ℕ) → v < mostAxes + b .divs + (2 * b .divs + b .cons) → getD place v 0 ≡ placeAt (b .divs) v
+  pub kinds-are : (v : ℕ) → v < mostAxes + b .divs + (2 * b .divs + b .cons) → getD kinds v 0 ≡ kindNumber (sorts (basicSetOf b) v)
 
 -- the first half ends in x, with this table, expression's row and places
 pub record Reaches (n : ℕ) (rows : List (List ℤ)) (goal : List ℤ) (place kinds : List ℕ) (x : Ended) (t : List (List ℕ)) (g : List ℕ) (place′ : List ℕ) : Type 0 where
-  pub verdict-is : x .verdict ≡ reachWith (bound 128) kinds 200 rows goal place .verdict
-  pub pivots-are : x .pivots ≡ 200 - reachWith (bound 128) kinds 200 rows goal place .left
-  pub rows-are : Turns t (reachWith (bound 128) kinds 200 rows goal place .rows)
-  pub goal-is : Becomes g (reachWith (bound 128) kinds 200 rows goal place .goal)
-  pub place-is : place′ ≡ reachWith (bound 128) kinds 200 rows goal place .place
+  pub verdict-is : x .verdict ≡ reachWith (bound 128) kinds mostPivots rows goal place .verdict
+  pub pivots-are : x .pivots ≡ mostPivots - reachWith (bound 128) kinds mostPivots rows goal place .left
+  pub rows-are : Turns t (reachWith (bound 128) kinds mostPivots rows goal place .rows)
+  pub goal-is : Becomes g (reachWith (bound 128) kinds mostPivots rows goal place .goal)
+  pub place-is : place′ ≡ reachWith (bound 128) kinds mostPivots rows goal place .place
 
 -- the second half ends in x, with this expression's row
 pub record Climbs (rows : List (List ℤ)) (goal : List ℤ) (place kinds : List ℕ) (greatest : Bool) (from : ℕ) (x : Outcome) (g : List ℕ) : Type 0 where

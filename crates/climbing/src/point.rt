@@ -6,6 +6,7 @@ ghost use mathlib.Core.Path.{_≡_};
 ghost use Rattle.integers.specs.Size.{bound};
 ghost use Rattle.wide_tableau.specs.Cells.{cells, rowsOf, Sheet, Sheets};
 ghost use Rattle.climbing.specs.Steps.{moveWith, Posed, Reaches};
+use model::limit;
 
 // What steps 1 to 4 say, with so many pivots left.
 fn choose(
@@ -44,14 +45,14 @@ pub fn reach(
     requires { ⌜ Sheets (now t) × Sheet (now goal) × Posed n (rowsOf (now t)) (cells (now goal)) (now place) (now kinds) ⌝ }
     ensures { λ x. ⌜ Reaches n (rowsOf (now (t .entry))) (cells (now (goal .entry))) (now (place .entry)) (now (kinds .entry)) x (now (t .exit)) (now (goal .exit)) (now (place .exit)) ⌝ }
 {
-    let mut left: usize = 200;
+    let mut left: usize = limit::PIVOTS;
     loop {
         let m = choose(t, goal, n, place, kinds, left);
         match m {
             Move::Stop(x) => {
                 return Ended {
                     verdict: x,
-                    pivots: 200 - left,
+                    pivots: limit::PIVOTS - left,
                 };
             }
             Move::Pivot(v, w) => {

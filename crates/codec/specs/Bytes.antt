@@ -6,6 +6,8 @@ use lib.IntN.{ℤ, pos, negsuc}
 use lib.Dec.{leb, ltb, eqb}
 use lib.Signed.{leZ}
 use lib.ListN.{length, take, drop}
+use Rattle.model.specs.Limits.{mostAxes, mostDivisions, mostConstraints, mostBasicSets, mostCoefficient, mostDivisor, mostDivisionConstant}
+use Rattle.model.specs.Refusals.{badAxes, unknownCommand, cutShort, noBasicSet, lateDivision, badDivisor, outOfRange, notAbsent, tooMany}
 pub use Rattle.integers.specs.LittleEndian.{bytesOf, valueOf, unsigned, signed, signedBytes}
 use Rattle.model.specs.Lists.{all, concatMap}
 use Rattle.model.specs.Sets.{Division, Kind, equality, inequality, Constraint, BasicSet, Set, absent}
@@ -17,22 +19,35 @@ pub data Answer {ℓ} (A : Type ℓ) : Type ℓ where
 
 -- ---- the layout: command bytes, and where the numbers of a command stand
 
+-- "`11` opens a basic set", "`12` division", "`13` equality, `14` inequality"
+abbrev pub openingByte : ℕ
+openingByte = 0x11
+
+abbrev pub divisionByte : ℕ
+divisionByte = 0x12
+
+abbrev pub equalityByte : ℕ
+equalityByte = 0x13
+
+abbrev pub inequalityByte : ℕ
+inequalityByte = 0x14
+
 -- the command that opens a basic set, that of a division, of a rule, and of a rule that is an equality
 abbrev pub isOpening : ℕ → Bool
-isOpening b = eqb b 0x11
+isOpening b = eqb b openingByte
 
 abbrev pub isDivision : ℕ → Bool
-isDivision b = eqb b 0x12
+isDivision b = eqb b divisionByte
 
 abbrev pub isConstraint : ℕ → Bool
-isConstraint b = eqb b 0x13 || eqb b 0x14
+isConstraint b = eqb b equalityByte || eqb b inequalityByte
 
 abbrev pub isEquality : ℕ → Bool
-isEquality b = eqb b 0x13
+isEquality b = eqb b equalityByte
 
 -- a byte at which a basic set goes on: in checked bytes every command but the one that opens the next
 abbrev pub goesOn : ℕ → Bool
-goesOn b = ltb 0x11 b
+goesOn b = ltb openingByte b
 
 -- where the body of a command stands, counted from its first byte: its constant, its axes and, of a rule, its divisions
 abbrev pub bodyOf : ℕ → ℕ
@@ -68,12 +83,12 @@ pub data Command : Type 0 where
   constraint : Constraint → Command
 
 abbrev pub opcode : Kind → ℕ
-opcode equality = 0x13
-opcode inequality = 0x14
+opcode equality = equalityByte
+opcode inequality = inequalityByte
 
 abbrev pub encodeCommand : Command → List ℕ
-encodeCommand opens = 0x11 ∷ []
-encodeCommand (division e) = 0x12 ∷ bytesOf 2 (e .divisor) ++ signedBytes 4 (e .constant) ++ concatMap (signedBytes 2) (e .axes)
+encodeCommand opens = openingByte ∷ []
+encodeCommand (division e) = divisionByte ∷ bytesOf 2 (e .divisor) ++ signedBytes 4 (e .constant) ++ concatMap (signedBytes 2) (e .axes)
 encodeCommand (constraint r) = opcode (r .kind) ∷ signedBytes 4 (r .constant) ++ concatMap (signedBytes 2) (r .axes) ++ concatMap (signedBytes 2) (r .divisions)
 
 abbrev pub commands : Set → List Command
@@ -92,10 +107,10 @@ abbrev pub constantIn : List ℕ → ℤ
 constantIn t = signed 4 (valueOf (take 4 t))
 
 abbrev pub axesIn : List ℕ → List ℤ
-axesIn t = signedList 8 (drop axesPlace t)
+axesIn t = signedList mostAxes (drop axesPlace t)
 
 abbrev pub divisionsIn : List ℕ → List ℤ
-divisionsIn t = signedList 8 (drop divisionsPlace t)
+divisionsIn t = signedList mostDivisions (drop divisionsPlace t)
 
 abbrev pub readDivision : ℕ → List ℕ → Division
 readDivision d t = record { divisor = d; constant = constantIn t; axes = axesIn t }
@@ -115,7 +130,10 @@ abbrev pub within : ℤ → ℤ → ℤ → Bool
 within l h z = leZ l z && leZ z h
 
 abbrev pub coefficient : ℤ → Bool
-coefficient z = within (negsuc 32766) (pos 32767) z
+coefficient z = within (negsuc (mostCoefficient - 1)) (pos mostCoefficient) z
+
+abbrev pub divisionConstant : ℤ → Bool
+divisionConstant z = within (negsuc (mostDivisionConstant - 1)) (pos mostDivisionConstant) z
 
 -- the number of the first test that fails
 abbrev pub firstFailing : List (Bool × ℕ) → ℕ
@@ -127,20 +145,20 @@ constantFits equality z = leZ (negsuc 2147483646) z
 constantFits inequality z = true
 
 abbrev pub testsOf : ℕ → Counts → Command → List (Bool × ℕ)
-testsOf n k opens = (ltb (k .basics) 32, 9) ∷ []
+testsOf n k opens = (ltb (k .basics) mostBasicSets, tooMany) ∷ []
 testsOf n k (division e) =
-    (ltb 0 (k .basics), 4)
-    ∷ (eqb (k .constraints) 0, 5)
-    ∷ (ltb (k .divisions) 8, 9)
-    ∷ (ltb 0 (e .divisor) && leb (e .divisor) 32767, 6)
-    ∷ (within (negsuc 999999999) (pos 1000000000) (e .constant) && all coefficient (e .axes), 7)
-    ∷ (absent n (e .axes), 8)
+    (ltb 0 (k .basics), noBasicSet)
+    ∷ (eqb (k .constraints) 0, lateDivision)
+    ∷ (ltb (k .divisions) mostDivisions, tooMany)
+    ∷ (ltb 0 (e .divisor) && leb (e .divisor) mostDivisor, badDivisor)
+    ∷ (divisionConstant (e .constant) && all coefficient (e .axes), outOfRange)
+    ∷ (absent n (e .axes), notAbsent)
     ∷ []
 testsOf n k (constraint r) =
-    (ltb 0 (k .basics), 4)
-    ∷ (ltb (k .constraints) 48, 9)
-    ∷ (constantFits (r .kind) (r .constant) && (all coefficient (r .axes) && all coefficient (r .divisions)), 7)
-    ∷ (absent n (r .axes) && absent (k .divisions) (r .divisions), 8)
+    (ltb 0 (k .basics), noBasicSet)
+    ∷ (ltb (k .constraints) mostConstraints, tooMany)
+    ∷ (constantFits (r .kind) (r .constant) && (all coefficient (r .axes) && all coefficient (r .divisions)), outOfRange)
+    ∷ (absent n (r .axes) && absent (k .divisions) (r .divisions), notAbsent)
     ∷ []
 
 abbrev pub refusal : ℕ → Counts → Command → ℕ
@@ -183,7 +201,7 @@ after c (gives cs) = gives (c ∷ cs)
 -- the number that refuses the command b with the bytes s after it, 0 for none
 unfoldable pub headRefusal : ℕ → Counts → ℕ → List ℕ → ℕ
 headRefusal n k b s =
-    firstFailing ((ltb 0 (widthOf b), 2) ∷ (leb (widthOf b) (suc (length s)), 3) ∷ (eqb (refusal n k (readCommand b s)) 0, refusal n k (readCommand b s)) ∷ [])
+    firstFailing ((ltb 0 (widthOf b), unknownCommand) ∷ (leb (widthOf b) (suc (length s)), cutShort) ∷ (eqb (refusal n k (readCommand b s)) 0, refusal n k (readCommand b s)) ∷ [])
 
 -- the commands of the bytes, or the number of the first that is refused. The first number bounds the length
 unfoldable pub parse : ℕ → ℕ → Counts → List ℕ → Answer (List Command)
@@ -200,10 +218,10 @@ setOf (refused m) = refused m
 setOf (gives cs) = gives (build cs .rest)
 
 abbrev pub axesFit : ℕ → Bool
-axesFit n = ltb 0 n && leb n 8
+axesFit n = ltb 0 n && leb n mostAxes
 
 unfoldable pub decode : ℕ → List ℕ → Answer Set
-decode n s = cond (axesFit n) (setOf (parse n (length s) (record { basics = 0; divisions = 0; constraints = 0 }) s)) (refused 1)
+decode n s = cond (axesFit n) (setOf (parse n (length s) (record { basics = 0; divisions = 0; constraints = 0 }) s)) (refused badAxes)
 
 -- the number of a refusal, 0 for none
 abbrev pub number : {A : Type 0} → Answer A → ℕ

@@ -1,13 +1,14 @@
 -- The bytes of a set from a place on: what the commands there build, and the records by which code goes through checked bytes.
 use mathlib.Core.Path.{_≡_}
 use mathlib.Core.List.{List, [], _∷_}
-use Prim.Native.Nat.{ℕ, zero, suc, _+_, _-_, _≤_, _<_}
+use Prim.Native.Nat.{ℕ, zero, suc, _+_, _-_, _*_, _≤_, _<_}
 use lib.ListN.{length, drop, getD}
+use Rattle.model.specs.Limits.{mostDivisions, mostConstraints, mostBasicSets}
 use Rattle.model.specs.Sets as S
 use Rattle.model.specs.Sets.{Division, Constraint, Set}
 use Rattle.model.specs.Values.{basicSetOf}
 use Rattle.model.specs.declared.BasicSet.{BasicSet}
-use Rattle.codec.specs.Bytes.{Command, Counts, headOf, bodyIn, widthOf, kindOf, readDivision, readConstraint, readCommand, Built, build, parse, decode, number}
+use Rattle.codec.specs.Bytes.{divisionByte, equalityByte, Command, Counts, headOf, bodyIn, widthOf, kindOf, readDivision, readConstraint, readCommand, Built, build, parse, decode, number}
 
 -- the commands of the bytes, whether or not they are refused; the first number bounds the length
 unfoldable pub commandsOf : ℕ → List ℕ → List Command
@@ -29,10 +30,10 @@ setFrom s at = built (drop at s) .rest
 
 -- how many bytes a division and a rule are written with
 abbrev pub divisionWidth : Division → ℕ
-divisionWidth e = 23
+divisionWidth e = widthOf divisionByte
 
 abbrev pub constraintWidth : Constraint → ℕ
-constraintWidth r = 37
+constraintWidth r = widthOf equalityByte
 
 abbrev pub widths : {A : Type 0} → (A → ℕ) → List A → ℕ
 widths f [] = 0
@@ -40,17 +41,17 @@ widths f (a ∷ l) = f a + widths f l
 
 -- the most that they have
 abbrev pub longestDivision : ℕ
-longestDivision = 23
+longestDivision = widthOf divisionByte
 
 abbrev pub longestConstraint : ℕ
-longestConstraint = 37
+longestConstraint = widthOf equalityByte
 
 -- the most that a basic set of 8 divisions and 48 rules has, and a set of 32 of them
 abbrev pub longestBasic : ℕ
-longestBasic = 1961
+longestBasic = 1 + mostDivisions * longestDivision + mostConstraints * longestConstraint
 
 abbrev pub longestSet : ℕ
-longestSet = 62752
+longestSet = mostBasicSets * longestBasic
 
 -- the place after that basic set
 abbrev pub endOf : List ℕ → ℕ → ℕ
@@ -120,7 +121,7 @@ pub record Past (s : List ℕ) (start next : ℕ) : Type 0 where
 -- b is the basic set there
 pub record Decoded (s : List ℕ) (at : ℕ) (b : BasicSet) : Type 0 where
   pub basic : basicSetOf b ≡ basicAt s at
-  pub divs : b .divs ≤ 8
-  pub cons : b .cons ≤ 48
-  pub divisions : length (b .divisions) ≡ 8
-  pub constraints : length (b .constraints) ≡ 48
+  pub divs : b .divs ≤ mostDivisions
+  pub cons : b .cons ≤ mostConstraints
+  pub divisions : length (b .divisions) ≡ mostDivisions
+  pub constraints : length (b .constraints) ≡ mostConstraints

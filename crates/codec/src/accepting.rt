@@ -5,51 +5,66 @@ ghost use mathlib.Core.Bool.{true, false};
 ghost use Prim.Native.Nat.{_+_, _≤_};
 ghost use lib.Signed.{_≤ℤ_};
 ghost use lib.ListN.{length};
+ghost use Rattle.model.specs.Limits.{mostAxes, coefficientPlaces};
 ghost use Rattle.codec.specs.Accepting.{Under, Over, Upto, rangesAllowed, InRange, DivisionsTo, ConstraintsTo, Ends, Accepts, DivisionThere, ConstraintThere};
+use crate::layout::AXES_PLACE;
+use crate::layout::CONSTANT_PLACE;
+use crate::layout::CONSTRAINT_HEAD;
+use crate::layout::CONSTRAINT_WIDTH;
 use crate::layout::DIVISION;
+use crate::layout::DIVISION_HEAD;
+use crate::layout::DIVISION_WIDTH;
+use crate::layout::DIVISIONS_PLACE;
 use crate::layout::EQUALITY;
+use crate::layout::HEAD_PLACE;
 use crate::layout::INEQUALITY;
 use crate::layout::OPENS;
 use integers::i16_at;
 use integers::i32_at;
 use integers::u16_at;
 use integers::u32_at;
+use model::limit;
 
-// A `12`, and a `13` or `14`, read whole where they stand: their widths, and the places of their numbers.
-const DIVISION_WIDTH: usize = 23;
+// A `12`, and a `13` or `14`, read whole where they stand: the places of their numbers.
+const DIVISION_CONSTANT: usize = DIVISION_HEAD + CONSTANT_PLACE;
 
-const DIVISION_DIVISOR: usize = 1;
+const DIVISION_AXES: usize = DIVISION_HEAD + AXES_PLACE;
 
-const DIVISION_CONSTANT: usize = 3;
+const CONSTRAINT_CONSTANT: usize = CONSTRAINT_HEAD + CONSTANT_PLACE;
 
-const DIVISION_AXES: usize = 7;
+const CONSTRAINT_AXES: usize = CONSTRAINT_HEAD + AXES_PLACE;
 
-const CONSTRAINT_WIDTH: usize = 37;
+const CONSTRAINT_DIVISIONS: usize = CONSTRAINT_HEAD + DIVISIONS_PLACE;
 
-const CONSTRAINT_CONSTANT: usize = 1;
+// The width of as many constraints as a basic set may have.
+const CONSTRAINTS_WIDTH: usize = limit::CONSTRAINTS * CONSTRAINT_WIDTH;
 
-const CONSTRAINT_AXES: usize = 5;
+// The table of ranges: the least at each place, as many zeros, the greatest, as many zeros.
+const RANGES: usize = 4 * limit::PLACES;
 
-const CONSTRAINT_DIVISIONS: usize = 21;
+const PAST_GREATEST: usize = 3 * limit::PLACES;
 
-// The width of 48 constraints.
-const CONSTRAINTS_WIDTH: usize = 1776;
+const LEAST: i16 = -limit::COEFFICIENT as i16;
+
+const GREATEST: i16 = limit::COEFFICIENT as i16;
+
+const LEAST_CONSTANT: i32 = -limit::DIVISION_CONSTANT;
 
 // Divisions in a row: the place after them, how many they are, and the least and the greatest coefficient at each place, 0 among them.
 pub struct DivisionRun {
     pub at: usize,
     pub count: usize,
-    pub low: [i16; 8],
-    pub high: [i16; 8],
+    pub low: [i16; limit::PLACES],
+    pub high: [i16; limit::PLACES],
 }
 
 // Constraints in a row, with the coefficients of the axes, and those of the divisions from `below` to `above`.
 pub struct ConstraintRun {
     pub at: usize,
-    pub low: [i16; 8],
-    pub high: [i16; 8],
-    pub below: [i16; 8],
-    pub above: [i16; 8],
+    pub low: [i16; limit::PLACES],
+    pub high: [i16; limit::PLACES],
+    pub below: [i16; limit::PLACES],
+    pub above: [i16; limit::PLACES],
 }
 
 // Whether a set is accepted, and how many basic sets it then has.
@@ -77,13 +92,13 @@ fn greatest(x: i16, y: i16) -> i16
 }
 
 // The least at each place, of the numbers before and the eight from p on.
-fn lowered(low: [i16; 8], s: &[u8], p: usize) -> [i16; 8]
+fn lowered(low: [i16; limit::PLACES], s: &[u8], p: usize) -> [i16; limit::PLACES]
     requires { ⌜ p + 16 ≤ length (now s) ⌝ }
     ensures { λ r. ⌜ Under r low × Over r (now (s .entry)) p ⌝ }
 {
     let mut r = low;
     let mut i = 0;
-    while i < 8 {
+    while i < limit::PLACES {
         let x = r[i];
         let v = i16_at(s, p + 2 * i);
         r[i] = least(v, x);
@@ -93,13 +108,13 @@ fn lowered(low: [i16; 8], s: &[u8], p: usize) -> [i16; 8]
 }
 
 // The greatest.
-fn raised(high: [i16; 8], s: &[u8], p: usize) -> [i16; 8]
+fn raised(high: [i16; limit::PLACES], s: &[u8], p: usize) -> [i16; limit::PLACES]
     requires { ⌜ p + 16 ≤ length (now s) ⌝ }
     ensures { λ r. ⌜ Under high r × Upto r (now (s .entry)) p ⌝ }
 {
     let mut r = high;
     let mut i = 0;
-    while i < 8 {
+    while i < limit::PLACES {
         let x = r[i];
         let v = i16_at(s, p + 2 * i);
         r[i] = greatest(v, x);
@@ -109,18 +124,18 @@ fn raised(high: [i16; 8], s: &[u8], p: usize) -> [i16; 8]
 }
 
 // The least coefficient at each place, from place 8 − n on, and 16 places further the greatest.
-fn ranges() -> [i16; 32]
+fn ranges() -> [i16; RANGES]
     ensures { λ r. ⌜ r ≡ rangesAllowed ⌝ }
 {
     [
-        -32767,
-        -32767,
-        -32767,
-        -32767,
-        -32767,
-        -32767,
-        -32767,
-        -32767,
+        LEAST,
+        LEAST,
+        LEAST,
+        LEAST,
+        LEAST,
+        LEAST,
+        LEAST,
+        LEAST,
         0,
         0,
         0,
@@ -129,14 +144,14 @@ fn ranges() -> [i16; 32]
         0,
         0,
         0,
-        32767,
-        32767,
-        32767,
-        32767,
-        32767,
-        32767,
-        32767,
-        32767,
+        GREATEST,
+        GREATEST,
+        GREATEST,
+        GREATEST,
+        GREATEST,
+        GREATEST,
+        GREATEST,
+        GREATEST,
         0,
         0,
         0,
@@ -159,15 +174,15 @@ fn between(l: i16, x: i16, y: i16, h: i16) -> bool
 
 // Whether the least and the greatest number at each place are in the range there, where n places are not absent. All are looked at, so that
 // the compiler compares them at once. `ranges` is what `ranges` gives.
-fn in_range(low: [i16; 8], high: [i16; 8], n: usize, ranges: &[i16]) -> bool
-    requires { ⌜ (n ≤ 8) × (now ranges ≡ rangesAllowed) ⌝ }
+fn in_range(low: [i16; limit::PLACES], high: [i16; limit::PLACES], n: usize, ranges: &[i16]) -> bool
+    requires { ⌜ (n ≤ coefficientPlaces) × (now ranges ≡ rangesAllowed) ⌝ }
     ensures { λ r. ⌜ (r ≡ true → InRange n low high) ⌝ }
 {
     let mut ok = true;
     let mut i = 0;
-    while i < 8 {
-        let l = ranges[8 - n + i];
-        let h = ranges[24 - n + i];
+    while i < limit::PLACES {
+        let l = ranges[limit::PLACES - n + i];
+        let h = ranges[PAST_GREATEST - n + i];
         if !between(l, low[i], high[i], h) {
             ok = false;
         }
@@ -187,18 +202,18 @@ fn division_there(s: &[u8], at: usize) -> bool
     if s[at] != DIVISION {
         return false;
     }
-    let d = u16_at(s, at + DIVISION_DIVISOR);
+    let d = u16_at(s, at + HEAD_PLACE);
     if d == 0 {
         return false;
     }
-    if 32767 < d {
+    if limit::DIVISOR < d {
         return false;
     }
     let k = i32_at(s, at + DIVISION_CONSTANT);
-    if k < -1000000000 {
+    if k < LEAST_CONSTANT {
         return false;
     }
-    k <= 1000000000
+    k <= limit::DIVISION_CONSTANT
 }
 
 // Whether a constraint is at `at`, with its constant in range. Most are inequalities, which may have any.
@@ -224,8 +239,8 @@ fn divisions(s: &[u8], start: usize) -> DivisionRun
 {
     let mut at = start;
     let mut count = 0;
-    let mut low = [0i16; 8];
-    let mut high = [0i16; 8];
+    let mut low = [0i16; limit::PLACES];
+    let mut high = [0i16; limit::PLACES];
     while division_there(s, at) {
         let l = lowered(low, s, at + DIVISION_AXES);
         low = l;
@@ -243,15 +258,20 @@ fn divisions(s: &[u8], start: usize) -> DivisionRun
 }
 
 // The constraints from `start` on, after divisions whose coefficients go from `least` to `greatest`.
-fn constraints(s: &[u8], start: usize, least: [i16; 8], greatest: [i16; 8]) -> ConstraintRun
+fn constraints(
+    s: &[u8],
+    start: usize,
+    least: [i16; limit::PLACES],
+    greatest: [i16; limit::PLACES],
+) -> ConstraintRun
     requires { ⌜ start ≤ length (now s) ⌝ }
     ensures { λ r. ⌜ ConstraintsTo (now (s .entry)) start least greatest (r .at) (r .low) (r .high) (r .below) (r .above) ⌝ }
 {
     let mut at = start;
     let mut low = least;
     let mut high = greatest;
-    let mut below = [0i16; 8];
-    let mut above = [0i16; 8];
+    let mut below = [0i16; limit::PLACES];
+    let mut above = [0i16; limit::PLACES];
     while constraint_there(s, at) {
         let l = lowered(low, s, at + CONSTRAINT_AXES);
         low = l;
@@ -274,12 +294,12 @@ fn constraints(s: &[u8], start: usize, least: [i16; 8], greatest: [i16; 8]) -> C
 
 // The place after the basic set whose commands start at `start`; 0 where it is not accepted.
 fn accepted_end(n: usize, s: &[u8], start: usize, ranges: &[i16]) -> usize
-    requires { ⌜ (n ≤ 8) × (start ≤ length (now s)) × (now ranges ≡ rangesAllowed) ⌝ }
+    requires { ⌜ (n ≤ mostAxes) × (start ≤ length (now s)) × (now ranges ≡ rangesAllowed) ⌝ }
     ensures { λ r. ⌜ ((r ≡ 0 → ⊥) → Ends n (now (s .entry)) start r) ⌝ }
 {
     let d = divisions(s, start);
     let k = d.count;
-    if 8 < k {
+    if limit::DIVISIONS < k {
         return 0;
     }
     let least = d.low;
@@ -316,7 +336,7 @@ pub fn accepts(n: usize, s: &[u8]) -> Quick
     if n == 0 {
         return undecided();
     }
-    if 8 < n {
+    if limit::AXES < n {
         return undecided();
     }
     let ranges = ranges();
@@ -326,7 +346,7 @@ pub fn accepts(n: usize, s: &[u8]) -> Quick
         if s[at] != OPENS {
             return undecided();
         }
-        if 32 <= basics {
+        if limit::BASIC_SETS <= basics {
             return undecided();
         }
         at = accepted_end(n, s, at + 1, &ranges);

@@ -6,11 +6,13 @@ ghost use lib.ListN.{length, drop, getD};
 ghost use lib.IntN.{pos, negsuc};
 ghost use Rattle.model.specs.Lists.{all};
 ghost use Rattle.model.specs.Sets.{isZero};
+ghost use Rattle.model.specs.Limits.{mostAxes, mostDivisions, coefficientPlaces};
 ghost use Rattle.codec.specs.Bytes as B;
-ghost use Rattle.codec.specs.Bytes.{signed, signedList, coefficient, within, constantFits, divisionBody, constraintBody, readDivision, readConstraint, readCommand, constraint, division, opens, refusal, headRefusal, decode, number, kindOf};
+ghost use Rattle.codec.specs.Bytes.{signed, signedList, coefficient, divisionConstant, constantFits, divisionBody, constraintBody, readDivision, readConstraint, readCommand, constraint, division, opens, refusal, headRefusal, decode, number, kindOf};
 ghost use Rattle.codec.specs.Checking.{countsOf, bitsAllowed};
 use crate::accepting::accepts;
 use crate::layout::AXES_PLACE;
+use crate::layout::CONSTANT_PLACE;
 use crate::layout::DIVISIONS_PLACE;
 use crate::layout::OPENS;
 use crate::layout::body;
@@ -20,6 +22,8 @@ use crate::layout::is_equality;
 use crate::layout::width;
 use integers::u16_at;
 use integers::u32_at;
+use model::limit;
+use model::refusal;
 
 // How far a set has come: its basic sets, and of the last one the divisions and constraints.
 pub struct Counts {
@@ -32,11 +36,11 @@ pub struct Counts {
 // them at once.
 fn plain(t: &[u8], p: usize) -> bool
     requires { ⌜ p + 16 ≤ length (now t) ⌝ }
-    ensures { λ r. ⌜ r ≡ all coefficient (signedList 8 (drop p (now (t .entry)))) ⌝ }
+    ensures { λ r. ⌜ r ≡ all coefficient (signedList coefficientPlaces (drop p (now (t .entry)))) ⌝ }
 {
     let mut ok = true;
     let mut i = 0;
-    while i < 8 {
+    while i < limit::PLACES {
         let v = u16_at(t, p + 2 * i);
         if v == 32768 {
             ok = false;
@@ -71,14 +75,14 @@ fn allowed() -> [u16; 16]
 
 // Whether those of the eight numbers from p on that are absent, all but the first n, are 0. `bits` is what `allowed` gives.
 fn zeros(t: &[u8], p: usize, n: usize, bits: &[u16]) -> bool
-    requires { ⌜ (p + 16 ≤ length (now t)) × (n ≤ 8) × (now bits ≡ bitsAllowed) ⌝ }
-    ensures { λ r. ⌜ r ≡ all isZero (signedList (8 - n) (drop (p + 2 * n) (now (t .entry)))) ⌝ }
+    requires { ⌜ (p + 16 ≤ length (now t)) × (n ≤ coefficientPlaces) × (now bits ≡ bitsAllowed) ⌝ }
+    ensures { λ r. ⌜ r ≡ all isZero (signedList (coefficientPlaces - n) (drop (p + 2 * n) (now (t .entry)))) ⌝ }
 {
     let mut ok = true;
     let mut i = 0;
-    while i < 8 {
+    while i < limit::PLACES {
         let v = u16_at(t, p + 2 * i);
-        let most = bits[8 - n + i] as u64;
+        let most = bits[limit::PLACES - n + i] as u64;
         if most < v {
             ok = false;
         }
@@ -87,14 +91,19 @@ fn zeros(t: &[u8], p: usize, n: usize, bits: &[u16]) -> bool
     ok
 }
 
+// The bits of a division's constant: up to the greatest, and from those of the least on.
+const MOST_CONSTANT: u64 = limit::DIVISION_CONSTANT as u64;
+
+const LEAST_CONSTANT: u64 = 4294967296 - MOST_CONSTANT;
+
 fn constant_in(v: u64) -> bool
     requires { ⌜ v < 4294967296 ⌝ }
-    ensures { λ r. ⌜ r ≡ within (negsuc 999999999) (pos 1000000000) (signed 4 v) ⌝ }
+    ensures { λ r. ⌜ r ≡ divisionConstant (signed 4 v) ⌝ }
 {
     if v < 2147483648 {
-        v <= 1000000000
+        v <= MOST_CONSTANT
     } else {
-        3294967296 <= v
+        LEAST_CONSTANT <= v
     }
 }
 
@@ -111,86 +120,86 @@ fn constraint_constant_in(b: u8, v: u64) -> bool
 fn opens_refusal(n: usize, k: Counts) -> u32
     ensures { λ r. ⌜ r ≡ refusal n (countsOf k) opens ⌝ }
 {
-    if k.basics < 32 {
+    if k.basics < limit::BASIC_SETS {
         return 0;
     }
-    9
+    refusal::TOO_MANY
 }
 
 // The refusal of a division by d whose body is t.
 fn division_refusal(n: usize, k: Counts, d: u64, t: &[u8], bits: &[u16]) -> u32
-    requires { ⌜ (divisionBody ≤ length (now t)) × (n ≤ 8) × (now bits ≡ bitsAllowed) ⌝ }
+    requires { ⌜ (divisionBody ≤ length (now t)) × (n ≤ mostAxes) × (now bits ≡ bitsAllowed) ⌝ }
     ensures { λ r. ⌜ r ≡ refusal n (countsOf k) (division (readDivision d (now (t .entry)))) ⌝ }
 {
     if k.basics == 0 {
-        return 4;
+        return refusal::NO_BASIC_SET;
     }
     if k.constraints != 0 {
-        return 5;
+        return refusal::LATE_DIVISION;
     }
-    if 8 <= k.divisions {
-        return 9;
+    if limit::DIVISIONS <= k.divisions {
+        return refusal::TOO_MANY;
     }
     if d == 0 {
-        return 6;
+        return refusal::BAD_DIVISOR;
     }
-    if 32767 < d {
-        return 6;
+    if limit::DIVISOR < d {
+        return refusal::BAD_DIVISOR;
     }
-    if !constant_in(u32_at(t, 0)) {
-        return 7;
+    if !constant_in(u32_at(t, CONSTANT_PLACE)) {
+        return refusal::OUT_OF_RANGE;
     }
     if !plain(t, AXES_PLACE) {
-        return 7;
+        return refusal::OUT_OF_RANGE;
     }
     if !zeros(t, AXES_PLACE, n, bits) {
-        return 8;
+        return refusal::NOT_ABSENT;
     }
     0
 }
 
 // The refusal of a constraint whose command is b and whose body is t.
 fn constraint_refusal(n: usize, k: Counts, b: u8, t: &[u8], bits: &[u16]) -> u32
-    requires { ⌜ (constraintBody ≤ length (now t)) × (n ≤ 8) × (k .divisions ≤ 8) × (now bits ≡ bitsAllowed) ⌝ }
+    requires { ⌜ (constraintBody ≤ length (now t)) × (n ≤ mostAxes) × (k .divisions ≤ mostDivisions) × (now bits ≡ bitsAllowed) ⌝ }
     ensures { λ r. ⌜ r ≡ refusal n (countsOf k) (constraint (readConstraint (kindOf b) (now (t .entry)))) ⌝ }
 {
     let d = k.divisions;
     if k.basics == 0 {
-        return 4;
+        return refusal::NO_BASIC_SET;
     }
-    if 48 <= k.constraints {
-        return 9;
+    if limit::CONSTRAINTS <= k.constraints {
+        return refusal::TOO_MANY;
     }
-    if !constraint_constant_in(b, u32_at(t, 0)) {
-        return 7;
+    if !constraint_constant_in(b, u32_at(t, CONSTANT_PLACE)) {
+        return refusal::OUT_OF_RANGE;
     }
     if !plain(t, AXES_PLACE) {
-        return 7;
+        return refusal::OUT_OF_RANGE;
     }
     if !plain(t, DIVISIONS_PLACE) {
-        return 7;
+        return refusal::OUT_OF_RANGE;
     }
     if !zeros(t, AXES_PLACE, n, bits) {
-        return 8;
+        return refusal::NOT_ABSENT;
     }
     if !zeros(t, DIVISIONS_PLACE, d, bits) {
-        return 8;
+        return refusal::NOT_ABSENT;
     }
     0
 }
 
 // The refusal of the command at `at`, 0 for none.
 fn head_refusal(n: usize, k: Counts, s: &[u8], at: usize, bits: &[u16]) -> u32
-    requires { ⌜ (at < length (now s)) × (n ≤ 8) × (k .divisions ≤ 8) × (now bits ≡ bitsAllowed) ⌝ }
+    requires { ⌜ (at < length (now s)) × (n ≤ mostAxes) × (k .divisions ≤ mostDivisions) × (now bits ≡ bitsAllowed) ⌝ }
     ensures { λ r. ⌜ r ≡ headRefusal n (countsOf k) (getD (now (s .entry)) at 0) (drop (at + 1) (now (s .entry))) ⌝ }
 {
     let b = s[at];
     let w = width(b);
     if w == 0 {
-        return 2;
+        return refusal::UNKNOWN_COMMAND;
     }
     if s.len() - at < w {
-        return 3;
+        return refusal::CUT_SHORT;
     }
     if b == OPENS {
         return opens_refusal(n, k);
@@ -230,7 +239,7 @@ fn counted(k: Counts, b: u8) -> Counts
 
 // The refusal of the bytes of a set over n axes, command by command.
 fn scan(n: usize, s: &[u8], bits: &[u16]) -> u32
-    requires { ⌜ (0 < n) × (n ≤ 8) × (now bits ≡ bitsAllowed) ⌝ }
+    requires { ⌜ (0 < n) × (n ≤ mostAxes) × (now bits ≡ bitsAllowed) ⌝ }
     ensures { λ r. ⌜ r ≡ number (decode n (now (s .entry))) ⌝ }
 {
     let mut at = 0;
@@ -256,10 +265,10 @@ pub fn scanned(n: usize, s: &[u8]) -> u32
     ensures { λ r. ⌜ r ≡ number (decode n (now (s .entry))) ⌝ }
 {
     if n == 0 {
-        return 1;
+        return refusal::BAD_AXES;
     }
-    if 8 < n {
-        return 1;
+    if limit::AXES < n {
+        return refusal::BAD_AXES;
     }
     let bits = allowed();
     scan(n, s, &bits)

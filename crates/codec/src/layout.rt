@@ -8,6 +8,7 @@ ghost use Rattle.codec.specs.Places.{headAt, bodyAt, nextOf, Whole};
 use crate::readers::code;
 use crate::readers::tail;
 use integers::u16_at;
+use model::limit;
 
 pub const OPENS: u8 = 0x11;
 
@@ -24,19 +25,26 @@ pub const AXES_PLACE: usize = 4;
 
 pub const DIVISIONS_PLACE: usize = 20;
 
+// What stands before the body: the first byte and, of a division, its head.
+pub const HEAD_PLACE: usize = 1;
+
+pub const DIVISION_HEAD: usize = 3;
+
+pub const CONSTRAINT_HEAD: usize = 1;
+
+// How long a body is, and a command.
+const DIVISION_BODY: usize = AXES_PLACE + 2 * limit::AXES;
+
+const CONSTRAINT_BODY: usize = DIVISIONS_PLACE + 2 * limit::DIVISIONS;
+
+pub const DIVISION_WIDTH: usize = DIVISION_HEAD + DIVISION_BODY;
+
+pub const CONSTRAINT_WIDTH: usize = CONSTRAINT_HEAD + CONSTRAINT_BODY;
+
 // The most bytes that a division and a constraint have.
-pub const LONGEST_DIVISION: usize = 23;
+pub const LONGEST_DIVISION: usize = DIVISION_WIDTH;
 
-pub const LONGEST_CONSTRAINT: usize = 37;
-
-// How long the body of a division is, and of a constraint; and what stands before it.
-const DIVISION_BODY: usize = 20;
-
-const CONSTRAINT_BODY: usize = 36;
-
-const DIVISION_HEAD: usize = 3;
-
-const CONSTRAINT_HEAD: usize = 1;
+pub const LONGEST_CONSTRAINT: usize = CONSTRAINT_WIDTH;
 
 // Divisions that are past: how many, and the place after them.
 pub struct Passed {
@@ -78,10 +86,10 @@ pub fn width(b: u8) -> usize
         return 1;
     }
     if is_division(b) {
-        return DIVISION_HEAD + DIVISION_BODY;
+        return DIVISION_WIDTH;
     }
     if is_constraint(b) {
-        return CONSTRAINT_HEAD + CONSTRAINT_BODY;
+        return CONSTRAINT_WIDTH;
     }
     0
 }
@@ -112,7 +120,7 @@ pub fn head(s: &[u8], at: usize) -> u64
     ensures size { λ r. ⌜ r < 4294967296 ⌝ }
 {
     if division_at(s, at) {
-        return u16_at(s, at + 1);
+        return u16_at(s, at + HEAD_PLACE);
     }
     0
 }

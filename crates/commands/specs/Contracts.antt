@@ -5,6 +5,7 @@ use mathlib.Core.List.{List, []}
 use Prim.Native.Nat.{ℕ, suc, _≤_, _<_}
 use lib.Dec.{leb, eqb}
 use lib.ListN.{length, take}
+use Rattle.model.specs.Limits.{mostAxes}
 use Rattle.model.specs.Lists.{all}
 use Rattle.model.specs.Sets.{Set}
 use Rattle.codec.specs.Bytes.{Answer, refused, gives}
@@ -23,7 +24,7 @@ pub record Operands (b : ℕ) (s : List ℕ) : Type 0 where
 
 -- the lent memory, with n axes and a line of 512 bytes
 pub record Usable (n : ℕ) (tables lengths result out : List ℕ) : Type 0 where
-  pub axes : n ≤ 8
+  pub axes : n ≤ mostAxes
   pub fitted : Fitted tables lengths
   pub result-long : length result ≡ room
   pub line-long : 512 ≤ length out

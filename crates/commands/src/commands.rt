@@ -6,6 +6,7 @@ ghost use Prim.Native.Nat.{ℕ, _+_, _≤_, _<_};
 ghost use lib.Dec.{leb, eqb};
 ghost use lib.ListN.{length, take, drop, getD};
 ghost use Rattle.model.specs.Lists.{all};
+ghost use Rattle.model.specs.Limits.{mostAxes, lastSet};
 ghost use Rattle.codec.specs.Bytes.{decode, axesFit, valueOf};
 ghost use Rattle.query.specs.Member.{memberBytes};
 ghost use Rattle.search.specs.Search.{searchBytes};
@@ -24,6 +25,8 @@ use listing::at_line;
 use listing::counted_line;
 use listing::header;
 use listing::word;
+use model::limit;
+use model::refusal;
 use operations::Outcome;
 use query::Membership;
 use search::FirstPoint;
@@ -62,10 +65,10 @@ fn open(axes: usize, n: usize, out: &mut [u8]) -> CommandDone
     ensures { λ r. ⌜ Told (S.opened (stateIn axes [] []) n .text) (S.opened (stateIn axes [] []) n .state .axes) (axesFit n) Nothing r (now (out .entry)) (now (out .exit)) ⌝ }
 {
     if n == 0 {
-        return says(refused_line(out, 1), axes, false);
+        return says(refused_line(out, refusal::BAD_AXES), axes, false);
     }
-    if 8 < n {
-        return says(refused_line(out, 1), axes, false);
+    if limit::AXES < n {
+        return says(refused_line(out, refusal::BAD_AXES), axes, false);
     }
     says(counted_line(out, b"axes", n as u64), n, true)
 }
@@ -94,9 +97,9 @@ fn list(axes: usize, m: usize, s: &[u8], out: &mut [u8]) -> CommandDone
 }
 
 // Eight coordinates from a place on.
-fn point(s: &[u8], p: usize) -> [i32; 8]
+fn point(s: &[u8], p: usize) -> [i32; limit::AXES]
     requires { ⌜ p + 32 ≤ length (now s) ⌝ }
-    ensures { λ r. ⌜ r ≡ S.coordinates 8 (drop p (now (s .entry))) ⌝ }
+    ensures { λ r. ⌜ r ≡ S.coordinates mostAxes (drop p (now (s .entry))) ⌝ }
 {
     [
         integers::i32_at(s, p),
@@ -113,7 +116,7 @@ fn point(s: &[u8], p: usize) -> [i32; 8]
 // `46`, with the operands s.
 fn member(axes: usize, set: &[u8], s: &[u8], out: &mut [u8]) -> usize
     requires { ⌜ (33 ≤ length (now s)) × (512 ≤ length (now out)) ⌝ }
-    ensures { λ r. ⌜ Writes 30 (tells memberLine (memberBytes axes (now (set .entry)) (S.coordinates 8 (drop 1 (now (s .entry)))))) (now (out .entry)) 0 r (now (out .exit)) ⌝ }
+    ensures { λ r. ⌜ Writes 30 (tells memberLine (memberBytes axes (now (set .entry)) (S.coordinates mostAxes (drop 1 (now (s .entry)))))) (now (out .entry)) 0 r (now (out .exit)) ⌝ }
 {
     let m = query::member(axes, set, point(s, 1));
     match m {
@@ -124,7 +127,7 @@ fn member(axes: usize, set: &[u8], s: &[u8], out: &mut [u8]) -> usize
 }
 
 fn found_line(n: usize, f: FirstPoint, out: &mut [u8]) -> usize
-    requires { ⌜ (n ≤ 8) × (512 ≤ length (now out)) ⌝ }
+    requires { ⌜ (n ≤ mostAxes) × (512 ≤ length (now out)) ⌝ }
     ensures { λ r. ⌜ Writes 512 (tells searchLine (foundIs n f)) (now (out .entry)) 0 r (now (out .exit)) ⌝ }
 {
     let seen = f.outcome;
@@ -140,8 +143,8 @@ fn found_line(n: usize, f: FirstPoint, out: &mut [u8]) -> usize
 
 // `47`, with the operands s.
 fn search(axes: usize, set: &[u8], s: &[u8], out: &mut [u8]) -> usize
-    requires { ⌜ (69 ≤ length (now s)) × (axes ≤ 8) × (512 ≤ length (now out)) ⌝ }
-    ensures { λ r. ⌜ Writes 512 (tells searchLine (searchBytes axes (now (set .entry)) (S.coordinates 8 (drop 5 (now (s .entry)))) (S.coordinates 8 (drop 37 (now (s .entry)))) (valueOf (take 4 (drop 1 (now (s .entry))))))) (now (out .entry)) 0 r (now (out .exit)) ⌝ }
+    requires { ⌜ (69 ≤ length (now s)) × (axes ≤ mostAxes) × (512 ≤ length (now out)) ⌝ }
+    ensures { λ r. ⌜ Writes 512 (tells searchLine (searchBytes axes (now (set .entry)) (S.coordinates mostAxes (drop 5 (now (s .entry)))) (S.coordinates mostAxes (drop 37 (now (s .entry)))) (valueOf (take 4 (drop 1 (now (s .entry))))))) (now (out .entry)) 0 r (now (out .exit)) ⌝ }
 {
     let f = first_point(
         axes,
@@ -198,11 +201,11 @@ fn set_numbers(b: u8) -> usize
 // Whether the first k operands are set numbers.
 fn numbers_fit(s: &[u8], k: usize) -> bool
     requires { ⌜ k ≤ length (now s) ⌝ }
-    ensures { λ r. ⌜ r ≡ all (λ (m : ℕ). leb m 3) (take k (now (s .entry))) ⌝ }
+    ensures { λ r. ⌜ r ≡ all (λ (m : ℕ). leb m lastSet) (take k (now (s .entry))) ⌝ }
 {
     let mut i = 0;
     while i < k {
-        if 3 < s[i] {
+        if limit::LAST_SET < s[i] {
             return false;
         }
         i += 1;
@@ -279,7 +282,7 @@ pub fn command(
         return open(axes, byte(s, 0), out);
     }
     if !numbers_fit(s, set_numbers(b)) {
-        return says(refused_line(out, 14), axes, true);
+        return says(refused_line(out, refusal::NO_SUCH_SET), axes, true);
     }
     perform(axes, b, s, tables, lengths, result, out)
 }

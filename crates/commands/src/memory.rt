@@ -3,6 +3,7 @@ ghost use mathlib.Core.Path.{_≡_};
 ghost use Prim.Native.Nat.{_+_, _*_, _≤_, _<_};
 ghost use lib.ListN.{length, getD, set};
 ghost use mathlib.Core.Bool.{true};
+ghost use Rattle.model.specs.Limits.{lastSet};
 ghost use Rattle.algebra.specs.Result.{Result};
 ghost use Rattle.session.specs.Script.{room, loadBytes};
 ghost use Rattle.listing.specs.Written.{put};
@@ -10,6 +11,8 @@ ghost use Rattle.session.specs.Turns.{Fitted, tableAt, stateIn, answerOf, isAss
 ghost use Rattle.commands.specs.Contracts.{Operands};
 ghost use Rattle.results.specs.Outcome.{outcomeIs};
 use listing::word;
+use model::limit;
+use model::refusal;
 use operations::Outcome;
 use operations::complement;
 use operations::difference;
@@ -27,10 +30,10 @@ pub fn byte(s: &[u8], i: usize) -> usize
 
 // The bytes of set m.
 pub fn table<'a>(tables: &'a [u8], lengths: &[usize], m: usize) -> &'a [u8]
-    requires { ⌜ Fitted (now tables) (now lengths) × (m ≤ 3) ⌝ }
+    requires { ⌜ Fitted (now tables) (now lengths) × (m ≤ lastSet) ⌝ }
     ensures { λ r. ⌜ now r ≡ tableAt (now (tables .entry)) (now (lengths .entry)) m ⌝ }
 {
-    let at = 8000 * m;
+    let at = limit::SET_BYTES * m;
     let end = at + lengths[m];
     &tables[at..end]
 }
@@ -45,9 +48,9 @@ pub fn load(n: usize, set: &[u8], result: &mut [u8]) -> Outcome
         clear(result, 0);
         return Outcome::Refused(k);
     }
-    if 8000 < set.len() {
+    if limit::SET_BYTES < set.len() {
         clear(result, 0);
-        return Outcome::Refused(11);
+        return Outcome::Refused(refusal::TABLE_FULL);
     }
     let end = word(result, 0, set);
     clear(result, end);
@@ -85,9 +88,9 @@ pub fn answer(
 
 // The whole table for results to table m, in which the set has l bytes.
 pub fn keep(tables: &mut [u8], lengths: &mut [usize], m: usize, result: &[u8], l: usize)
-    requires { ⌜ (length (now tables) ≡ 32000) × (length (now lengths) ≡ 4) × (m ≤ 3) × (length (now result) ≡ room) ⌝ }
+    requires { ⌜ (length (now tables) ≡ 32000) × (length (now lengths) ≡ lastSet + 1) × (m ≤ lastSet) × (length (now result) ≡ room) ⌝ }
     ensures { λ _. ⌜ (now (tables .exit) ≡ put (room * m) (now (result .entry)) (now (tables .entry))) × (now (lengths .exit) ≡ set (now (lengths .entry)) m l) ⌝ }
 {
-    word(tables, 8000 * m, result);
+    word(tables, limit::SET_BYTES * m, result);
     lengths[m] = l;
 }

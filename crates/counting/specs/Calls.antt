@@ -7,6 +7,7 @@ use Prim.Native.Nat.{ℕ, _≤_, _<_}
 use lib.IntN.{ℤ}
 use lib.ListN.{length, replicate}
 use Rattle.integers.specs.Z.{Within}
+use Rattle.model.specs.Limits.{mostAxes, mostCoordinate}
 use Rattle.codec.specs.Bytes.{refused, decode, number}
 use Rattle.search.specs.Search.{cornersFit}
 use Rattle.counting.specs.Counting.{Members, countsFrom, countBytes}
@@ -26,8 +27,8 @@ pub record Fitting (n : ℕ) (s : List ℕ) (low high : List ℤ) (k : ℕ) : Ty
 
 -- one of eight axes, its first value a coordinate; nothing is counted yet
 pub record Blank (c : Chosen) (each : List ℕ) : Type 0 where
-  pub axis : c .axis < 8
-  pub first : Within 1048576 (c .first)
+  pub axis : c .axis < mostAxes
+  pub first : Within mostCoordinate (c .first)
   pub none : each ≡ replicate (length each) 0
 
 -- what is told of the members m, with a table of k places for the values of the axis from its first

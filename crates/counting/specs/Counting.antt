@@ -6,6 +6,8 @@ use Prim.Native.Nat.{ℕ, zero, suc, _+_, _-_}
 use lib.IntN.{ℤ, pos, _+ℤ_, _-ℤ_}
 use lib.Dec.{leb, ltb}
 use lib.ListN.{length, take, getD}
+use Rattle.model.specs.Limits.{mostValues}
+use Rattle.model.specs.Refusals.{tableFull, badPoint, badLimit, badAxis}
 use Rattle.model.specs.Lists.{filter}
 use Rattle.model.specs.Sets.{Set, isZero}
 use Rattle.codec.specs.Bytes.{Answer, refused, gives, decode}
@@ -87,7 +89,7 @@ countBox s box axis limit =
 -- 19: "a chosen axis that isn't 1 to n or whose side has over 64 values"; not asked where no axis is chosen
 abbrev pub axisFits : ℕ → Option ℕ → List Interval → Bool
 axisFits n none box = true
-axisFits n (some a) box = ltb 0 a && (leb a n && leb (width (sideAt (a - 1) box)) 64)
+axisFits n (some a) box = ltb 0 a && (leb a n && leb (width (sideAt (a - 1) box)) mostValues)
 
 -- 1 to 9 of the set, then 12, then 19, "after 12 and before 13", then 13. With no axis the whole count alone, with one the separate
 -- counts beside it
@@ -99,9 +101,9 @@ countBytes n a ls hs axis limit = onSet (decode n a)
     onSet (gives s) =
         cond (cornersFit n ls hs)
         (cond (axisFits n axis (take n (boxOf ls hs)))
-        (cond (limitFits limit) (gives (countBox s (take n (boxOf ls hs)) axis limit)) (refused 13))
-        (refused 19))
-        (refused 12)
+        (cond (limitFits limit) (gives (countBox s (take n (boxOf ls hs)) axis limit)) (refused badLimit))
+        (refused badAxis))
+        (refused badPoint)
 
 -- the separate counts in a lent table of `size` places; 11 last, where the axis has more values than that
 unfoldable pub countsBytes : ℕ → ℕ → List ℕ → List ℤ → List ℤ → ℕ → ℕ → Answer Tally
@@ -109,4 +111,4 @@ countsBytes n size a ls hs axis limit = inTable (countBytes n a ls hs (some axis
   where
     inTable : Answer Tally → Answer Tally
     inTable (refused m) = refused m
-    inTable (gives t) = cond (leb (width (sideAt (axis - 1) (take n (boxOf ls hs)))) size) (gives t) (refused 11)
+    inTable (gives t) = cond (leb (width (sideAt (axis - 1) (take n (boxOf ls hs)))) size) (gives t) (refused tableFull)

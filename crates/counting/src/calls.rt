@@ -4,6 +4,7 @@ ghost use mathlib.Core.List.{[]};
 ghost use mathlib.Core.Option.{none, some};
 ghost use Prim.Native.Nat.{_≤_, _<_};
 ghost use lib.ListN.{length, take, replicate};
+ghost use Rattle.model.specs.Limits.{mostAxes};
 ghost use Rattle.codec.specs.Places.{setFrom};
 ghost use Rattle.search.specs.Search.{boxOf};
 ghost use Rattle.search.specs.Search as S;
@@ -15,6 +16,8 @@ ghost use Rattle.counting.specs.Calls.{Checked, Fitting, Blank, Ended};
 use crate::levels::Chosen;
 use crate::levels::Sum;
 use crate::levels::level;
+use model::limit;
+use model::refusal;
 
 pub enum Outcome {
     Done,
@@ -51,8 +54,8 @@ fn clear(each: &mut [u32])
 }
 
 // How many values axis i, from 0, has between the corners.
-fn width(low: [i32; 8], high: [i32; 8], i: usize) -> usize
-    requires { ⌜ i < 8 ⌝ }
+fn width(low: [i32; limit::AXES], high: [i32; limit::AXES], i: usize) -> usize
+    requires { ⌜ i < mostAxes ⌝ }
     ensures { λ r. ⌜ r ≡ S.width (sideAt i (boxOf low high)) ⌝ }
 {
     let a = low[i] as i64;
@@ -64,8 +67,8 @@ fn width(low: [i32; 8], high: [i32; 8], i: usize) -> usize
 }
 
 // Whether the axis, from 1, is one of n and its side has at most 64 values.
-fn axis_fits(n: usize, low: [i32; 8], high: [i32; 8], axis: usize) -> bool
-    requires { ⌜ n ≤ 8 ⌝ }
+fn axis_fits(n: usize, low: [i32; limit::AXES], high: [i32; limit::AXES], axis: usize) -> bool
+    requires { ⌜ n ≤ mostAxes ⌝ }
     ensures { λ r. ⌜ r ≡ axisFits n (some axis) (take n (boxOf low high)) ⌝ }
 {
     if axis == 0 {
@@ -74,11 +77,11 @@ fn axis_fits(n: usize, low: [i32; 8], high: [i32; 8], axis: usize) -> bool
     if n < axis {
         return false;
     }
-    width(low, high, axis - 1) <= 64
+    width(low, high, axis - 1) <= limit::VALUES
 }
 
 // The number of the set, or 12 of the corners; 0 for none.
-fn refusal(n: usize, set: &[u8], low: [i32; 8], high: [i32; 8]) -> u32
+fn refusal(n: usize, set: &[u8], low: [i32; limit::AXES], high: [i32; limit::AXES]) -> u32
     ensures { λ r. ⌜ Fitting n (now (set .entry)) low high r ⌝ }
 {
     let c = codec::check(n, set);
@@ -86,7 +89,7 @@ fn refusal(n: usize, set: &[u8], low: [i32; 8], high: [i32; 8]) -> u32
         return c;
     }
     if !search::corners_fit(n, low, high) {
-        return 12;
+        return refusal::BAD_POINT;
     }
     0
 }
@@ -95,8 +98,8 @@ fn refusal(n: usize, set: &[u8], low: [i32; 8], high: [i32; 8]) -> u32
 fn walked(
     n: usize,
     s: &[u8],
-    low: [i32; 8],
-    high: [i32; 8],
+    low: [i32; limit::AXES],
+    high: [i32; limit::AXES],
     limit: u32,
     c: Chosen,
     each: &mut [u32],
@@ -104,7 +107,7 @@ fn walked(
     requires { ⌜ Boxed n (now s) low high × Blank c (now each) ⌝ }
     ensures { λ r. ⌜ Summed limit 0 c (members (setFrom (now (s .entry)) 0) [] (take n (boxOf low high))) (now (each .entry)) r (now (each .exit)) ⌝ }
 {
-    let mut rows = [[0i64; 129]; 32];
+    let mut rows = [[0i64; 129]; limit::BASIC_SETS];
     let all = search::begin(n, s, low, high, limit, &mut rows);
     level(s, all, 0, c, &mut rows, each)
 }
@@ -113,8 +116,8 @@ fn walked(
 fn ended(
     n: usize,
     s: &[u8],
-    low: [i32; 8],
-    high: [i32; 8],
+    low: [i32; limit::AXES],
+    high: [i32; limit::AXES],
     limit: u32,
     c: Chosen,
     each: &mut [u32],
@@ -135,7 +138,13 @@ fn ended(
 }
 
 // How many points of the box are in the set, with the number of prefixes tested.
-pub fn count(n: usize, set: &[u8], lows: [i32; 8], highs: [i32; 8], limit: u32) -> Counted
+pub fn count(
+    n: usize,
+    set: &[u8],
+    lows: [i32; limit::AXES],
+    highs: [i32; limit::AXES],
+    limit: u32,
+) -> Counted
     ensures { λ r. ⌜ r ≡ countedIs (countBytes n (now (set .entry)) lows highs none limit) ⌝ }
 {
     let k = refusal(n, set, lows, highs);
@@ -143,7 +152,7 @@ pub fn count(n: usize, set: &[u8], lows: [i32; 8], highs: [i32; 8], limit: u32) 
         return answer(Outcome::Refused(k), 0, 0);
     }
     if !search::limit_fits(limit) {
-        return answer(Outcome::Refused(13), 0, 0);
+        return answer(Outcome::Refused(refusal::BAD_LIMIT), 0, 0);
     }
     let mut each = [0u32; 1];
     let c = Chosen { axis: 0, first: 0 };
@@ -154,8 +163,8 @@ pub fn count(n: usize, set: &[u8], lows: [i32; 8], highs: [i32; 8], limit: u32) 
 pub fn counts(
     n: usize,
     set: &[u8],
-    lows: [i32; 8],
-    highs: [i32; 8],
+    lows: [i32; limit::AXES],
+    highs: [i32; limit::AXES],
     axis: usize,
     limit: u32,
     each: &mut [u32],
@@ -169,15 +178,15 @@ pub fn counts(
         return answer(Outcome::Refused(k), 0, 0);
     }
     if !axis_fits(n, lows, highs, axis) {
-        return answer(Outcome::Refused(19), 0, 0);
+        return answer(Outcome::Refused(refusal::BAD_AXIS), 0, 0);
     }
     if !search::limit_fits(limit) {
-        return answer(Outcome::Refused(13), 0, 0);
+        return answer(Outcome::Refused(refusal::BAD_LIMIT), 0, 0);
     }
     let i = axis - 1;
     let v = width(lows, highs, i);
     if each.len() < v {
-        return answer(Outcome::Refused(11), 0, 0);
+        return answer(Outcome::Refused(refusal::TABLE_FULL), 0, 0);
     }
     let f = lows[i] as i64;
     let c = Chosen { axis: i, first: f };

@@ -2,10 +2,12 @@
 ghost use mathlib.Core.List.{[], _∷_};
 ghost use Prim.Native.Nat.{_<_};
 ghost use Rattle.integers.specs.Z.{Within};
+ghost use Rattle.model.specs.Limits.{mostAxes, mostCoordinate};
 ghost use Rattle.bounds.specs.Ends.{AllWithin};
 ghost use Rattle.search.specs.Live.{Rowed};
 ghost use Rattle.search.specs.Levels.{Ready};
 ghost use Rattle.counting.specs.Levels.{membersAt, Added, AtMost, Summed};
+use model::limit;
 use search::Prefix;
 use search::climb;
 
@@ -24,8 +26,8 @@ pub struct Sum {
 }
 
 // One more at the place of the member's value on the chosen axis.
-fn noted(c: Chosen, point: [i64; 8], each: &mut [u32])
-    requires { ⌜ (c .axis < 8) × Within 1048576 (c .first) × AllWithin 1048576 point × AtMost 4294967294 (now each) ⌝ }
+fn noted(c: Chosen, point: [i64; limit::AXES], each: &mut [u32])
+    requires { ⌜ (c .axis < mostAxes) × Within mostCoordinate (c .first) × AllWithin mostCoordinate point × AtMost 4294967294 (now each) ⌝ }
     ensures { λ _. ⌜ Added c (point ∷ []) (now (each .entry)) (now (each .exit)) ⌝ }
 {
     let a = c.axis;
@@ -45,10 +47,10 @@ pub fn level(
     p: Prefix,
     tested: u32,
     c: Chosen,
-    rows: &mut [[i64; 129]; 32],
+    rows: &mut [[i64; 129]; limit::BASIC_SETS],
     each: &mut [u32],
 ) -> Sum
-    requires { ⌜ Ready (now s) p tested × Rowed (now s) (p .n) (p .count) (now rows) × (c .axis < 8) × Within 1048576 (c .first) × AtMost tested (now each) ⌝ }
+    requires { ⌜ Ready (now s) p tested × Rowed (now s) (p .n) (p .count) (now rows) × (c .axis < mostAxes) × Within mostCoordinate (c .first) × AtMost tested (now each) ⌝ }
     ensures is { λ r. ⌜ Summed (p .limit) tested c (membersAt (now (s .entry)) p) (now (each .entry)) r (now (each .exit)) ⌝ }
     ensures rows { λ _. ⌜ Rowed (now (s .entry)) (p .n) (p .count) (now (rows .exit)) ⌝ }
 {

@@ -6,6 +6,7 @@ use Prim.Native.Nat.{ℕ, _+_, _/_, _%_, _≤_, _<_}
 use lib.Dec.{eqb}
 use lib.IntN.{ℤ}
 use lib.ListN.{length, take, getD}
+use Rattle.model.specs.Limits.{mostDivisions, mostConstraints, mostPivots}
 use Rattle.model.specs.Sets.{equality, Constraint, BasicSet}
 use Rattle.model.specs.Values.{constraintOf, basicSetOf}
 use Rattle.model.specs.declared.Division.{Division as StoredDivision}
@@ -22,7 +23,7 @@ use Rattle.cutting.specs.declared.pieces.Pairing.{Pairing}
 
 -- the lent tables that only a cut needs: the kept pivots, and a tableau for a candidate
 pub record Spares (past spare : List (List ℤ)) : Type 0 where
-  pub many : length past ≡ 200
+  pub many : length past ≡ mostPivots
   pub high : length spare ≡ 64
 
 -- with a constraint that may follow
@@ -30,8 +31,8 @@ pub record Extending (w : Stored) (r : StoredConstraint) : Type 0 where
   pub n : ℕ
   pub valid : Valid n (basicSetOf w)
   pub new : ValidConstraint n (length (basicSetOf w .divisions)) (constraintOf r)
-  pub divs : w .divs ≤ 8
-  pub cons : w .cons < 48
+  pub divs : w .divs ≤ mostDivisions
+  pub cons : w .cons < mostConstraints
 
 -- the piece of step v
 abbrev pub pieceOf : BasicSet → ℕ → BasicSet
@@ -64,10 +65,10 @@ pub record Pair (a c : Stored) : Type 0 where
   pub n : ℕ
   pub first : Valid n (basicSetOf a)
   pub second : Valid n (basicSetOf c)
-  pub divs : a .divs ≤ 8
-  pub cons : a .cons ≤ 48
-  pub divs′ : c .divs ≤ 8
-  pub cons′ : c .cons ≤ 48
+  pub divs : a .divs ≤ mostDivisions
+  pub cons : a .cons ≤ mostConstraints
+  pub divs′ : c .divs ≤ mostDivisions
+  pub cons′ : c .cons ≤ mostConstraints
 
 -- the pieces ps of a and c, within limits or not
 pub record CutOf (within : Bool) (ps : List BasicSet) (a c : Stored) (r : CutSteps) : Type 0 where
@@ -75,8 +76,8 @@ pub record CutOf (within : Bool) (ps : List BasicSet) (a c : Stored) (r : CutSte
   pub pieces : r .fits ≡ true → map (pieceOf (basicSetOf (r .working))) (take (r .count) (r .steps)) ≡ ps
   pub steps : r .fits ≡ true → All (Step (basicSetOf (r .working) .constraints)) (take (r .count) (r .steps))
   pub valid : r .fits ≡ true → (n : ℕ) → Valid n (basicSetOf a) → Valid n (basicSetOf c) → Valid n (basicSetOf (r .working))
-  pub divs : r .fits ≡ true → r .working .divs ≤ 8
-  pub cons : r .fits ≡ true → r .working .cons ≤ 48
+  pub divs : r .fits ≡ true → r .working .divs ≤ mostDivisions
+  pub cons : r .fits ≡ true → r .working .cons ≤ mostConstraints
   pub count : r .fits ≡ true → r .count ≤ 96
 
 -- of a tight basic set, and of any
@@ -93,10 +94,10 @@ pub record Piece (w : Stored) (v : ℕ) : Type 0 where
 pub record PieceIs (w : Stored) (v : ℕ) (r : Stored) : Type 0 where
   pub is : basicSetOf r ≡ pieceOf (basicSetOf w) v
   pub divs : r .divs ≡ w .divs
-  pub cons : r .cons ≤ 48
+  pub cons : r .cons ≤ mostConstraints
 
 pub record BothIs (a c : Stored) (r : Pairing) : Type 0 where
   pub fits : r .fits ≡ bothFits keeps (basicSetOf a) (basicSetOf c)
   pub is : r .fits ≡ true → basicSetOf (r .set) ≡ both (basicSetOf a) (basicSetOf c)
-  pub divs : r .fits ≡ true → r .set .divs ≤ 8
-  pub cons : r .fits ≡ true → r .set .cons ≤ 48
+  pub divs : r .fits ≡ true → r .set .divs ≤ mostDivisions
+  pub cons : r .fits ≡ true → r .set .cons ≤ mostConstraints

@@ -4,6 +4,7 @@ ghost use mathlib.Core.Bool.{true, false, _&&_, _||_, cond};
 ghost use Prim.Native.Nat.{_+_, _≤_, _<_};
 ghost use lib.ListN.{length};
 ghost use Rattle.model.specs.Values.{constraintOf};
+ghost use Rattle.model.specs.Limits.{mostConstraints};
 ghost use Rattle.algebra.specs.Tighten as T;
 ghost use Rattle.candidates.specs.Candidates.{Tables};
 ghost use Rattle.cutting.specs.Cutting.{Begun, Spares, Marked, Pair, CutTightIs, Piece, PieceIs, BothIs};
@@ -21,6 +22,7 @@ use joining::tight_below;
 use joining::void;
 use model::BasicSet;
 use model::Constraint;
+use model::limit;
 
 // The pieces of a cut: `working` has all constraints that joined it, and step v of the first `count` stands for the piece whose last
 // constraint is the tightened opposite of the working constraint v / 2, above it where v is odd and below it where v is even.
@@ -51,7 +53,7 @@ fn either(k: Survivors) -> bool
 }
 
 fn step(at: usize, up: usize) -> u8
-    requires { ⌜ (at < 48) × (up ≤ 1) ⌝ }
+    requires { ⌜ (at < mostConstraints) × (up ≤ 1) ⌝ }
     ensures { λ r. ⌜ r ≡ at + at + up ⌝ }
 {
     (at + at + up) as u8
@@ -59,7 +61,7 @@ fn step(at: usize, up: usize) -> u8
 
 // The steps of the kept candidates of the constraint at place `at`, behind the first n; how many steps there are then.
 fn mark(steps: &mut [u8], n: usize, at: usize, k: Survivors) -> usize
-    requires { ⌜ (at < 48) × (n + 1 < length (now steps)) ⌝ }
+    requires { ⌜ (at < mostConstraints) × (n + 1 < length (now steps)) ⌝ }
     ensures { λ m. ⌜ Marked n at k (now (steps .entry)) m (now (steps .exit)) ⌝ }
 {
     let m = n + one(k.above);
@@ -79,7 +81,12 @@ fn told(working: BasicSet, steps: [u8; 96], count: usize, fits: bool) -> CutStep
     }
 }
 
-fn begin(a: BasicSet, divisions: [model::Division; 8], divs: usize, fits: bool) -> CutSteps
+fn begin(
+    a: BasicSet,
+    divisions: [model::Division; limit::DIVISIONS],
+    divs: usize,
+    fits: bool,
+) -> CutSteps
     ensures { λ r. ⌜ Begun a divisions divs fits r ⌝ }
 {
     let mut w = a;
@@ -136,13 +143,13 @@ pub fn cut(
     let mut w = s.working;
     let mut steps = s.steps;
     let mut count = s.count;
-    let mut cols = [0usize; 200];
+    let mut cols = [0usize; limit::PIVOTS];
     let mut h = start(w, rows, place, kinds, past, &mut cols);
     let cons = c.cons;
     let mut k = 0;
     while k < cons {
         let at = w.cons;
-        if at == 48 {
+        if at == limit::CONSTRAINTS {
             return told(w, steps, count, false);
         }
         let e = c.constraints[k];
@@ -203,7 +210,7 @@ pub fn both(a: BasicSet, c: BasicSet) -> Pairing
             fits: false,
         };
     }
-    if 48 < cons + more {
+    if limit::CONSTRAINTS < cons + more {
         return Pairing {
             set: a,
             fits: false,

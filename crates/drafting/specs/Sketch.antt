@@ -15,6 +15,7 @@ use Rattle.integers.specs.Size.{bound}
 use Rattle.model.specs.Sets.{Constraint, isZero}
 use Rattle.tableau.specs.Rows.{den, divisor, divideRow, combineRows, smallAt, Small, Line}
 use Rattle.wide_tableau.specs.Cells.{cells, Sheet}
+use Rattle.model.specs.Limits.{mostAxes, mostDivisions}
 
 -- a row on its way: over the columns, and the coefficients that wait to be replaced, variable v's at number v + 2
 pub record Sketch : Type 0 where
@@ -25,7 +26,7 @@ pub record Sketch : Type 0 where
 
 -- a rule's coefficients by variable: 8 axes, then the divisions
 abbrev pub coefficientAt : Constraint → ℕ → ℤ
-coefficientAt r v = cond (ltb v 8) (getD (r .axes) v (pos 0)) (getD (r .divisions) (v - 8) (pos 0))
+coefficientAt r v = cond (ltb v mostAxes) (getD (r .axes) v (pos 0)) (getD (r .divisions) (v - mostAxes) (pos 0))
 
 -- variable v of place i, with coefficient x: a row's waits, a column's stands in its column
 abbrev pub putAt : ℕ → ℕ → ℤ → Sketch → Sketch
@@ -46,7 +47,7 @@ bare z = record { row = pos 1 ∷ (z ∷ replicate 16 (pos 0)); waiting = replic
 
 -- over 8 axes and k divisions
 unfoldable pub begun : ℕ → List ℕ → Constraint → Sketch
-begun k place r = putFrom r place (8 + k) 0 (bare (r .constant))
+begun k place r = putFrom r place (mostAxes + k) 0 (bare (r .constant))
 
 -- ---- a variable that waits replaced
 
@@ -98,7 +99,7 @@ rowIn (some s) = some (s .row)
 
 -- a rule's row over the table; none: "beyond it is wide"
 unfoldable pub ruleRow : ℕ → ℕ → List (List ℤ) → List ℕ → Constraint → Option (List ℤ)
-ruleRow m k rows place r = rowIn (settledFrom m rows place (8 + k) 0 (begun k place r))
+ruleRow m k rows place r = rowIn (settledFrom m rows place (mostAxes + k) 0 (begun k place r))
 
 -- ---- what the functions ask and give
 
@@ -124,12 +125,12 @@ pub record Drafts (o : Option (List ℤ)) (b : Bool) (row : List ℕ) : Type 0 w
 
 -- a table over 8 axes and k divisions: each of these variables is one of its rows, or a column
 pub record Laid (k : ℕ) (rows : List (List ℤ)) (place : List ℕ) : Type 0 where
-  pub few : k ≤ 8
-  pub names : 8 + k ≤ length place
+  pub few : k ≤ mostDivisions
+  pub names : mostAxes + k ≤ length place
   pub line : (i : ℕ) → i < length rows → Line (k + 10) (getD rows i [])
   pub over : (i : ℕ) → i < length rows → pos 0 <ℤ den (getD rows i [])
-  pub near : (v : ℕ) → v < 8 + k → getD place v 0 < 72 + k
-  pub spot : (v : ℕ) → v < 8 + k → getD place v 0 < 64 → getD place v 0 < length rows
+  pub near : (v : ℕ) → v < mostAxes + k → getD place v 0 < 72 + k
+  pub spot : (v : ℕ) → v < mostAxes + k → getD place v 0 < 64 → getD place v 0 < length rows
 
 -- a sketch of n numbers
 pub record Whole (n : ℕ) (s : Sketch) : Type 0 where
@@ -140,7 +141,7 @@ pub record Whole (n : ℕ) (s : Sketch) : Type 0 where
 -- so, over such a table: what waits is a row
 pub record Sound (k : ℕ) (rows : List (List ℤ)) (place : List ℕ) (s : Sketch) : Type 0 where
   pub whole : Whole (k + 10) s
-  pub spot : (v : ℕ) → v < 8 + k → (getD (s .waiting) (v + 2) (pos 0) ≡ pos 0 → ⊥) → getD place v 0 < length rows
+  pub spot : (v : ℕ) → v < mostAxes + k → (getD (s .waiting) (v + 2) (pos 0) ≡ pos 0 → ⊥) → getD place v 0 < length rows
 
 -- a sketch, and a row that is put in
 pub record Ready (n : ℕ) (s : Sketch) (r : List ℤ) : Type 0 where

@@ -7,7 +7,9 @@ ghost use lib.ListN.{length, getD};
 ghost use Rattle.model.specs.Values.{constraintOf};
 ghost use Rattle.wide.specs.Wide.{size, valueOf};
 ghost use Rattle.wide_tableau.specs.Cells.{Sheet};
+ghost use Rattle.model.specs.Limits.{mostAxes, mostDivisions};
 ghost use Rattle.drafting.specs.Sketch.{sketchOf, coefficientAt, putAt, bare as bareOf, begun, Sketched};
+use model::limit;
 
 fn widened(x: i16) -> Wide
     ensures { λ r. ⌜ (valueOf r ≡ x) × (size (r .magnitude) < 2 ^ 127) ⌝ }
@@ -20,13 +22,13 @@ fn coefficient(c: Constraint, v: usize) -> Wide
     requires { ⌜ v < 16 ⌝ }
     ensures { λ r. ⌜ (valueOf r ≡ coefficientAt (constraintOf c) v) × (size (r .magnitude) < 2 ^ 127) ⌝ }
 {
-    if v < 8 {
+    if v < limit::AXES {
         let a = c.axes;
         let x = a[v];
         return widened(x);
     }
     let d = c.divisions;
-    let y = d[v - 8];
+    let y = d[v - limit::AXES];
     widened(y)
 }
 
@@ -55,13 +57,13 @@ fn bare(z: i32, row: &mut [u64; 36], waiting: &mut [u64; 36])
 }
 
 pub fn begin(c: Constraint, k: usize, place: &[usize], row: &mut [u64; 36], waiting: &mut [u64; 36])
-    requires { ⌜ (k ≤ 8) × (8 + k ≤ length (now place)) × ((v : ℕ) → v < 8 + k → getD (now place) v 0 < 80) ⌝ }
+    requires { ⌜ (k ≤ mostDivisions) × (mostAxes + k ≤ length (now place)) × ((v : ℕ) → v < mostAxes + k → getD (now place) v 0 < 80) ⌝ }
     ensures { λ _. ⌜ Sketched (begun k (now (place .entry)) (constraintOf c)) (now (row .exit)) (now (waiting .exit)) ⌝ }
 {
     let z = c.constant;
     bare(z, row, waiting);
     let mut v: usize = 0;
-    while v < 8 + k {
+    while v < limit::AXES + k {
         let x = coefficient(c, v);
         let i = place[v];
         put(row, waiting, v, i, x);

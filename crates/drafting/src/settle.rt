@@ -8,7 +8,9 @@ ghost use Rattle.model.specs.Values.{constraintOf};
 ghost use Rattle.wide.specs.Wide.{size};
 ghost use Rattle.tableau.specs.Rows.{Line};
 ghost use Rattle.wide_tableau.specs.Cells.{cells, rowsOf, Sheet, Sheets};
+ghost use Rattle.model.specs.Limits.{mostAxes};
 ghost use Rattle.drafting.specs.Sketch.{sketchOf, dividedBy, substituted, bothSmall, replacedBy, settledAt, settledFrom, ruleRow, Sketched, Settles, Drafts, Laid, Sound, Ready, Near};
+use model::limit;
 
 // Both rows divided by g.
 fn lower(row: &mut [u64; 36], waiting: &mut [u64; 36], n: usize, g: Magnitude)
@@ -75,7 +77,7 @@ fn settle_at(
     k: usize,
     v: usize,
 ) -> bool
-    requires { ⌜ Sheets (now t) × Sheet (now row) × Sheet (now waiting) × Laid k (rowsOf (now t)) (now place) × Sound k (rowsOf (now t)) (now place) (sketchOf (now row) (now waiting)) × (v < 8 + k) ⌝ }
+    requires { ⌜ Sheets (now t) × Sheet (now row) × Sheet (now waiting) × Laid k (rowsOf (now t)) (now place) × Sound k (rowsOf (now t)) (now place) (sketchOf (now row) (now waiting)) × (v < mostAxes + k) ⌝ }
     ensures { λ b. ⌜ Settles (settledAt (bound 128) (rowsOf (now (t .entry))) (now (place .entry)) v (sketchOf (now (row .entry)) (now (waiting .entry)))) b (now (row .exit)) (now (waiting .exit)) ⌝ }
 {
     let b = wide_tableau::row::cell_at(waiting, v + 2);
@@ -96,10 +98,10 @@ pub fn settle(
     k: usize,
 ) -> bool
     requires { ⌜ Sheets (now t) × Sheet (now row) × Sheet (now waiting) × Laid k (rowsOf (now t)) (now place) × Sound k (rowsOf (now t)) (now place) (sketchOf (now row) (now waiting)) ⌝ }
-    ensures { λ b. ⌜ Settles (settledFrom (bound 128) (rowsOf (now (t .entry))) (now (place .entry)) (8 + k) 0 (sketchOf (now (row .entry)) (now (waiting .entry)))) b (now (row .exit)) (now (waiting .exit)) ⌝ }
+    ensures { λ b. ⌜ Settles (settledFrom (bound 128) (rowsOf (now (t .entry))) (now (place .entry)) (mostAxes + k) 0 (sketchOf (now (row .entry)) (now (waiting .entry)))) b (now (row .exit)) (now (waiting .exit)) ⌝ }
 {
     let mut v: usize = 0;
-    while v < 8 + k {
+    while v < limit::AXES + k {
         if !settle_at(row, waiting, t, place, k, v) {
             return false;
         }

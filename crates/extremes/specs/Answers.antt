@@ -9,6 +9,7 @@ use Rattle.model.specs.Lists.{all}
 use Rattle.model.specs.Sets.{inequality, Constraint, BasicSet, Set, absent}
 use Rattle.codec.specs.Bytes.{Answer, refused, gives, coefficient, firstFailing, decode}
 use Rattle.wide.specs.Wide.{valueOf, size}
+use Rattle.model.specs.Refusals.{outOfRange, notAbsent}
 use Rattle.carrying.specs.Answers.{numbered}
 use Rattle.optimum.specs.Value.{Extreme, empty, unbounded, tooWide, tooLong, attained, extremeOf}
 use Rattle.extremes.specs.declared.Expression.{Expression}
@@ -26,7 +27,7 @@ expressionOf e = expressionBy (e .constant) (e .axes) (e .divisions)
 -- "its own 7 and 8", over n axes and m divisions
 abbrev pub numbersRefusal : ℕ → ℕ → Constraint → ℕ
 numbersRefusal n m e =
-    firstFailing ((all coefficient (e .axes) && all coefficient (e .divisions), 7) ∷ (absent n (e .axes) && absent m (e .divisions), 8) ∷ [])
+    firstFailing ((all coefficient (e .axes) && all coefficient (e .divisions), outOfRange) ∷ (absent n (e .axes) && absent m (e .divisions), notAbsent) ∷ [])
 
 abbrev pub extremeIn : ℤ → ℕ → BasicSet → Constraint → Answer Extreme
 extremeIn z n b e = elim (numbersRefusal n (length (b .divisions)) e) [ zero ↦ gives (extremeOf z b e) | suc m ↦ refused (suc m) ]

@@ -6,11 +6,12 @@ ghost use Prim.Native.Nat.{_≤_};
 ghost use lib.ListN.{length};
 ghost use Rattle.model.specs.Values.{constraintOf};
 ghost use Rattle.wide_tableau.specs.Cells.{Becomes};
+ghost use Rattle.model.specs.Limits.{mostDivisions};
 ghost use Rattle.simplex.specs.Table.{startRow, Valid};
 ghost use Rattle.climbing.specs.Steps.{Begun};
 
 pub fn goal_row(c: Constraint, k: usize, goal: &mut [u64; 36])
-    requires { ⌜ k ≤ 8 ⌝ }
+    requires { ⌜ k ≤ mostDivisions ⌝ }
     ensures { λ _. ⌜ Becomes (now (goal .exit)) (startRow k (constraintOf c)) ⌝ }
 {
     let mut row = [0i64; 18];

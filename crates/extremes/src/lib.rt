@@ -7,6 +7,7 @@ mod words;
 
 pub use asking::greatest;
 pub use asking::least;
+use model::limit;
 use wide::Magnitude;
 use wide::Wide;
 pub use words::value_words;
@@ -14,8 +15,8 @@ pub use words::value_words;
 // An expression as an inequality's numbers: constant + axes·x + divisions·q.
 pub struct Expression {
     pub constant: i32,
-    pub axes: [i32; 8],
-    pub divisions: [i32; 8],
+    pub axes: [i32; limit::AXES],
+    pub divisions: [i32; limit::DIVISIONS],
 }
 
 // A fraction in lowest terms.

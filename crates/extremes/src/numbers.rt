@@ -8,18 +8,22 @@ ghost use Rattle.model.specs.Sets.{absent};
 ghost use Rattle.model.specs.Values.{constraintOf};
 ghost use Rattle.codec.specs.Bytes.{coefficient};
 ghost use Rattle.extremes.specs.Answers.{expressionOf, numbersRefusal};
+use model::limit;
+use model::refusal;
+
+const LEAST_COEFFICIENT: i32 = -limit::COEFFICIENT;
 
 fn is_coefficient(x: i32) -> bool
     ensures { λ r. ⌜ r ≡ coefficient x ⌝ }
 {
-    -32767 <= x && x <= 32767
+    LEAST_COEFFICIENT <= x && x <= limit::COEFFICIENT
 }
 
-pub fn are_coefficients(a: [i32; 8]) -> bool
+pub fn are_coefficients(a: [i32; limit::PLACES]) -> bool
     ensures { λ r. ⌜ r ≡ all coefficient a ⌝ }
 {
     let mut i: usize = 0;
-    while i < 8 {
+    while i < limit::PLACES {
         let x = a[i];
         if !is_coefficient(x) {
             return false;
@@ -30,11 +34,11 @@ pub fn are_coefficients(a: [i32; 8]) -> bool
 }
 
 // Whether a has nothing but 0 from place n on.
-pub fn are_absent(n: usize, a: [i32; 8]) -> bool
+pub fn are_absent(n: usize, a: [i32; limit::PLACES]) -> bool
     ensures { λ r. ⌜ r ≡ absent n a ⌝ }
 {
     let mut i = n;
-    while i < 8 {
+    while i < limit::PLACES {
         let x = a[i];
         if x != 0 {
             return false;
@@ -51,27 +55,27 @@ pub fn refusal(n: usize, k: usize, e: Expression) -> u32
     let a = e.axes;
     let d = e.divisions;
     if !are_coefficients(a) {
-        return 7;
+        return refusal::OUT_OF_RANGE;
     }
     if !are_coefficients(d) {
-        return 7;
+        return refusal::OUT_OF_RANGE;
     }
     if !are_absent(n, a) {
-        return 8;
+        return refusal::NOT_ABSENT;
     }
     if !are_absent(k, d) {
-        return 8;
+        return refusal::NOT_ABSENT;
     }
     0
 }
 
-pub fn narrowed(a: [i32; 8]) -> [i16; 8]
+pub fn narrowed(a: [i32; limit::PLACES]) -> [i16; limit::PLACES]
     requires { ⌜ T (all coefficient a) ⌝ }
     ensures { λ r. ⌜ r ≡ a ⌝ }
 {
-    let mut r = [0i16; 8];
+    let mut r = [0i16; limit::PLACES];
     let mut i: usize = 0;
-    while i < 8 {
+    while i < limit::PLACES {
         let x = a[i];
         r[i] = x as i16;
         i += 1;

@@ -17,6 +17,7 @@ ghost use Rattle.simplex.specs.Table.{Valid};
 ghost use Rattle.optimum.specs.Value.{extremeOf};
 ghost use Rattle.climbing.specs.Steps.{aimOf, fractionOf, outcomeOf, halves, Posed};
 ghost use Rattle.extremes.specs.Answers.{fractionIs, extentIs};
+use model::limit;
 
 // The constant over the denominator of the expression's row, in lowest terms.
 fn fraction(goal: &[u64; 36]) -> Fraction
@@ -66,7 +67,15 @@ fn both_halves(
     let pivots = e.pivots;
     match verdict {
         Verdict::Point => {
-            let x = climbing::climb::climb(t, goal, n, place, kinds, greatest, 200 - pivots);
+            let x = climbing::climb::climb(
+                t,
+                goal,
+                n,
+                place,
+                kinds,
+                greatest,
+                limit::PIVOTS - pivots,
+            );
             ended(x, goal)
         }
         Verdict::Dropped => Extent::Empty,
@@ -82,7 +91,7 @@ pub fn of_basic(b: BasicSet, c: Constraint, greatest: bool) -> Extent
     let k = b.divs;
     let cons = b.cons;
     let m = 2 * k + cons;
-    let names = 8 + k + m;
+    let names = limit::AXES + k + m;
     let mut t = [[0u64; 36]; 64];
     let mut goal = [0u64; 36];
     let mut place = [0usize; 80];

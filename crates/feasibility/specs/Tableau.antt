@@ -4,11 +4,14 @@
 use mathlib.Core.Bool.{Bool, true, false, not, _||_, cond}
 use mathlib.Core.List.{List, [], _∷_, _++_, map, tail}
 use mathlib.Core.Option.{Option, none, some}
-use Prim.Native.Nat.{ℕ, zero, suc, _+_, _-_, _/_, _%_, _^_}
+use Prim.Native.Nat.{ℕ, zero, suc, _+_, _-_, _%_}
 use lib.IntN.{ℤ, pos, negℤ, natAbs, _-ℤ_, _*ℤ_}
 use lib.Signed.{nonNeg}
 use lib.Dec.{ltb, leb}
 use lib.ListN.{length, replicate, set, getD}
+-- step 4's bound at W bits
+pub use Rattle.integers.specs.Size.{bound}
+use Rattle.model.specs.Limits.{mostAxes, mostPivots}
 use Rattle.model.specs.Lists.{all, filter}
 use Rattle.model.specs.Sets.{Kind, equality, inequality, Constraint, BasicSet, isZero, meets, floorDiv, conditions}
 
@@ -124,10 +127,6 @@ exchange i j t =
 
 -- ---- the steps
 
--- document 000's bound for a·b − c·d at W bits: 2,147,483,647 at 64, 9,223,372,036,854,775,807 at 128
-abbrev pub bound : ℕ → ℕ
-bound W = 2 ^ (W / 2 - 1) - 1
-
 -- step 4: every number of the rows with a nonzero entry in column j is within m
 abbrev pub narrow : ℕ → ℕ → Tableau → Bool
 narrow m j t = all (λ (r : Row). isZero (entry r j) || all (λ (z : ℤ). leb (natAbs z) m) (r .den ∷ r .nums)) (t .rows)
@@ -189,22 +188,22 @@ from v (suc k) = v ∷ from (suc v) k
 
 abbrev pub firstRows : ℕ → ℕ → List Constraint → List Row
 firstRows k v [] = []
-firstRows k v (r ∷ rs) = record { var = v; den = pos 1; nums = r .constant ∷ pad 8 (r .axes) ++ pad k (r .divisions) } ∷ firstRows k (suc v) rs
+firstRows k v (r ∷ rs) = record { var = v; den = pos 1; nums = r .constant ∷ pad mostAxes (r .axes) ++ pad k (r .divisions) } ∷ firstRows k (suc v) rs
 
 -- the tableau of constraints over 8 axes and k divisions
 abbrev pub start : ℕ → List Constraint → Tableau
-start k cs = record { cols = from 0 (8 + k); rows = firstRows k (8 + k) cs }
+start k cs = record { cols = from 0 (mostAxes + k); rows = firstRows k (mostAxes + k) cs }
 
 -- the conditions of the variables, and the first tableau, of a basic set
 abbrev pub sorts : BasicSet → ℕ → Option Kind
-sorts b = sortOf (8 + length (b .divisions)) (conditions b)
+sorts b = sortOf (mostAxes + length (b .divisions)) (conditions b)
 
 abbrev pub begin : BasicSet → Tableau
 begin b = start (length (b .divisions)) (conditions b)
 
 -- at W bits alone
 unfoldable pub endsAt : ℕ → BasicSet → Ending
-endsAt W b = reach (narrow (bound W)) (sorts b) 200 (begin b)
+endsAt W b = reach (narrow (bound W)) (sorts b) mostPivots (begin b)
 
 abbrev pub testAt : ℕ → BasicSet → Verdict
 testAt W b = endsAt W b .verdict
@@ -218,7 +217,7 @@ test b = testEnds b .verdict
 
 -- the pivots made, of both
 abbrev pub pivotsMade : BasicSet → ℕ
-pivotsMade b = 200 - testEnds b .left
+pivotsMade b = mostPivots - testEnds b .left
 
 -- ---- the rows built (document 02, request 4)
 
@@ -242,4 +241,4 @@ carriedBuilt fits sort e = elim (e .verdict) [ point ↦ 0 | dropped ↦ 0 | lon
 
 -- the rows built by the test of a basic set, at 64 bits and at 128
 unfoldable pub rowsBuilt : BasicSet → ℕ
-rowsBuilt b = built (narrow (bound 64)) (sorts b) 200 (begin b) + carriedBuilt (narrow (bound 128)) (sorts b) (endsAt 64 b)
+rowsBuilt b = built (narrow (bound 64)) (sorts b) mostPivots (begin b) + carriedBuilt (narrow (bound 128)) (sorts b) (endsAt 64 b)

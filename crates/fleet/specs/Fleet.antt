@@ -6,6 +6,8 @@ use lib.Count.{ones}
 use lib.Dec.{eqb, leb}
 use lib.IntN.{ℤ}
 use lib.ListN.{length, take, drop}
+use Rattle.model.specs.Limits.{mostPoints}
+use Rattle.model.specs.Refusals.{badPoint, badFleet}
 use Rattle.model.specs.Lists.{all}
 use Rattle.model.specs.Sets.{Set, inSet}
 use Rattle.codec.specs.Bytes.{Answer, refused, gives, decode}
@@ -18,7 +20,7 @@ pointsOf n (suc k) xs = take n xs ∷ pointsOf n k (drop n xs)
 
 -- 16: "more than 64 points or a list that isn't a whole number of points"
 abbrev pub listFits : ℕ → List ℤ → Bool
-listFits n xs = eqb (length xs % n) 0 && leb (length xs / n) 64
+listFits n xs = eqb (length xs % n) 0 && leb (length xs / n) mostPoints
 
 abbrev pub bit : Bool → ℕ
 bit true = 1
@@ -51,4 +53,4 @@ fleetBytes n a xs = onSet (decode n a)
     onSet : Answer Set → Answer Fleet
     onSet (refused m) = refused m
     onSet (gives s) =
-        cond (listFits n xs) (cond (all coordinate xs) (gives (fleetOf s (pointsOf n (length xs / n) xs))) (refused 12)) (refused 16)
+        cond (listFits n xs) (cond (all coordinate xs) (gives (fleetOf s (pointsOf n (length xs / n) xs))) (refused badPoint)) (refused badFleet)

@@ -5,6 +5,7 @@ use mathlib.Core.List.{List}
 use Prim.Native.Nat.{ℕ, _*_, _≤_, _<_}
 use lib.IntN.{ℤ}
 use lib.ListN.{length, take, drop, getD}
+use Rattle.model.specs.Limits.{mostAxes, mostCoordinate, mostPoints}
 use Rattle.model.specs.Sets.{inBasic, inSet}
 use Rattle.codec.specs.Bytes.{Answer, refused, gives}
 use Rattle.codec.specs.Places.{basicAt, setFrom}
@@ -15,10 +16,10 @@ use Rattle.fleet.specs.declared.looks.Looked.the-variants.{Seen, Refused
 
 -- k points of n coordinates each, none beyond the range of a coordinate
 pub record Points (n k : ℕ) (xs : List ℤ) : Type 0 where
-  pub axes : n ≤ 8
-  pub few : k ≤ 64
+  pub axes : n ≤ mostAxes
+  pub few : k ≤ mostPoints
   pub size : length xs ≡ n * k
-  pub range : AllWithin 1048576 xs
+  pub range : AllWithin mostCoordinate xs
 
 -- point j, from 0, of the list
 abbrev pub pointAt : ℕ → List ℤ → ℕ → List ℤ
@@ -26,12 +27,12 @@ pointAt n xs j = take n (drop (n * j) xs)
 
 -- the flags after the basic set at a place: also the points that it holds
 pub record Marked (s : List ℕ) (start n : ℕ) (xs : List ℤ) (k : ℕ) (flags r : List Bool) : Type 0 where
-  pub size : length r ≡ 64
+  pub size : length r ≡ mostPoints
   pub is : (j : ℕ) → j < k → getD r j false ≡ (getD flags j false || inBasic (pointAt n xs j) (basicAt s start))
 
 -- the flags after all basic sets
 pub record Walked (s : List ℕ) (n : ℕ) (xs : List ℤ) (k : ℕ) (r : List Bool) : Type 0 where
-  pub size : length r ≡ 64
+  pub size : length r ≡ mostPoints
   pub is : (j : ℕ) → j < k → getD r j false ≡ inSet (pointAt n xs j) (setFrom s 0)
 
 -- the answers of a look

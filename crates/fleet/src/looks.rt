@@ -8,6 +8,8 @@ use crate::marks::coordinates_fit;
 use crate::marks::mask_of;
 use crate::marks::walked;
 use crate::marks::widened;
+use model::limit;
+use model::refusal;
 
 // The mask of the points in the set, the first in the lowest bit, and how many there are; or the number of a refusal.
 pub enum Looked {
@@ -33,14 +35,14 @@ pub fn look(n: usize, set: &[u8], points: &[i32]) -> Looked
         return Looked::Refused(c);
     }
     if points.len() % n != 0 {
-        return Looked::Refused(16);
+        return Looked::Refused(refusal::BAD_FLEET);
     }
     let k = points.len() / n;
-    if 64 < k {
-        return Looked::Refused(16);
+    if limit::POINTS < k {
+        return Looked::Refused(refusal::BAD_FLEET);
     }
     if !coordinates_fit(points) {
-        return Looked::Refused(12);
+        return Looked::Refused(refusal::BAD_POINT);
     }
     let m = seen(n, set, points, k);
     Looked::Seen(m, u64::count_ones(m))

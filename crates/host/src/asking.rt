@@ -4,6 +4,7 @@ ghost use mathlib.Core.List.{[], _∷_};
 ghost use Rattle.query.specs.Member.{memberBytes};
 ghost use Rattle.query.specs.Holding.{memberIs};
 ghost use Rattle.host.specs.Numbers.{memberNumber};
+use model::limit;
 
 fn member_number(m: query::Membership) -> i64
     ensures { λ r. ⌜ r ≡ memberNumber (memberIs m) ⌝ }
@@ -16,7 +17,16 @@ fn member_number(m: query::Membership) -> i64
 }
 
 // Eight coordinates as one value.
-fn point(x1: i32, x2: i32, x3: i32, x4: i32, x5: i32, x6: i32, x7: i32, x8: i32) -> [i32; 8]
+fn point(
+    x1: i32,
+    x2: i32,
+    x3: i32,
+    x4: i32,
+    x5: i32,
+    x6: i32,
+    x7: i32,
+    x8: i32,
+) -> [i32; limit::AXES]
     ensures { λ r. ⌜ r ≡ (x1 ∷ x2 ∷ x3 ∷ x4 ∷ x5 ∷ x6 ∷ x7 ∷ x8 ∷ []) ⌝ }
 {
     [x1, x2, x3, x4, x5, x6, x7, x8]

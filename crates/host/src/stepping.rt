@@ -5,6 +5,7 @@ ghost use mathlib.Core.Path.{_≡_};
 ghost use Rattle.memory.specs.Memory.{memory};
 ghost use Rattle.states.specs.Calls.{startStep, addStep, markStep, backStep};
 ghost use Rattle.host.specs.Numbers.{saidNumber, ruleBy, StateHosted};
+use model::limit;
 
 fn said_number(x: Said) -> i64
     ensures { λ r. ⌜ r ≡ saidNumber x ⌝ }
@@ -38,8 +39,8 @@ pub extern "C" fn pitsets_state_start_in(
 pub extern "C" fn pitsets_state_add_in(
     equality: bool,
     constant: i32,
-    axes: &[i32; 8],
-    divisions: &[i32; 8],
+    axes: &[i32; limit::AXES],
+    divisions: &[i32; limit::DIVISIONS],
     rows: &mut [[u64; 36]],
     place: &mut [usize],
     kinds: &mut [u8],

@@ -6,6 +6,7 @@ ghost use lib.IntN.{pos, negsuc};
 ghost use Rattle.climbing.specs.Steps.{aimOf};
 ghost use Rattle.extremes.specs.Answers.{expressionBy, expressionOf, extremeBytes, extentIs};
 ghost use Rattle.host.specs.Numbers.{extentNumber, ValueHosted};
+use model::limit;
 
 fn extent_number(x: Extent) -> i64
     ensures { λ r. ⌜ r ≡ extentNumber (extentIs x) ⌝ }
@@ -35,8 +36,8 @@ fn extreme(
     set: &[u8],
     k: usize,
     constant: i32,
-    axes: &[i32; 8],
-    divisions: &[i32; 8],
+    axes: &[i32; limit::AXES],
+    divisions: &[i32; limit::DIVISIONS],
     value: &mut [u64; 4],
     greatest: bool,
 ) -> i64
@@ -58,8 +59,8 @@ pub extern "C" fn pitsets_greatest(
     set: &[u8],
     k: usize,
     constant: i32,
-    axes: &[i32; 8],
-    divisions: &[i32; 8],
+    axes: &[i32; limit::AXES],
+    divisions: &[i32; limit::DIVISIONS],
     value: &mut [u64; 4],
 ) -> i64
     ensures { λ r. ⌜ ValueHosted (extremeBytes (negsuc 0) n (now (set .entry)) k (expressionBy constant (now (axes .entry)) (now (divisions .entry)))) r (now (value .exit)) ⌝ }
@@ -73,8 +74,8 @@ pub extern "C" fn pitsets_least(
     set: &[u8],
     k: usize,
     constant: i32,
-    axes: &[i32; 8],
-    divisions: &[i32; 8],
+    axes: &[i32; limit::AXES],
+    divisions: &[i32; limit::DIVISIONS],
     value: &mut [u64; 4],
 ) -> i64
     ensures { λ r. ⌜ ValueHosted (extremeBytes (pos 1) n (now (set .entry)) k (expressionBy constant (now (axes .entry)) (now (divisions .entry)))) r (now (value .exit)) ⌝ }

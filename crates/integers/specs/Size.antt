@@ -80,7 +80,8 @@ pub fits-within : {w : Width} {z : ℤ} → SFits w z → Within (2 ^ hbits w) z
 fits-within {w} {z} h = lia-abs (z ∷ []) (fits h ∷ []) (search lin depth 30) (omega arith)
 
 -- ---- the word size as a parameter (document 000, section 2.1, equation (1): MAXDI, and the claim on `linint` and `qpiv` after it)
--- numbers within `bound W` have products, and sums and differences of two products, that W bits hold
+-- step 4's bound, document 000's for a·b − c·d at W bits: 2,147,483,647 at 64, 9,223,372,036,854,775,807 at 128. Numbers within it have products,
+-- and sums and differences of two products, that W bits hold
 abbrev pub bound : ℕ → ℕ
 bound W = 2 ^ (W / 2 - 1) - 1
 

@@ -7,6 +7,7 @@ use Prim.Native.Nat.{ℕ, _≤_, _<_}
 use lib.Dec.{T, leb, ltb, eqb}
 use lib.IntN.{ℤ, natAbs}
 use lib.ListN.{length, take, getD}
+use Rattle.model.specs.Limits.{mostDivisions}
 use Rattle.model.specs.Lists.{all, any}
 use Rattle.model.specs.Sets.{floorDiv, Division, equality, Constraint}
 use Rattle.model.specs.Values.{divisionOf, constraintOf, basicSetOf}
@@ -37,8 +38,8 @@ pub record Seeking (e : Division) (ds : List Division) (n : ℕ) (flags : List B
   pub found : (taken : List ℕ) → ((i : ℕ) → i < n → getD flags i false ≡ any (eqb i) taken) → seek e taken 0 ds ≡ placeOf n r
 
 pub record Joining (ds es : List Division) (m : ℕ) (r : Joined) : Type 0 where
-  pub fits : r .fits ≡ leb (length (join ds es .all)) 8
-  pub few : r .divs ≤ 8
+  pub fits : r .fits ≡ leb (length (join ds es .all)) mostDivisions
+  pub few : r .divs ≤ mostDivisions
   pub all : r .fits ≡ true → map divisionOf (take (r .divs) (r .divisions)) ≡ join ds es .all
   pub places : r .fits ≡ true → take m (r .places) ≡ join ds es .places
 
@@ -47,7 +48,7 @@ pub record Placed (is : List ℕ) : Type 0 where
   pub ds : List Division
   pub es : List Division
   pub places : is ≡ join ds es .places
-  pub few : length (join ds es .all) ≤ 8
+  pub few : length (join ds es .all) ≤ mostDivisions
 
 -- ---- tightened rules
 

@@ -5,24 +5,26 @@ ghost use mathlib.Core.List.{map};
 ghost use Prim.Native.Nat.{_≤_, _<_};
 ghost use lib.ListN.{take};
 ghost use Rattle.model.specs.Values.{divisionOf, constraintOf};
+ghost use Rattle.model.specs.Limits.{mostDivisions};
 ghost use Rattle.algebra.specs.Cut.{sameList, sameDivision, move, moveConstraint};
 ghost use Rattle.joining.specs.Joining.{Seeking, Joining, Placed};
 use model::Constraint;
 use model::Division;
+use model::limit;
 
 // The joined divisions, and the places of the second's divisions among them; not `fits`: over 8.
 pub struct Joined {
-    pub divisions: [Division; 8],
+    pub divisions: [Division; limit::DIVISIONS],
     pub divs: usize,
-    pub places: [usize; 8],
+    pub places: [usize; limit::DIVISIONS],
     pub fits: bool,
 }
 
-fn same_axes(x: [i16; 8], y: [i16; 8]) -> bool
+fn same_axes(x: [i16; limit::AXES], y: [i16; limit::AXES]) -> bool
     ensures { λ r. ⌜ r ≡ sameList x y ⌝ }
 {
     let mut i = 0;
-    while i < 8 {
+    while i < limit::AXES {
         if x[i] != y[i] {
             return false;
         }
@@ -59,8 +61,13 @@ fn free(e: Division, f: Division, taken: bool) -> bool
 }
 
 // The first of the n divisions that equals e and is not taken; n where there is none.
-fn seek(e: Division, ds: [Division; 8], n: usize, taken: [bool; 8]) -> usize
-    requires { ⌜ n ≤ 8 ⌝ }
+fn seek(
+    e: Division,
+    ds: [Division; limit::DIVISIONS],
+    n: usize,
+    taken: [bool; limit::DIVISIONS],
+) -> usize
+    requires { ⌜ n ≤ mostDivisions ⌝ }
     ensures { λ r. ⌜ Seeking (divisionOf e) (map divisionOf (take n ds)) n taken r ⌝ }
 {
     let mut i = 0;
@@ -73,14 +80,19 @@ fn seek(e: Division, ds: [Division; 8], n: usize, taken: [bool; 8]) -> usize
     n
 }
 
-pub fn join(ds: [Division; 8], n: usize, es: [Division; 8], m: usize) -> Joined
-    requires { ⌜ (n ≤ 8) × (m ≤ 8) ⌝ }
+pub fn join(
+    ds: [Division; limit::DIVISIONS],
+    n: usize,
+    es: [Division; limit::DIVISIONS],
+    m: usize,
+) -> Joined
+    requires { ⌜ (n ≤ mostDivisions) × (m ≤ mostDivisions) ⌝ }
     ensures { λ r. ⌜ Joining (map divisionOf (take n ds)) (map divisionOf (take m es)) m r ⌝ }
 {
     let mut all = ds;
     let mut divs = n;
-    let mut taken = [false; 8];
-    let mut places = [0usize; 8];
+    let mut taken = [false; limit::DIVISIONS];
+    let mut places = [0usize; limit::DIVISIONS];
     let mut k = 0;
     while k < m {
         let e = es[k];
@@ -89,7 +101,7 @@ pub fn join(ds: [Division; 8], n: usize, es: [Division; 8], m: usize) -> Joined
             taken[i] = true;
             places[k] = i;
         } else {
-            if divs == 8 {
+            if divs == limit::DIVISIONS {
                 return Joined {
                     divisions: all,
                     divs,
@@ -112,11 +124,15 @@ pub fn join(ds: [Division; 8], n: usize, es: [Division; 8], m: usize) -> Joined
 }
 
 // The coefficients of the second's n divisions at their places.
-fn at_places(from: [i16; 8], places: [usize; 8], n: usize) -> [i16; 8]
-    requires { ⌜ (n ≤ 8) × Placed (take n places) ⌝ }
+fn at_places(
+    from: [i16; limit::DIVISIONS],
+    places: [usize; limit::DIVISIONS],
+    n: usize,
+) -> [i16; limit::DIVISIONS]
+    requires { ⌜ (n ≤ mostDivisions) × Placed (take n places) ⌝ }
     ensures { λ r. ⌜ r ≡ move (take n places) from ⌝ }
 {
-    let mut to = [0i16; 8];
+    let mut to = [0i16; limit::DIVISIONS];
     let mut k = n;
     while k != 0 {
         k -= 1;
@@ -127,8 +143,8 @@ fn at_places(from: [i16; 8], places: [usize; 8], n: usize) -> [i16; 8]
     to
 }
 
-pub fn moved(c: Constraint, places: [usize; 8], n: usize) -> Constraint
-    requires { ⌜ (n ≤ 8) × Placed (take n places) ⌝ }
+pub fn moved(c: Constraint, places: [usize; limit::DIVISIONS], n: usize) -> Constraint
+    requires { ⌜ (n ≤ mostDivisions) × Placed (take n places) ⌝ }
     ensures { λ r. ⌜ constraintOf r ≡ moveConstraint (take n places) (constraintOf c) ⌝ }
 {
     let equality = c.equality;

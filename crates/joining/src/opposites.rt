@@ -9,6 +9,7 @@ ghost use Rattle.codec.specs.Bytes.{coefficient};
 ghost use Rattle.algebra.specs.Cut as C;
 ghost use Rattle.joining.specs.Joining.{Below, Above};
 use model::Constraint;
+use model::limit;
 
 fn minus(x: i16) -> i16
     requires { ⌜ T (coefficient x) ⌝ }
@@ -17,7 +18,7 @@ fn minus(x: i16) -> i16
     0 - x
 }
 
-fn negated(xs: [i16; 8]) -> [i16; 8]
+fn negated(xs: [i16; limit::PLACES]) -> [i16; limit::PLACES]
     requires { ⌜ T (all coefficient xs) ⌝ }
     ensures { λ r. ⌜ r ≡ map negℤ xs ⌝ }
 {

@@ -7,6 +7,7 @@ ghost use lib.IntN.{natAbs};
 ghost use lib.ListN.{take};
 ghost use Rattle.model.specs.Lists.{any};
 ghost use Rattle.model.specs.Values.{constraintOf, basicSetOf, kindIs};
+ghost use Rattle.model.specs.Limits.{mostDivisions, mostConstraints};
 ghost use Rattle.feasibility.specs.Tableau as F;
 ghost use Rattle.algebra.specs.Tighten as T;
 ghost use Rattle.algebra.specs.Cut as C;
@@ -17,6 +18,7 @@ use crate::opposites::above;
 use crate::opposites::below;
 use model::BasicSet;
 use model::Constraint;
+use model::limit;
 
 // A constraint as it joins working rules: as it is where it is void (the opposites are those of the rule as given), else tightened.
 pub struct Reduced {
@@ -38,12 +40,12 @@ fn divisor_with(x: i16, g: u64) -> u64
 }
 
 // The common divisor of g and eight numbers, from the last to the first; at 1 the rest is not looked at.
-fn common(xs: [i16; 8], g: u64) -> u64
+fn common(xs: [i16; limit::PLACES], g: u64) -> u64
     requires { ⌜ g ≤ 32768 ⌝ }
     ensures { λ r. ⌜ (r ≡ commonFrom g xs) × (r ≤ 32768) ⌝ }
 {
     let mut r = g;
-    let mut k = 8;
+    let mut k = limit::PLACES;
     while k != 0 {
         if r == 1 {
             return 1;
@@ -67,12 +69,12 @@ fn is_unit(x: i16) -> bool
 }
 
 // Whether 1 or −1 is among eight numbers. All are looked at, so that the compiler compares them at once.
-fn unit_in(xs: [i16; 8]) -> bool
+fn unit_in(xs: [i16; limit::PLACES]) -> bool
     ensures { λ r. ⌜ r ≡ any isUnit xs ⌝ }
 {
     let mut found = false;
     let mut i = 0;
-    while i < 8 {
+    while i < limit::PLACES {
         if is_unit(xs[i]) {
             found = true;
         }
@@ -82,7 +84,7 @@ fn unit_in(xs: [i16; 8]) -> bool
 }
 
 // The common divisor of a constraint's coefficients. In most rules one of them is 1 or −1.
-fn content(a: [i16; 8], d: [i16; 8]) -> u64
+fn content(a: [i16; limit::PLACES], d: [i16; limit::PLACES]) -> u64
     ensures { λ r. ⌜ Content a d r ⌝ }
 {
     if unit_in(a) {
@@ -102,13 +104,13 @@ fn quotient(x: i16, g: u64) -> i16
     integers::floor_div(x as i64, g as i64) as i16
 }
 
-fn quotients(xs: [i16; 8], g: u64) -> [i16; 8]
+fn quotients(xs: [i16; limit::PLACES], g: u64) -> [i16; limit::PLACES]
     requires { ⌜ (0 < g) × (g ≤ 32768) ⌝ }
     ensures { λ r. ⌜ r ≡ map (downBy g) xs ⌝ }
 {
     let mut r = xs;
     let mut i = 0;
-    while i < 8 {
+    while i < limit::PLACES {
         let x = r[i];
         r[i] = quotient(x, g);
         i += 1;
@@ -239,8 +241,8 @@ fn reduce(c: Constraint) -> Reduced
 }
 
 // A constraint of a cutter, moved, as it joins the working rules. Moving leaves the axes' coefficients, so that 1 or −1 among them is seen before.
-pub fn joining_rule(c: Constraint, places: [usize; 8], n: usize) -> Constraint
-    requires { ⌜ (n ≤ 8) × Placed (take n places) ⌝ }
+pub fn joining_rule(c: Constraint, places: [usize; limit::DIVISIONS], n: usize) -> Constraint
+    requires { ⌜ (n ≤ mostDivisions) × Placed (take n places) ⌝ }
     ensures { λ r. ⌜ constraintOf r ≡ reducedOf (moveConstraint (take n places) (constraintOf c)) ⌝ }
 {
     let a = c.axes;
@@ -254,7 +256,7 @@ pub fn joining_rule(c: Constraint, places: [usize; 8], n: usize) -> Constraint
 
 // Whether some constraint has a common divisor over 1: else the basic set is tight as it is, and none of them is void.
 pub fn any_divisible(b: BasicSet) -> bool
-    requires { ⌜ b .cons ≤ 48 ⌝ }
+    requires { ⌜ b .cons ≤ mostConstraints ⌝ }
     ensures { λ r. ⌜ r ≡ any T.divisible (basicSetOf b .constraints) ⌝ }
 {
     let n = b.cons;
@@ -272,7 +274,7 @@ pub fn any_divisible(b: BasicSet) -> bool
 }
 
 pub fn tight_set(b: BasicSet) -> Tightened
-    requires { ⌜ b .cons ≤ 48 ⌝ }
+    requires { ⌜ b .cons ≤ mostConstraints ⌝ }
     ensures { λ r. ⌜ Tightens b r ⌝ }
 {
     let n = b.cons;

@@ -3,6 +3,7 @@ ghost use mathlib.Core.List.{[], _∷_, _++_};
 ghost use Prim.Native.Nat.{_+_, _≤_};
 ghost use lib.IntN.{pos};
 ghost use lib.ListN.{length, take};
+ghost use Rattle.model.specs.Limits.{mostAxes, mostDivisions};
 ghost use Rattle.codec.specs.Bytes.{divisionBody, constraintBody, readDivision, readConstraint, kindOf};
 ghost use Rattle.listing.specs.Text as T;
 ghost use Rattle.listing.specs.Written.{Writes};
@@ -11,6 +12,7 @@ use crate::text::coordinates;
 use crate::text::natural;
 use crate::text::number;
 use crate::text::word;
+use model::limit;
 
 // A word and one number.
 pub fn counted_line(out: &mut [u8], w: &[u8], k: u64) -> usize
@@ -36,7 +38,7 @@ pub fn header(out: &mut [u8], m: u64, count: u64) -> usize
 
 // A division by d whose body is t.
 pub fn division_line(out: &mut [u8], n: usize, d: u64, t: &[u8]) -> usize
-    requires { ⌜ (512 ≤ length (now out)) × (n ≤ 8) × (divisionBody ≤ length (now t)) ⌝ }
+    requires { ⌜ (512 ≤ length (now out)) × (n ≤ mostAxes) × (divisionBody ≤ length (now t)) ⌝ }
     ensures { λ r. ⌜ Writes 512 (T.divisionLine n (readDivision d (now (t .entry)))) (now (out .entry)) 0 r (now (out .exit)) ⌝ }
 {
     let at = word(out, 0, b"div");
@@ -63,7 +65,7 @@ fn kind_word(out: &mut [u8], b: u8) -> usize
 
 // A constraint whose command is b and whose body is t, in a basic set of k divisions.
 pub fn constraint_line(out: &mut [u8], n: usize, k: usize, b: u8, t: &[u8]) -> usize
-    requires { ⌜ (512 ≤ length (now out)) × (n ≤ 8) × (k ≤ 8) × (constraintBody ≤ length (now t)) ⌝ }
+    requires { ⌜ (512 ≤ length (now out)) × (n ≤ mostAxes) × (k ≤ mostDivisions) × (constraintBody ≤ length (now t)) ⌝ }
     ensures { λ r. ⌜ Writes 512 (T.constraintLine n k (readConstraint (kindOf b) (now (t .entry)))) (now (out .entry)) 0 r (now (out .exit)) ⌝ }
 {
     let at = kind_word(out, b);
@@ -79,8 +81,8 @@ pub fn constraint_line(out: &mut [u8], n: usize, k: usize, b: u8, t: &[u8]) -> u
 }
 
 // `at`, the first n coordinates of p, and k.
-pub fn at_line(out: &mut [u8], n: usize, p: [i64; 8], k: u64) -> usize
-    requires { ⌜ (n ≤ 8) × (512 ≤ length (now out)) ⌝ }
+pub fn at_line(out: &mut [u8], n: usize, p: [i64; limit::AXES], k: u64) -> usize
+    requires { ⌜ (n ≤ mostAxes) × (512 ≤ length (now out)) ⌝ }
     ensures { λ r. ⌜ Writes 512 (T.line "at" (take n p ++ (pos k ∷ []))) (now (out .entry)) 0 r (now (out .exit)) ⌝ }
 {
     let at = word(out, 0, b"at");

@@ -4,9 +4,11 @@ ghost use Prim.Native.Nat.{_+_, _*_, _≤_, _<_};
 ghost use lib.IntN.{pos};
 ghost use lib.ListN.{length, take, drop};
 ghost use Rattle.model.specs.Lists.{concatMap};
+ghost use Rattle.model.specs.Limits.{mostAxes};
 ghost use Rattle.codec.specs.Bytes.{signedList};
 ghost use Rattle.listing.specs.Text as T;
 ghost use Rattle.listing.specs.Written.{Writes, signedIn};
+use model::limit;
 
 // Fixed bytes.
 pub fn word(out: &mut [u8], at: usize, w: &[u8]) -> usize
@@ -83,8 +85,8 @@ fn integer(out: &mut [u8], at: usize, z: i64) -> usize
 }
 
 // The first n coordinates of a point.
-pub fn coordinates(out: &mut [u8], at: usize, p: [i64; 8], n: usize) -> usize
-    requires { ⌜ (n ≤ 8) × (at + 22 * n ≤ length (now out)) ⌝ }
+pub fn coordinates(out: &mut [u8], at: usize, p: [i64; limit::AXES], n: usize) -> usize
+    requires { ⌜ (n ≤ mostAxes) × (at + 22 * n ≤ length (now out)) ⌝ }
     ensures { λ r. ⌜ Writes (22 * n) (concatMap T.number (take n p)) (now (out .entry)) at r (now (out .exit)) ⌝ }
 {
     let mut k = at;

@@ -12,6 +12,7 @@ use Rattle.codec.specs.Bytes.{axesFit}
 use Rattle.wide.specs.Wide.{cell, highOf, lowOf}
 use Rattle.tableau.specs.Rows.{den, Line}
 use Rattle.wide_tableau.specs.Cells.{cells, rowsOf, Sheets}
+use Rattle.model.specs.Limits.{mostAxes, mostDivisions, mostConstraints}
 use Rattle.memory.specs.Memory.{Memory, headAt}
 
 -- two words that are those of their number: 0 has one form
@@ -36,10 +37,10 @@ abbrev pub isWord : ℕ → Bool
 isWord w = ltb 0 w && leb w 4
 
 abbrev pub soundHead : ℕ → ℕ → ℕ → ℕ → ℕ → Bool
-soundHead n k rules m w = axesFit n && (leb k 8 && (leb rules 48 && (leb m (2 * k + rules) && isWord w)))
+soundHead n k rules m w = axesFit n && (leb k mostDivisions && (leb rules mostConstraints && (leb m (2 * k + rules) && isWord w)))
 
 abbrev pub soundTable : ℕ → ℕ → Memory → Bool
-soundTable k m y = all (soundRow (k + 10)) (take m (y .rows)) && all (soundPlace k m) (take (8 + k + m) (y .place))
+soundTable k m y = all (soundRow (k + 10)) (take m (y .rows)) && all (soundPlace k m) (take (mostAxes + k + m) (y .place))
 
 unfoldable pub sound : Memory → Bool
 sound y =

@@ -9,8 +9,10 @@ ghost use Rattle.model.specs.Lists.{all};
 ghost use Rattle.model.specs.Sets.{isZero};
 ghost use Rattle.tableau.specs.Rows.{den};
 ghost use Rattle.wide_tableau.specs.Cells.{cells, Sheet};
+ghost use Rattle.model.specs.Limits.{mostDivisions};
 ghost use Rattle.memory.specs.Memory.{memory, Fits};
 ghost use Rattle.memory.specs.Sound.{plainCell, plainWords, soundRow, soundPlace, isWord, soundHead, sound as soundOf};
+use model::limit;
 
 // Two words that are those of their number: 0 has one form.
 fn is_plain(h: u64, l: u64) -> bool
@@ -102,7 +104,7 @@ fn rows_sound(t: &[[u64; 36]], n: usize) -> bool
 
 // A row, or 64 and a column in use.
 fn place_sound(k: usize, m: usize, p: usize) -> bool
-    requires { ⌜ k ≤ 8 ⌝ }
+    requires { ⌜ k ≤ mostDivisions ⌝ }
     ensures { λ b. ⌜ b ≡ soundPlace k m p ⌝ }
 {
     if p < m {
@@ -115,7 +117,7 @@ fn place_sound(k: usize, m: usize, p: usize) -> bool
 }
 
 fn places_sound(place: &[usize], k: usize, m: usize) -> bool
-    requires { ⌜ k ≤ 8 ⌝ }
+    requires { ⌜ k ≤ mostDivisions ⌝ }
     ensures { λ b. ⌜ b ≡ all (soundPlace k m) (now (place .entry)) ⌝ }
 {
     let mut v: usize = 0;
@@ -144,13 +146,13 @@ fn head_sound(n: usize, k: usize, rules: usize, m: usize, w: usize) -> bool
     if n == 0 {
         return false;
     }
-    if 8 < n {
+    if limit::AXES < n {
         return false;
     }
-    if 8 < k {
+    if limit::DIVISIONS < k {
         return false;
     }
-    if 48 < rules {
+    if limit::CONSTRAINTS < rules {
         return false;
     }
     if 2 * k + rules < m {
@@ -171,6 +173,6 @@ pub fn sound(rows: &[[u64; 36]], place: &[usize], kinds: &[u8], heads: &[usize])
     if !rows_sound(&rows[..m], k + 10) {
         return false;
     }
-    let names = 8 + k + m;
+    let names = limit::AXES + k + m;
     places_sound(&place[..names], k, m)
 }

@@ -15,6 +15,7 @@ use crate::pairs::intersect;
 use codec::Verdict;
 use codec::check;
 use codec::check_counting;
+use model::limit;
 use records::copy_bytes;
 use results::Done;
 use results::Outcome;
@@ -62,7 +63,7 @@ fn append(a: &[u8], b: &[u8], n: usize, out: &mut [u8]) -> Done
     requires { ⌜ Sets (now a) (now b) × (n ≡ length (setFrom (now a) 0) + length (setFrom (now b) 0)) ⌝ }
     ensures { λ r. ⌜ Made (unionFits keeps (setFrom (now (a .entry)) 0) (setFrom (now (b .entry)) 0)) (C.union (setFrom (now (a .entry)) 0) (setFrom (now (b .entry)) 0)) (now (out .entry)) r (now (out .exit)) ⌝ }
 {
-    if 32 < n {
+    if limit::BASIC_SETS < n {
         return Done {
             at: 0,
             count: n,

@@ -9,6 +9,7 @@ use lib.IntN.{ℤ, pos, negsuc, natAbs, _*ℤ_}
 use lib.Signed.{nonNeg, ltZ}
 use lib.Dec.{ltb}
 use lib.ListN.{length, getD}
+use Rattle.model.specs.Limits.{mostPivots}
 use Rattle.model.specs.Sets.{Kind, equality, inequality, Constraint, BasicSet, isZero, floorDiv, conditions}
 use Rattle.feasibility.specs.Tableau.{point, dropped, long, wide, Row, Tableau, entry, constantOf, lowest, helpfulCols, gcd, exchange, noRow, narrow, bound, Ending, reach, start, sorts}
 
@@ -128,8 +129,8 @@ extremeBy fits n z b e = climbed fits (sorts b) z (length (conditions b)) (reach
 
 -- at W bits alone
 abbrev pub extremeWithin : ℕ → ℤ → BasicSet → Constraint → Extreme
-extremeWithin W z b e = extremeBy (narrow (bound W)) 200 z b e
+extremeWithin W z b e = extremeBy (narrow (bound W)) mostPivots z b e
 
 -- at 64 bits, and what is wide there is carried over to 128
 unfoldable pub extremeOf : ℤ → BasicSet → Constraint → Extreme
-extremeOf z b e = climbedOn (narrow (bound 64)) (narrow (bound 128)) (sorts b) z (length (conditions b)) (reach (narrow (bound 64)) (sorts b) 200 (withExpression b e))
+extremeOf z b e = climbedOn (narrow (bound 64)) (narrow (bound 128)) (sorts b) z (length (conditions b)) (reach (narrow (bound 64)) (sorts b) mostPivots (withExpression b e))

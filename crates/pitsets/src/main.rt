@@ -4,12 +4,14 @@ ghost use mathlib.Core.Path.{_≡_};
 ghost use mathlib.Core.Bool.{true, false};
 ghost use Prim.Native.Nat.{_-_, _≤_, _<_};
 ghost use lib.ListN.{length, take};
+ghost use Rattle.model.specs.Limits.{setBytes};
 ghost use Rattle.session.specs.Turns.{memory};
 ghost use Rattle.session.specs.Session.{Left};
 ghost use Rattle.session.specs.declared.Next.the-variants.{Reads, Ends};
 ghost use Rattle.pitsets.specs.Moving.{unused, Lent, Refilled};
 use libc::STDIN_FILENO;
 use libc::STDOUT_FILENO;
+use model::limit;
 use session::Listing;
 use session::Next;
 use session::State;
@@ -26,10 +28,10 @@ fn tables() -> [u8; 32000]
     [0; 32000]
 }
 
-fn result() -> [u8; 8000]
-    ensures { λ r. ⌜ 8000 ≡ length r ⌝ }
+fn result() -> [u8; limit::SET_BYTES]
+    ensures { λ r. ⌜ setBytes ≡ length r ⌝ }
 {
-    [0; 8000]
+    [0; limit::SET_BYTES]
 }
 
 fn line() -> [u8; 512]

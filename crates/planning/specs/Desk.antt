@@ -6,6 +6,8 @@ use mathlib.Core.List.{List, [], _∷_, _++_, map}
 use mathlib.Core.Option.{Option, none, some}
 use Prim.Native.Nat.{ℕ}
 use lib.Dec.{leb, eqb}
+use Rattle.model.specs.Limits.{mostName}
+use Rattle.model.specs.Refusals.{badName}
 use Rattle.model.specs.Lists.{filter}
 use Rattle.model.specs.Sets.{Division, Constraint, BasicSet}
 use Rattle.codec.specs.Bytes.{Answer, refused, gives}
@@ -81,8 +83,8 @@ module _ {A : Type 0} (begins : ℕ → List Division → Answer A) (adds : Cons
   abbrev pub answer : Call → Desk A → Answer (Desk A)
   answer (start n ds) d = fresh (begins n ds)
   answer (add r) d = renewed (adds r (d .now)) d
-  answer (mark k) d = cond (leb k 15) (gives (marked k d)) (refused 18)
-  answer (back k) d = cond (leb k 15) (orRefused 18 (goneBack k d)) (refused 18)
+  answer (mark k) d = cond (leb k mostName) (gives (marked k d)) (refused badName)
+  answer (back k) d = cond (leb k mostName) (orRefused badName (goneBack k d)) (refused badName)
 
   abbrev pub after : Call → Desk A → Desk A
   after c d = left (answer c d) d

@@ -7,6 +7,7 @@ use Prim.Native.Nat.{ℕ, _+_}
 use lib.IntN.{ℤ, pos, negℤ, natAbs, _*ℤ_}
 use lib.Dec.{leb, eqb}
 use lib.ListN.{set, getD}
+use Rattle.model.specs.Limits.{mostAxes}
 use Rattle.model.specs.Lists.{all}
 use Rattle.model.specs.Sets.{Constraint, isZero, floorDiv}
 use Rattle.feasibility.specs.Tableau.{Row, Tableau, combine, commonDivisor, noRow, pad, from}
@@ -20,7 +21,7 @@ pub record Draft : Type 0 where
 
 -- a rule's coefficients by variable: 8 axes, k divisions, then 0
 abbrev pub coefficientOf : ℕ → Constraint → ℕ → ℤ
-coefficientOf k r v = getD (pad 8 (r .axes) ++ pad k (r .divisions)) v (pos 0)
+coefficientOf k r v = getD (pad mostAxes (r .axes) ++ pad k (r .divisions)) v (pos 0)
 
 -- the coefficients of columns stand in their columns, the others wait
 abbrev pub drafted : ℕ → Tableau → Constraint → Draft
@@ -28,7 +29,7 @@ drafted k t r =
     record {
       den = pos 1;
       nums = r .constant ∷ map (coefficientOf k r) (t .cols);
-      waiting = map (λ (v : ℕ). cond (inCols t v) (pos 0) (coefficientOf k r v)) (from 0 (8 + k));
+      waiting = map (λ (v : ℕ). cond (inCols t v) (pos 0) (coefficientOf k r v)) (from 0 (mostAxes + k));
     }
 
 -- ---- one replacement

@@ -7,6 +7,8 @@ use mathlib.Core.Option.{Option, none, some}
 use Prim.Native.Nat.{ℕ, zero, suc, _+_}
 use lib.Dec.{ltb}
 use lib.ListN.{length, getD, replicate}
+use Rattle.model.specs.Limits.{mostAxes, mostConstraints, mostPivots}
+use Rattle.model.specs.Refusals.{outOfRange, notAbsent, overLimit}
 use Rattle.model.specs.Lists.{all}
 use Rattle.model.specs.Sets.{Kind, Division, Constraint, BasicSet, absent, conditions}
 use Rattle.codec.specs.Bytes.{Answer, refused, gives, division, coefficient, constantFits, firstFailing, refusal, axesFit}
@@ -30,7 +32,7 @@ sortBy ks v = getD ks v none
 
 -- the kinds of a basic set's variables: axes and divisions, then bounds and rules
 abbrev pub kindsOf : BasicSet → List (Option Kind)
-kindsOf b = replicate (8 + length (b .divisions)) none ++ map (λ (r : Constraint). some (r .kind)) (conditions b)
+kindsOf b = replicate (mostAxes + length (b .divisions)) none ++ map (λ (r : Constraint). some (r .kind)) (conditions b)
 
 abbrev pub withoutRules : List Division → BasicSet
 withoutRules ds = record { divisions = ds; constraints = [] }
@@ -72,17 +74,17 @@ whilePoint s g = elim (s .says) [ point ↦ g | dropped ↦ counted s | long ↦
 
 -- the row over the tableau reached, its axes and divisions "lowest number first", and the test, "with 200 pivots for that addition"; at W bits alone
 abbrev pub rowAt : ℕ → State → Constraint → Option Draft
-rowAt W s r = settled (bound W) (s .tableau .rows) (from 0 (8 + s .divisions)) (drafted (s .divisions) (s .tableau) r)
+rowAt W s r = settled (bound W) (s .tableau .rows) (from 0 (mostAxes + s .divisions)) (drafted (s .divisions) (s .tableau) r)
 
 abbrev pub goesOnAt : ℕ → (ℕ → Option Kind) → Tableau → Ending
-goesOnAt W sort t = reach (narrow (bound W)) sort 200 t
+goesOnAt W sort t = reach (narrow (bound W)) sort mostPivots t
 
 unfoldable pub addedAt : ℕ → State → Constraint → State
 addedAt W s r = whilePoint s (grown (goesOnAt W) s r (rowAt W s r))
 
 -- as it is: at 64 bits, and what is wide there is carried over to 128
 abbrev pub newRow : State → Constraint → Option Draft
-newRow s r = settledOn (bound 64) (bound 128) (s .tableau .rows) (from 0 (8 + s .divisions)) (drafted (s .divisions) (s .tableau) r)
+newRow s r = settledOn (bound 64) (bound 128) (s .tableau .rows) (from 0 (mostAxes + s .divisions)) (drafted (s .divisions) (s .tableau) r)
 
 abbrev pub goesOn : (ℕ → Option Kind) → Tableau → Ending
 goesOn sort t = carried (narrow (bound 128)) sort (goesOnAt 64 sort t)
@@ -104,9 +106,9 @@ startRefusal n ds = cond (axesFit n) (divisionsRefusal n 0 ds) 1
 -- "A 49th rule is 10, after 7 and 8": over n axes and k divisions, with so many rules
 abbrev pub ruleTests : ℕ → ℕ → ℕ → Constraint → List (Bool × ℕ)
 ruleTests n k rules r =
-    (constantFits (r .kind) (r .constant) && (all coefficient (r .axes) && all coefficient (r .divisions)), 7)
-    ∷ (absent n (r .axes) && absent k (r .divisions), 8)
-    ∷ (ltb rules 48, 10)
+    (constantFits (r .kind) (r .constant) && (all coefficient (r .axes) && all coefficient (r .divisions)), outOfRange)
+    ∷ (absent n (r .axes) && absent k (r .divisions), notAbsent)
+    ∷ (ltb rules mostConstraints, overLimit)
     ∷ []
 
 abbrev pub ruleRefusal : State → Constraint → ℕ

@@ -7,6 +7,7 @@ ghost use lib.ListN.{getD};
 ghost use Rattle.search.specs.Search.{searchBytes};
 ghost use Rattle.search.specs.Sides.{answerOf};
 ghost use Rattle.probe.specs.Numbers.{searchNumber};
+use model::limit;
 
 // search::first_point: 0 at a point, 1 none, 2 spent, 100 and the number of a refusal.
 #[no_mangle]
@@ -81,10 +82,10 @@ pub extern "C" fn probe_tally(
     r.tested
 }
 
-fn coordinate(p: [i64; 8], i: usize) -> i64
+fn coordinate(p: [i64; limit::AXES], i: usize) -> i64
     ensures { λ r. ⌜ r ≡ getD p i (pos 0) ⌝ }
 {
-    if i < 8 {
+    if i < limit::AXES {
         return p[i];
     }
     0

@@ -5,6 +5,7 @@ ghost use mathlib.Core.Path.{_≡_};
 ghost use lib.IntN.{pos, negsuc};
 ghost use Rattle.extremes.specs.Answers.{expressionBy, extremeBytes, extentIs};
 ghost use Rattle.probe.specs.Values.{extentNumber, ValueProbed};
+use model::limit;
 
 fn extent_number(x: Extent) -> u64
     ensures { λ r. ⌜ r ≡ extentNumber (extentIs x) ⌝ }
@@ -26,8 +27,8 @@ pub extern "C" fn probe_greatest(
     set: &[u8],
     k: usize,
     constant: i32,
-    axes: &[i32; 8],
-    divisions: &[i32; 8],
+    axes: &[i32; limit::AXES],
+    divisions: &[i32; limit::DIVISIONS],
     value: &mut [u64; 4],
 ) -> u64
     ensures { λ r. ⌜ ValueProbed (extremeBytes (negsuc 0) n (now (set .entry)) k (expressionBy constant (now (axes .entry)) (now (divisions .entry)))) r (now (value .exit)) ⌝ }
@@ -49,8 +50,8 @@ pub extern "C" fn probe_least(
     set: &[u8],
     k: usize,
     constant: i32,
-    axes: &[i32; 8],
-    divisions: &[i32; 8],
+    axes: &[i32; limit::AXES],
+    divisions: &[i32; limit::DIVISIONS],
     value: &mut [u64; 4],
 ) -> u64
     ensures { λ r. ⌜ ValueProbed (extremeBytes (pos 1) n (now (set .entry)) k (expressionBy constant (now (axes .entry)) (now (divisions .entry)))) r (now (value .exit)) ⌝ }

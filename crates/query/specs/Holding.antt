@@ -6,12 +6,14 @@ use Prim.Native.Nat.{ℕ, _≤_}
 use lib.Dec.{ltb}
 use lib.IntN.{ℤ}
 use lib.ListN.{length, take, drop}
+use Rattle.model.specs.Limits.{mostAxes, mostDivisions, mostCoordinate}
 use Rattle.model.specs.Lists.{all}
 use Rattle.model.specs.Sets.{Constraint, BasicSet, isZero, quotients}
 use Rattle.query.specs.Member.{coordinate}
 use Rattle.codec.specs.Bytes.{Answer, refused, gives}
 use Rattle.codec.specs.Places.{built, basicAt, endOf, Past}
 use Rattle.codec.specs.declared.layout.Passed.{Passed}
+use Rattle.bounds.specs.Sizes.{mostQuotient}
 pub use Rattle.bounds.specs.Ends.{AllWithin}
 use Rattle.query.specs.declared.membership.Span.{Span}
 use Rattle.query.specs.declared.membership.Membership.{Membership}
@@ -19,19 +21,19 @@ use Rattle.query.specs.declared.membership.Membership.the-variants.{In, 
 
 -- a point as the code has it: whole numbers for the axes, none beyond the range of a coordinate
 pub record Point (x : List ℤ) : Type 0 where
-  pub axes : length x ≤ 8
-  pub point : AllWithin 1048576 x
+  pub axes : length x ≤ mostAxes
+  pub point : AllWithin mostCoordinate x
 
 -- the values of the divisions
 pub record Values (q : List ℤ) : Type 0 where
-  pub few : length q ≤ 8
-  pub values : AllWithin 549755813888 q
+  pub few : length q ≤ mostDivisions
+  pub values : AllWithin mostQuotient q
 
 -- q begins with the values of the divisions from a place on, which r has passed
 pub record Divided (s : List ℕ) (start : ℕ) (x q : List ℤ) (r : Passed) : Type 0 where
-  pub few : r .count ≤ 8
+  pub few : r .count ≤ mostDivisions
   pub is : take (r .count) q ≡ quotients (built (drop start s) .divisions) x
-  pub values : AllWithin 549755813888 q
+  pub values : AllWithin mostQuotient q
   pub past : Past s start (r .next)
 
 -- whether the constraints from a place on pass a test, and the place after them

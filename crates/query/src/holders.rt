@@ -8,6 +8,7 @@ ghost use Rattle.query.specs.Handed.{holderIs, seen, handed};
 use crate::membership::first_holding;
 use crate::membership::point_fits;
 use crate::membership::widened;
+use model::limit;
 
 // A basic set of the first or the second table, by its number from 1; number 0 is none.
 pub struct Seat {
@@ -45,7 +46,7 @@ fn seat_of(a: &[u8], b: &[u8], x: &[i64]) -> Seat
     nobody()
 }
 
-fn seated(n: usize, a: &[u8], b: &[u8], point: [i32; 8]) -> Seat
+fn seated(n: usize, a: &[u8], b: &[u8], point: [i32; limit::AXES]) -> Seat
     ensures { λ r. ⌜ holderIs r ≡ holderBytes n (now (a .entry)) (now (b .entry)) point ⌝ }
 {
     let c = codec::check(n, a);
@@ -64,7 +65,7 @@ fn seated(n: usize, a: &[u8], b: &[u8], point: [i32; 8]) -> Seat
 }
 
 // The first basic set that holds the point, as a part of the table it came from; an empty part of the first table where there is none or an input is bad.
-pub fn holder<'a>(n: usize, a: &'a [u8], b: &'a [u8], point: [i32; 8]) -> &'a [u8]
+pub fn holder<'a>(n: usize, a: &'a [u8], b: &'a [u8], point: [i32; limit::AXES]) -> &'a [u8]
     ensures { λ r. ⌜ seen r ≡ handed n (a .entry) (b .entry) (holderBytes n (now (a .entry)) (now (b .entry)) point) ⌝ }
 {
     let s = seated(n, a, b, point);

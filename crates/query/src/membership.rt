@@ -5,14 +5,20 @@ ghost use Prim.Native.Nat.{_+_, _*_, _≤_, _<_};
 ghost use lib.IntN.{pos};
 ghost use lib.ListN.{length};
 ghost use Rattle.model.specs.Sets as M;
+ghost use Rattle.model.specs.Limits.{mostAxes, mostDivisions};
 ghost use Rattle.codec.specs.Bytes.{constraintBody, readConstraint, kindOf};
 ghost use Rattle.codec.specs.Places.{Opened, Accepted, Tail, setFrom};
+ghost use Rattle.bounds.specs.Sizes.{mostQuotient};
 ghost use Rattle.query.specs.Member.{memberBytes, pointFits};
 ghost use Rattle.query.specs.Holder.{firstHolding};
 ghost use Rattle.query.specs.Holding.{AllWithin, Point, Values, Divided, Judged, Spanned, memberIs, coordinateFits};
 use crate::values::holds_at;
 use crate::values::quotient_at;
 use codec::Passed;
+use model::limit;
+use model::refusal;
+
+const LEAST_COORDINATE: i32 = -limit::COORDINATE;
 
 // Whether a basic set holds the point, and the place after it.
 pub struct Span {
@@ -29,7 +35,7 @@ pub enum Membership {
 // The values of the divisions of the basic set whose commands start at `start`; how many these are, and the place after
 // them.
 fn divided(s: &[u8], start: usize, x: &[i64], q: &mut [i64]) -> Passed
-    requires { ⌜ Opened (now s) start × Point (now x) × (length (now q) ≡ 8) × AllWithin 549755813888 (now q) ⌝ }
+    requires { ⌜ Opened (now s) start × Point (now x) × (length (now q) ≡ mostDivisions) × AllWithin mostQuotient (now q) ⌝ }
     ensures { λ r. ⌜ Divided (now (s .entry)) start (now (x .entry)) (now (q .exit)) r ⌝ }
 {
     let mut at = start;
@@ -108,10 +114,10 @@ pub fn first_holding(s: &[u8], x: &[i64]) -> usize
 pub fn coordinate_fits(n: usize, i: usize, z: i32) -> bool
     ensures { λ r. ⌜ r ≡ coordinateFits n i z ⌝ }
 {
-    if z < -1048576 {
+    if z < LEAST_COORDINATE {
         return false;
     }
-    if 1048576 < z {
+    if limit::COORDINATE < z {
         return false;
     }
     if i < n {
@@ -121,11 +127,11 @@ pub fn coordinate_fits(n: usize, i: usize, z: i32) -> bool
 }
 
 // Whether a point has its coordinates in their range, and 0 on absent axes.
-pub fn point_fits(n: usize, point: [i32; 8]) -> bool
+pub fn point_fits(n: usize, point: [i32; limit::AXES]) -> bool
     ensures { λ r. ⌜ r ≡ pointFits n point ⌝ }
 {
     let mut i = 0;
-    while i < 8 {
+    while i < limit::AXES {
         let z = point[i];
         if !coordinate_fits(n, i, z) {
             return false;
@@ -142,8 +148,8 @@ pub fn wide(z: i32) -> i64
 }
 
 // The same numbers, wider.
-pub fn widened(p: [i32; 8]) -> [i64; 8]
-    ensures { λ r. ⌜ (r ≡ p) × (length r ≡ 8) ⌝ }
+pub fn widened(p: [i32; limit::AXES]) -> [i64; limit::AXES]
+    ensures { λ r. ⌜ (r ≡ p) × (length r ≡ mostAxes) ⌝ }
 {
     [
         wide(p[0]),
@@ -158,7 +164,7 @@ pub fn widened(p: [i32; 8]) -> [i64; 8]
 }
 
 // Whether the point is in the set of the bytes.
-pub fn member(n: usize, set: &[u8], point: [i32; 8]) -> Membership
+pub fn member(n: usize, set: &[u8], point: [i32; limit::AXES]) -> Membership
     ensures { λ r. ⌜ memberIs r ≡ memberBytes n (now (set .entry)) point ⌝ }
 {
     let c = codec::check(n, set);
@@ -166,7 +172,7 @@ pub fn member(n: usize, set: &[u8], point: [i32; 8]) -> Membership
         return Membership::Refused(c);
     }
     if !point_fits(n, point) {
-        return Membership::Refused(12);
+        return Membership::Refused(refusal::BAD_POINT);
     }
     let x = widened(point);
     let k = first_holding(set, &x[..n]);

@@ -3,6 +3,7 @@ use mathlib.Core.Path.{_≡_}
 use mathlib.Core.List.{List, [], _∷_, _++_}
 use Prim.Native.Nat.{ℕ, suc, _+_, _-_, _≤_, _<_, _^_}
 use lib.ListN.{length, take, replicate, set}
+use Rattle.model.specs.Limits.{mostDivisions, mostConstraints}
 use Rattle.model.specs.declared.BasicSet.{BasicSet}
 
 -- o with l from place `at` on; what would stand past the end of o is left out
@@ -21,6 +22,6 @@ cleared from o = take from o ++ replicate (length o - from) 0
 
 -- a value that has the size of a basic set, and a place that leaves room to count on
 pub record Encodable (b : BasicSet) (at : ℕ) : Type 0 where
-  pub divs : b .divs ≤ 8
-  pub cons : b .cons ≤ 48
+  pub divs : b .divs ≤ mostDivisions
+  pub cons : b .cons ≤ mostConstraints
   pub place : at < 2 ^ 63

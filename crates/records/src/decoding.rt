@@ -3,6 +3,7 @@ ghost use mathlib.Core.Path.{_≡_};
 ghost use Prim.Native.Nat.{_+_, _≤_, _<_};
 ghost use lib.ListN.{length, drop};
 ghost use Rattle.model.specs.Values.{divisionOf, constraintOf};
+ghost use Rattle.model.specs.Limits.{mostDivisions, mostConstraints, coefficientPlaces};
 ghost use Rattle.codec.specs.Bytes.{signedList, divisionBody, constraintBody, readDivision, readConstraint, kindOf};
 ghost use Rattle.codec.specs.Places.{Opened, Decoded};
 use codec::AXES_PLACE;
@@ -20,10 +21,11 @@ use integers::i32_at;
 use model::BasicSet;
 use model::Constraint;
 use model::Division;
+use model::limit;
 
-fn coefficients(t: &[u8], p: usize) -> [i16; 8]
+fn coefficients(t: &[u8], p: usize) -> [i16; limit::PLACES]
     requires { ⌜ p + 16 ≤ length (now t) ⌝ }
-    ensures { λ r. ⌜ r ≡ signedList 8 (drop p (now (t .entry))) ⌝ }
+    ensures { λ r. ⌜ r ≡ signedList coefficientPlaces (drop p (now (t .entry))) ⌝ }
 {
     [
         i16_at(t, p),
@@ -71,7 +73,7 @@ fn no_division() -> Division {
     Division {
         divisor: 1,
         constant: 0,
-        axes: [0i16; 8],
+        axes: [0i16; limit::AXES],
     }
 }
 
@@ -79,23 +81,23 @@ fn no_constraint() -> Constraint {
     Constraint {
         equality: false,
         constant: 0,
-        axes: [0i16; 8],
-        divisions: [0i16; 8],
+        axes: [0i16; limit::AXES],
+        divisions: [0i16; limit::DIVISIONS],
     }
 }
 
-fn no_divisions() -> [Division; 8]
-    ensures { λ r. ⌜ length r ≡ 8 ⌝ }
+fn no_divisions() -> [Division; limit::DIVISIONS]
+    ensures { λ r. ⌜ length r ≡ mostDivisions ⌝ }
 {
     let d = no_division();
-    [d; 8]
+    [d; limit::DIVISIONS]
 }
 
-fn no_constraints() -> [Constraint; 48]
-    ensures { λ r. ⌜ length r ≡ 48 ⌝ }
+fn no_constraints() -> [Constraint; limit::CONSTRAINTS]
+    ensures { λ r. ⌜ length r ≡ mostConstraints ⌝ }
 {
     let r = no_constraint();
-    [r; 48]
+    [r; limit::CONSTRAINTS]
 }
 
 // The basic set of checked bytes whose commands start at `start`, just past its `11`.

@@ -17,6 +17,7 @@ use codec::OPENS;
 use model::BasicSet;
 use model::Constraint;
 use model::Division;
+use model::limit;
 
 // Zeros from a place on: after a refusal from 0, after a result from its end.
 pub fn clear(out: &mut [u8], from: usize)
@@ -98,14 +99,14 @@ fn put_32(out: &mut [u8], at: usize, v: u64) -> usize
     put_16(out, p, v / 65536)
 }
 
-fn put_coefficients(out: &mut [u8], at: usize, a: [i16; 8]) -> usize
+fn put_coefficients(out: &mut [u8], at: usize, a: [i16; limit::PLACES]) -> usize
     requires { ⌜ at + 16 ≤ length (now out) ⌝ }
     ensures bytes { λ r. ⌜ Emitted (concatMap (signedBytes 2) a) (now (out .entry)) at r (now (out .exit)) ⌝ }
     ensures size { λ r. ⌜ r ≡ at + 16 ⌝ }
 {
     let mut p = at;
     let mut i = 0;
-    while i < 8 {
+    while i < limit::PLACES {
         p = put_16(out, p, half(a[i]));
         i += 1;
     }

@@ -5,6 +5,7 @@ use mathlib.Core.List.{List}
 use Prim.Native.Nat.{ℕ, _+_, _*_, _≤_}
 use lib.Dec.{leb}
 use lib.ListN.{length}
+use Rattle.model.specs.Limits.{mostBasicSets}
 use Rattle.model.specs.Sets.{Set}
 use Rattle.codec.specs.Places.{longestBasic}
 use Rattle.codec.specs.Bytes.{encode}
@@ -18,12 +19,12 @@ use Rattle.results.specs.Outcome.{outcomeIs}
 -- a result that may go on: no basic set has more than longestBasic bytes
 pub record Ready (s : Done) : Type 0 where
   pub fits : s .fits ≡ true
-  pub few : s .count ≤ 32
+  pub few : s .count ≤ mostBasicSets
   pub near : s .at ≤ longestBasic * s .count
 
 -- behind what s has in o come the basic sets l, unless f is false or there are over 32: then it no longer fits
 pub record Emits (l : Set) (f : Bool) (o : List ℕ) (s r : Done) (o′ : List ℕ) : Type 0 where
-  pub fits : r .fits ≡ f && leb (s .count + length l) 32
+  pub fits : r .fits ≡ f && leb (s .count + length l) mostBasicSets
   pub ready : r .fits ≡ true → Ready r
   pub count : r .fits ≡ true → r .count ≡ s .count + length l
   pub bytes : r .fits ≡ true → Emitted (encode l) o (s .at) (r .at) o′

@@ -9,6 +9,8 @@ ghost use Rattle.records.specs.Sound.{Sound};
 ghost use Rattle.results.specs.Outcome.{outcomeIs};
 ghost use Rattle.results.specs.Results.{Ready, Emits, Finished};
 use model::BasicSet;
+use model::limit;
+use model::refusal;
 use records::clear;
 use records::encode_basic;
 
@@ -32,7 +34,7 @@ pub fn emit(b: BasicSet, out: &mut [u8], s: Done) -> Done
 {
     let at = s.at;
     let count = s.count;
-    if count == 32 {
+    if count == limit::BASIC_SETS {
         return Done {
             at,
             count,
@@ -61,10 +63,10 @@ pub fn finish(s: Done, out: &mut [u8]) -> Outcome
     let fits = s.fits;
     let at = s.at;
     if !fits {
-        return refuse(10, out);
+        return refuse(refusal::OVER_LIMIT, out);
     }
     if out.len() < at {
-        return refuse(11, out);
+        return refuse(refusal::TABLE_FULL, out);
     }
     clear(out, at);
     Outcome::Length(at)

@@ -5,11 +5,14 @@ ghost use mathlib.Core.Path.{_≡_};
 ghost use Prim.Native.Nat.{_≤_, _<_};
 ghost use lib.ListN.{length};
 ghost use Rattle.integers.specs.Z.{Within};
+ghost use Rattle.model.specs.Limits.{mostAxes};
 ghost use Rattle.bounds.specs.Ends.{Ends, Step};
 ghost use Rattle.codec.specs.Bytes.{divisionBody, constraintBody};
 ghost use Rattle.codec.specs.Places.{Opened};
+ghost use Rattle.bounds.specs.Sizes.{mostAxesPart, mostQuotient};
 ghost use Rattle.bounds.specs.Rows.{Loose, Numbered};
 ghost use Rattle.runs.specs.Helping.{notedOf, Helping};
+use model::limit;
 
 // Whether a number with the coefficient a comes nearer to holding as its axis goes up: a constraint fails because it is
 // too low (`up`), or, an equality, too high.
@@ -31,7 +34,11 @@ fn division_helps(a: i64, b: i64, up: bool) -> bool {
     false
 }
 
-// The one division that helps: its number, 8 where there is none and 9 where there are more; and its place.
+// The one division that helps: its number, past that of every division where none does or several do; and its place.
+const NONE: usize = limit::DIVISIONS;
+
+const SEVERAL: usize = NONE + 1;
+
 pub struct Helper {
     pub number: usize,
     pub place: usize,
@@ -42,14 +49,14 @@ fn noted(before: Helper, j: usize, at: usize, yes: bool) -> Helper
     ensures { λ r. ⌜ r ≡ notedOf before j at yes ⌝ }
 {
     if yes {
-        if before.number == 8 {
+        if before.number == NONE {
             return Helper {
                 number: j,
                 place: at,
             };
         }
         return Helper {
-            number: 9,
+            number: SEVERAL,
             place: before.place,
         };
     }
@@ -58,11 +65,11 @@ fn noted(before: Helper, j: usize, at: usize, yes: bool) -> Helper
 
 // Of the divisions from `start` on, the one that helps the constraint with body t as axis k goes up.
 fn helping_division(s: &[u8], start: usize, t: &[u8], k: usize, up: bool) -> Helper
-    requires { ⌜ Opened (now s) start × (k < 8) × (constraintBody ≤ length (now t)) ⌝ }
+    requires { ⌜ Opened (now s) start × (k < mostAxes) × (constraintBody ≤ length (now t)) ⌝ }
     ensures { λ r. ⌜ Helping (now (s .entry)) r ⌝ }
 {
     let mut g = Helper {
-        number: 8,
+        number: NONE,
         place: start,
     };
     let mut j = 0;
@@ -128,7 +135,7 @@ fn stepped(short: u64, c: u64, e: u64, m: u64, b: u64, most: u64) -> u64
 
 // What is left of the end of a numerator when it is divided.
 fn left_over(t: &[u8], k: usize, from: i64, to: i64, z: i64, e: u64) -> u64
-    requires { ⌜ (divisionBody ≤ length (now t)) × (0 < e) × (e < 65536) × Step k from to × Within 274877906944 z ⌝ }
+    requires { ⌜ (divisionBody ≤ length (now t)) × (0 < e) × (e < 65536) × Step k from to × Within mostAxesPart z ⌝ }
 {
     let n = bounds::end_at(t, k, from, to, z);
     let d = e as i64;
@@ -146,7 +153,7 @@ fn turned(e: u64, m: u64) -> u64 {
 
 // What is left of the end that moves: the greatest where the coefficient b of the axis is above 0.
 fn remains(t: &[u8], k: usize, from: i64, to: i64, l: i64, h: i64, b: i64, e: u64) -> u64
-    requires { ⌜ (divisionBody ≤ length (now t)) × (0 < e) × (e < 65536) × Step k from to × Within 274877906944 l × Within 274877906944 h ⌝ }
+    requires { ⌜ (divisionBody ≤ length (now t)) × (0 < e) × (e < 65536) × Step k from to × Within mostAxesPart l × Within mostAxesPart h ⌝ }
 {
     if 0 < b {
         return left_over(t, k, to, from, h, e);
@@ -173,10 +180,10 @@ fn guess_from(
     let a = rising(codec::s16_at(t, codec::AXES_PLACE + 2 * k), up);
     let g = helping_division(s, start, t, k, up);
     let j = g.number;
-    if j == 8 {
+    if j == NONE {
         return linear(short, a, most);
     }
-    if 8 < j {
+    if NONE < j {
         return 1;
     }
     if a != 0 {
@@ -210,7 +217,7 @@ pub fn guess(
     i: usize,
     most: u64,
 ) -> u64
-    requires { ⌜ Loose (now s) (now r) × Ends (now ql) (now qh) 549755813888 × Step k from to × Numbered (now s) (now r) at i × (0 < most) ⌝ }
+    requires { ⌜ Loose (now s) (now r) × Ends (now ql) (now qh) mostQuotient × Step k from to × Numbered (now s) (now r) at i × (0 < most) ⌝ }
     ensures { λ m. ⌜ (0 < m) × (m ≤ most) ⌝ }
 {
     let t = codec::body(s, at);

@@ -3,7 +3,9 @@ ghost use mathlib.Core.Path.{_≡_};
 ghost use mathlib.Core.List.{map};
 ghost use Prim.Native.Nat.{_<_};
 ghost use lib.ListN.{length};
+ghost use Rattle.model.specs.Limits.{mostCoordinate};
 ghost use Rattle.codec.specs.Places.{basicAt, Past};
+ghost use Rattle.bounds.specs.Sizes.{mostQuotient};
 ghost use Rattle.bounds.specs.Intervals.{boxOf, quotientSide};
 ghost use Rattle.bounds.specs.Ends.{Ends};
 ghost use Rattle.bounds.specs.Rows.{startOf, Row, Settled};
@@ -23,7 +25,7 @@ fn constraints_run(
     first: usize,
     most: u64,
 ) -> u64
-    requires { ⌜ Settled (now s) k (now low) (now high) (now r) × Ends (now low) (now high) 1048576 × Ends (now ql) (now qh) 549755813888 × Past (now s) (startOf (now r)) first × (length (now ql) ≡ length (basicAt (now s) (startOf (now r)) .divisions)) × (boxOf (now ql) (now qh) ≡ map (quotientSide (boxOf (now low) (now high))) (basicAt (now s) (startOf (now r)) .divisions)) × Reach k (now high) most × (0 < most) ⌝ }
+    requires { ⌜ Settled (now s) k (now low) (now high) (now r) × Ends (now low) (now high) mostCoordinate × Ends (now ql) (now qh) mostQuotient × Past (now s) (startOf (now r)) first × (length (now ql) ≡ length (basicAt (now s) (startOf (now r)) .divisions)) × (boxOf (now ql) (now qh) ≡ map (quotientSide (boxOf (now low) (now high))) (basicAt (now s) (startOf (now r)) .divisions)) × Reach k (now high) most × (0 < most) ⌝ }
     ensures { λ m. ⌜ Failing (now (s .entry)) k (now (low .entry)) (now (high .entry)) (startOf (now (r .entry))) most m ⌝ }
 {
     let mut i = ql.len();
@@ -48,7 +50,7 @@ pub fn failing_run(
     r: &mut [i64; 129],
     most: u64,
 ) -> u64
-    requires { ⌜ Row (now s) (length (now low)) (now r) × Ends (now low) (now high) 1048576 × (k < length (now low)) × Reach k (now high) most × (0 < most) ⌝ }
+    requires { ⌜ Row (now s) (length (now low)) (now r) × Ends (now low) (now high) mostCoordinate × (k < length (now low)) × Reach k (now high) most × (0 < most) ⌝ }
     ensures { λ m. ⌜ Told (now (s .entry)) k (now (low .entry)) (now (high .entry)) (now (r .entry)) (now (r .exit)) most m ⌝ }
 {
     bounds::settle(s, k, low, high, r);

@@ -5,18 +5,21 @@ ghost use mathlib.Core.Bool.{true};
 ghost use mathlib.Core.List.{map};
 ghost use Prim.Native.Nat.{_≤_, _<_};
 ghost use lib.ListN.{length, take};
+ghost use Rattle.model.specs.Limits.{mostAxes, mostCoordinate};
 ghost use Rattle.codec.specs.Places.{basicAt, constraintAt};
+ghost use Rattle.bounds.specs.Sizes.{mostMove, mostQuotient};
 ghost use Rattle.bounds.specs.Intervals.{boxOf, quotientSide};
 ghost use Rattle.bounds.specs.Ends.{AllWithin, Ends, canStand};
 ghost use Rattle.bounds.specs.Rows.{startOf, Settled, Numbered};
 ghost use Rattle.runs.specs.Upward.{widened, Reach, Lasts};
 use crate::guesses::guess;
+use model::limit;
 
 // Highs with that of axis k up by some.
-fn raised(high: &[i64], k: usize, up: u64) -> [i64; 8]
-    requires { ⌜ (length (now high) ≤ 8) × (k < length (now high)) × AllWithin 1048576 (now high) × (up ≤ 2097152) ⌝ }
+fn raised(high: &[i64], k: usize, up: u64) -> [i64; limit::AXES]
+    requires { ⌜ (length (now high) ≤ mostAxes) × (k < length (now high)) × AllWithin mostCoordinate (now high) × (up ≤ mostMove) ⌝ }
     ensures is { λ w. ⌜ take (length (now (high .entry))) w ≡ widened k up (now (high .entry)) ⌝ }
-    ensures places { λ w. ⌜ length w ≡ 8 ⌝ }
+    ensures places { λ w. ⌜ length w ≡ mostAxes ⌝ }
 {
     let mut w = bounds::no_values();
     let mut i = 0;
@@ -39,7 +42,7 @@ fn can_over(
     at: usize,
     i: usize,
 ) -> bool
-    requires { ⌜ Settled (now s) k (now low) (now high) (now r) × Ends (now low) (now high) 1048576 × Numbered (now s) (now r) at i ⌝ }
+    requires { ⌜ Settled (now s) k (now low) (now high) (now r) × Ends (now low) (now high) mostCoordinate × Numbered (now s) (now r) at i ⌝ }
     ensures { λ x. ⌜ x ≡ canStand (boxOf (now (low .entry)) (now (high .entry))) (map (quotientSide (boxOf (now (low .entry)) (now (high .entry)))) (basicAt (now (s .entry)) (startOf (now (r .entry))) .divisions)) (constraintAt (now (s .entry)) at) ⌝ }
 {
     let mut ql = bounds::no_values();
@@ -60,7 +63,7 @@ fn lasts(
     i: usize,
     m: u64,
 ) -> bool
-    requires { ⌜ Settled (now s) k (now low) (now high) (now r) × Ends (now low) (now high) 1048576 × Numbered (now s) (now r) at i × Reach k (now high) m × (0 < m) ⌝ }
+    requires { ⌜ Settled (now s) k (now low) (now high) (now r) × Ends (now low) (now high) mostCoordinate × Numbered (now s) (now r) at i × Reach k (now high) m × (0 < m) ⌝ }
     ensures { λ x. ⌜ (x ≡ true → Lasts (now (s .entry)) k (now (low .entry)) (now (high .entry)) (startOf (now (r .entry))) (constraintAt (now (s .entry)) at) m) ⌝ }
 {
     let w = raised(high, k, m - 1);
@@ -81,7 +84,7 @@ pub fn constraint_run(
     i: usize,
     most: u64,
 ) -> u64
-    requires { ⌜ Settled (now s) k (now low) (now high) (now r) × Ends (now low) (now high) 1048576 × Ends (now ql) (now qh) 549755813888 × Numbered (now s) (now r) at i × Reach k (now high) most × (0 < most) × Lasts (now s) k (now low) (now high) (startOf (now r)) (constraintAt (now s) at) 1 ⌝ }
+    requires { ⌜ Settled (now s) k (now low) (now high) (now r) × Ends (now low) (now high) mostCoordinate × Ends (now ql) (now qh) mostQuotient × Numbered (now s) (now r) at i × Reach k (now high) most × (0 < most) × Lasts (now s) k (now low) (now high) (startOf (now r)) (constraintAt (now s) at) 1 ⌝ }
     ensures is { λ m. ⌜ Lasts (now (s .entry)) k (now (low .entry)) (now (high .entry)) (startOf (now (r .entry))) (constraintAt (now (s .entry)) at) m ⌝ }
     ensures size { λ m. ⌜ (0 < m) × (m ≤ most) ⌝ }
 {

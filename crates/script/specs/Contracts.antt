@@ -3,6 +3,7 @@ use mathlib.Core.Path.{_≡_}
 use mathlib.Core.List.{List}
 use Prim.Native.Nat.{ℕ, suc, _≤_, _<_}
 use lib.ListN.{length, getD, set}
+use Rattle.model.specs.Limits.{mostAxes, mostDivisions}
 use Rattle.codec.specs.Places.{Whole}
 use Rattle.session.specs.Script.{room}
 use Rattle.session.specs.Turns.{Turned, stateAt, goesOn}
@@ -32,14 +33,14 @@ pub record CursorIn (c : Cursor) (lengths : List ℕ) : Type 0 where
   pub set-is : c .set ≤ 3
   pub place-in : c .place ≤ getD lengths (c .set) 0
   pub few-basics : c .basics ≤ room
-  pub few-divisions : c .divisions ≤ 8
+  pub few-divisions : c .divisions ≤ mostDivisions
 
 -- the command of a listing at the cursor's place in s, all there
 pub record Shows (n : ℕ) (c : Cursor) (s out : List ℕ) : Type 0 where
-  pub axes : n ≤ 8
+  pub axes : n ≤ mostAxes
   pub line-long : 512 ≤ length out
   pub few-basics : c .basics ≤ room
-  pub few-divisions : c .divisions ≤ 8
+  pub few-divisions : c .divisions ≤ mostDivisions
   pub whole : Whole s (c .place)
 
 -- turns as the code makes them

@@ -6,6 +6,7 @@ ghost use lib.Dec.{eqb};
 ghost use lib.ListN.{length};
 ghost use Rattle.session.specs.Script.{fixedWidth, loadLength, inPlace};
 ghost use Rattle.session.specs.Turns.{cutOff, frontOf};
+use model::refusal;
 use session::Front;
 
 // The bytes of a command by its first, a load's without those of its set; 0: unknown.
@@ -72,7 +73,7 @@ fn cut_off(ended: bool) -> Front
     ensures { λ r. ⌜ r ≡ cutOff ended ⌝ }
 {
     if ended {
-        return Front::Stop(3);
+        return Front::Stop(refusal::CUT_SHORT);
     }
     Front::More
 }
@@ -86,10 +87,10 @@ pub fn next(axes: usize, s: &[u8], ended: bool) -> Front
     let b = s[0];
     let w = fixed_width(b);
     if w == 0 {
-        return Front::Stop(2);
+        return Front::Stop(refusal::UNKNOWN_COMMAND);
     }
     if !in_place(axes, b) {
-        return Front::Stop(15);
+        return Front::Stop(refusal::OUT_OF_PLACE);
     }
     if s.len() < w {
         return cut_off(ended);

@@ -12,6 +12,7 @@ ghost use Rattle.session.specs.Turns.{Fitted, tableAt, lineOf, frontTurn, front
 ghost use Rattle.commands.specs.Contracts.{Usable};
 ghost use Rattle.script.specs.Contracts.{silentTurn, afterTurn, CursorIn, Says, TurnIs, Shows};
 ghost use mathlib.Core.List.{[]};
+ghost use Rattle.model.specs.Limits.{mostAxes, mostDivisions};
 ghost use Rattle.session.specs.declared.Listing.the-variants.{Nothing};
 ghost use Rattle.session.specs.declared.Next.the-variants.{Goes};
 use crate::fronts::next;
@@ -22,6 +23,7 @@ use commands::table;
 use listing::constraint_line;
 use listing::counted_line;
 use listing::division_line;
+use model::limit;
 use session::Cursor;
 use session::Front;
 use session::Listing;
@@ -68,7 +70,7 @@ fn line(axes: usize, c: Cursor, s: &[u8], out: &mut [u8]) -> usize
 
 // The cursor after that command.
 fn past(c: Cursor, b: u8) -> Cursor
-    requires { ⌜ (c .place ≤ room) × (c .basics ≤ room) × (c .divisions ≤ 8) ⌝ }
+    requires { ⌜ (c .place ≤ room) × (c .basics ≤ room) × (c .divisions ≤ mostDivisions) ⌝ }
     ensures { λ r. ⌜ r ≡ D.past c b ⌝ }
 {
     let set = c.set;
@@ -111,7 +113,7 @@ fn over(axes: usize) -> Turn
 
 // One line of a listing.
 fn listing_turn(axes: usize, c: Cursor, tables: &[u8], lengths: &[usize], out: &mut [u8]) -> Turn
-    requires { ⌜ Fitted (now tables) (now lengths) × CursorIn c (now lengths) × (axes ≤ 8) × (512 ≤ length (now out)) ⌝ }
+    requires { ⌜ Fitted (now tables) (now lengths) × CursorIn c (now lengths) × (axes ≤ mostAxes) × (512 ≤ length (now out)) ⌝ }
     ensures { λ r. ⌜ Says (D.lineTurn axes (D.memory [] [] []) c (drop (c .place) (tableAt (now (tables .entry)) (now (lengths .entry)) (c .set)))) r (now (out .entry)) (now (out .exit)) ⌝ }
 {
     let set = c.set;
@@ -204,7 +206,7 @@ fn lengths_fit(lengths: &[usize]) -> bool
 {
     let mut i = 0;
     while i < lengths.len() {
-        if 8000 < lengths[i] {
+        if limit::SET_BYTES < lengths[i] {
             return false;
         }
         i += 1;
@@ -224,10 +226,10 @@ fn cursor_fits(c: Cursor, lengths: &[usize]) -> bool
     if lengths[set] < place {
         return false;
     }
-    if 8000 < c.basics {
+    if limit::SET_BYTES < c.basics {
         return false;
     }
-    c.divisions <= 8
+    c.divisions <= limit::DIVISIONS
 }
 
 fn usable(state: State, tables: &[u8], lengths: &[usize], result: &[u8], width: usize) -> bool
@@ -244,13 +246,13 @@ fn usable(state: State, tables: &[u8], lengths: &[usize], result: &[u8], width: 
     if !lengths_fit(lengths) {
         return false;
     }
-    if result.len() != 8000 {
+    if result.len() != limit::SET_BYTES {
         return false;
     }
     if width < 512 {
         return false;
     }
-    if 8 < axes {
+    if limit::AXES < axes {
         return false;
     }
     match listing {

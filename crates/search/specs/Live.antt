@@ -5,6 +5,7 @@ use mathlib.Core.List.{List, [], map}
 use Prim.Native.Nat.{ℕ, _-_, _≤_, _<_}
 use lib.IntN.{ℤ}
 use lib.ListN.{length, take, getD}
+use Rattle.model.specs.Limits.{mostAxes, mostBasicSets, mostCoordinate}
 use Rattle.model.specs.Lists.{any}
 use Rattle.model.specs.Sets.{BasicSet}
 use Rattle.codec.specs.Places.{basicAt, setFrom}
@@ -20,7 +21,7 @@ rowBasic s r = basicAt s (startOf r)
 
 -- a row for each basic set, in their order
 pub record Rows (s : List ℕ) (n : ℕ) (rows : List (List ℤ)) : Type 0 where
-  pub few : length rows ≤ 32
+  pub few : length rows ≤ mostBasicSets
   pub sets : map (rowBasic s) rows ≡ setFrom s 0
   pub at : (b : ℕ) → b < length rows → Row s n (getD rows b [])
 
@@ -31,7 +32,7 @@ pub record Rowed (s : List ℕ) (n count : ℕ) (rows : List (List ℤ)) : Type 
 
 -- a basic set that is not live cannot hold over the sides
 pub record Live (s : List ℕ) (xs : List Interval) (live : List Bool) : Type 0 where
-  pub places : length live ≡ 32
+  pub places : length live ≡ mostBasicSets
   pub dead : (b : ℕ) → getD live b false ≡ false → getD (map (canHold xs) (setFrom s 0)) b false ≡ false
 
 -- ---- a run of values of axis k, the first of them that of the box: its side goes up to the last of m
@@ -54,7 +55,7 @@ pub record Tested (s : List ℕ) (xs : List Interval) (wide : ℕ → List Inter
 
 -- the sides of a box, and those that are live over the sides of up to `most` values of axis k
 pub record Sided (s : List ℕ) (k : ℕ) (low high : List ℤ) (live : List Bool) (most : ℕ) : Type 0 where
-  pub ends : Ends low high 1048576
+  pub ends : Ends low high mostCoordinate
   pub axis : k < length low
   pub lives : Live s (boxOf low high) live
   pub reach : Reach k high most
@@ -63,4 +64,4 @@ pub record Sided (s : List ℕ) (k : ℕ) (low high : List ℤ) (live : List Boo
 
 -- the first count rows are those of the basic sets, over any number of axes
 pub record Laid (s : List ℕ) (rows : List (List ℤ)) (count : ℕ) : Type 0 where
-  pub laid : (n : ℕ) → n ≤ 8 → Rowed s n count rows
+  pub laid : (n : ℕ) → n ≤ mostAxes → Rowed s n count rows

@@ -7,6 +7,8 @@ use lib.IntN.{ℤ, pos, natAbs, _+ℤ_, _-ℤ_}
 use lib.Dec.{leb, ltb}
 use lib.Signed.{leZ}
 use lib.ListN.{take}
+use Rattle.model.specs.Limits.{mostPrefixes}
+use Rattle.model.specs.Refusals.{badPoint, badLimit}
 use Rattle.model.specs.Lists.{all, any}
 use Rattle.model.specs.Sets.{Set}
 use Rattle.codec.specs.Bytes.{Answer, refused, gives, decode}
@@ -94,7 +96,7 @@ boxFits n ls hs = cornersFit n ls hs && upright (boxOf ls hs)
 
 -- 13
 abbrev pub limitFits : ℕ → Bool
-limitFits limit = ltb 0 limit && leb limit 1000000
+limitFits limit = ltb 0 limit && leb limit mostPrefixes
 
 unfoldable pub searchBytes : ℕ → List ℕ → List ℤ → List ℤ → ℕ → Answer Tallied
 searchBytes n a ls hs limit = onSet (decode n a)
@@ -103,5 +105,5 @@ searchBytes n a ls hs limit = onSet (decode n a)
     onSet (refused m) = refused m
     onSet (gives s) =
         cond (cornersFit n ls hs)
-        (cond (limitFits limit) (gives (searchBox s (take n (boxOf ls hs)) limit)) (refused 13))
-        (refused 12)
+        (cond (limitFits limit) (gives (searchBox s (take n (boxOf ls hs)) limit)) (refused badLimit))
+        (refused badPoint)

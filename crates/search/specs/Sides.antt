@@ -7,6 +7,7 @@ use lib.Dec.{leb}
 use lib.IntN.{ℤ, pos}
 use lib.Signed.{_≤ℤ_}
 use lib.ListN.{length, take, drop, getD, replicate}
+use Rattle.model.specs.Limits.{mostAxes, mostCoordinate}
 use Rattle.codec.specs.Bytes.{Answer, refused, gives, decode, number}
 use Rattle.codec.specs.Places.{Accepted}
 use Rattle.search.specs.Search.{Interval, boxOf, Walk, at, nothing, spent, Tallied, foundOf, boxFits}
@@ -30,15 +31,15 @@ sidesOf n low high = boxOf (take n low) (take n high)
 -- the sides of a box whose first k axes are fixed
 pub record Standing (s : List ℕ) (n k : ℕ) (low high : List ℤ) : Type 0 where
   pub accepted : Accepted s
-  pub axes : n ≤ 8
+  pub axes : n ≤ mostAxes
   pub left : k < n
-  pub lows : length low ≡ 8
-  pub highs : length high ≡ 8
-  pub low-size : AllWithin 1048576 low
-  pub high-size : AllWithin 1048576 high
+  pub lows : length low ≡ mostAxes
+  pub highs : length high ≡ mostAxes
+  pub low-size : AllWithin mostCoordinate low
+  pub high-size : AllWithin mostCoordinate high
   pub ordered : (i : ℕ) → getD low i (pos 0) ≤ℤ getD high i (pos 0)
   pub fixed : take k low ≡ take k high
-  pub absent : drop n low ≡ replicate (8 - n) (pos 0)
+  pub absent : drop n low ≡ replicate (mostAxes - n) (pos 0)
 
 -- checked bytes, and a box that fits their axes and is not shut
 pub record Boxed (n : ℕ) (s : List ℕ) (low high : List ℤ) : Type 0 where

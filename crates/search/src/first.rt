@@ -13,6 +13,8 @@ use crate::windows::begin;
 use crate::windows::corners_fit;
 use crate::windows::limit_fits;
 use crate::windows::upright;
+use model::limit;
+use model::refusal;
 
 pub enum Outcome {
     At,
@@ -24,16 +26,22 @@ pub enum Outcome {
 // The answer of a search: the point of `At`, zeros otherwise and on absent axes; the number of prefixes tested.
 pub struct FirstPoint {
     pub outcome: Outcome,
-    pub point: [i64; 8],
+    pub point: [i64; limit::AXES],
     pub tested: u32,
 }
 
 // The walk of checked bytes over a box that fits and is not shut.
-fn walked(n: usize, s: &[u8], low: [i32; 8], high: [i32; 8], limit: u32) -> Trail
+fn walked(
+    n: usize,
+    s: &[u8],
+    low: [i32; limit::AXES],
+    high: [i32; limit::AXES],
+    limit: u32,
+) -> Trail
     requires { ⌜ Boxed n (now s) low high ⌝ }
     ensures { λ r. ⌜ r ≡ trailOf (limited limit 0 (walk (setFrom (now (s .entry)) 0) [] (take n (boxOf low high)))) ⌝ }
 {
-    let mut rows = [[0i64; 129]; 32];
+    let mut rows = [[0i64; 129]; limit::BASIC_SETS];
     let all = begin(n, s, low, high, limit, &mut rows);
     tallied(s, all, &mut rows)
 }
@@ -76,7 +84,13 @@ fn answered(t: Trail) -> FirstPoint
 }
 
 // The first point of the set in the box, with the number of prefixes tested.
-pub fn first_point(n: usize, set: &[u8], lows: [i32; 8], highs: [i32; 8], limit: u32) -> FirstPoint
+pub fn first_point(
+    n: usize,
+    set: &[u8],
+    lows: [i32; limit::AXES],
+    highs: [i32; limit::AXES],
+    limit: u32,
+) -> FirstPoint
     ensures { λ r. ⌜ r ≡ answerOf (searchBytes n (now (set .entry)) lows highs limit) ⌝ }
 {
     let c = codec::check(n, set);
@@ -84,10 +98,10 @@ pub fn first_point(n: usize, set: &[u8], lows: [i32; 8], highs: [i32; 8], limit:
         return untested(Outcome::Refused(c));
     }
     if !corners_fit(n, lows, highs) {
-        return untested(Outcome::Refused(12));
+        return untested(Outcome::Refused(refusal::BAD_POINT));
     }
     if !limit_fits(limit) {
-        return untested(Outcome::Refused(13));
+        return untested(Outcome::Refused(refusal::BAD_LIMIT));
     }
     if !upright(lows, highs) {
         return untested(Outcome::Nothing);

@@ -6,11 +6,14 @@ ghost use Prim.Native.Nat.{_≤_, _<_};
 ghost use lib.IntN.{pos, natAbs, _+ℤ_, _-ℤ_};
 ghost use lib.Signed.{_≤ℤ_};
 ghost use lib.ListN.{getD};
+ghost use Rattle.model.specs.Limits.{mostAxes, mostCoordinate};
+ghost use Rattle.bounds.specs.Sizes.{mostMove};
 ghost use Rattle.bounds.specs.Ends.{AllWithin};
 ghost use Rattle.search.specs.Sides.{padded, trailOf};
 ghost use Rattle.search.specs.Live.{Rowed};
 ghost use Rattle.search.specs.Levels.{Ready, Climbed, ended, stopAt, levelOf};
 use crate::opening::opened_in;
+use model::limit;
 
 // How many prefixes were tested: one record lent to each level, which adds to it there.
 pub struct Tally {
@@ -24,9 +27,9 @@ pub struct Prefix {
     pub k: usize,
     pub limit: u32,
     pub count: usize,
-    pub low: [i64; 8],
-    pub high: [i64; 8],
-    pub live: [bool; 32],
+    pub low: [i64; limit::AXES],
+    pub high: [i64; limit::AXES],
+    pub live: [bool; limit::BASIC_SETS],
 }
 
 // Where a level stops: 0 past its last value, 1 at a point, 2 spent, 3 at a prefix to go below, before value `next`.
@@ -41,15 +44,15 @@ pub struct Stop {
 // How a walk ended: 0 nothing found, 1 at a point, 2 spent.
 pub struct Trail {
     pub way: u8,
-    pub point: [i64; 8],
+    pub point: [i64; limit::AXES],
     pub tested: u32,
 }
 
 // How far the side of axis k goes.
-fn span_of(low: [i64; 8], high: [i64; 8], k: usize) -> u64
-    requires { ⌜ (k < 8) × AllWithin 1048576 low × AllWithin 1048576 high × (getD low k (pos 0) ≤ℤ getD high k (pos 0)) ⌝ }
+fn span_of(low: [i64; limit::AXES], high: [i64; limit::AXES], k: usize) -> u64
+    requires { ⌜ (k < mostAxes) × AllWithin mostCoordinate low × AllWithin mostCoordinate high × (getD low k (pos 0) ≤ℤ getD high k (pos 0)) ⌝ }
     ensures is { λ r. ⌜ r ≡ natAbs (getD high k (pos 0) -ℤ getD low k (pos 0)) ⌝ }
-    ensures size { λ r. ⌜ r ≤ 2097152 ⌝ }
+    ensures size { λ r. ⌜ r ≤ mostMove ⌝ }
 {
     let a = low[k];
     let b = high[k];
@@ -57,30 +60,30 @@ fn span_of(low: [i64; 8], high: [i64; 8], k: usize) -> u64
 }
 
 // Value i of the side of axis k.
-fn value_at(low: [i64; 8], k: usize, i: u64) -> i64
-    requires { ⌜ (k < 8) × (i ≤ 2097152) × AllWithin 1048576 low ⌝ }
+fn value_at(low: [i64; limit::AXES], k: usize, i: u64) -> i64
+    requires { ⌜ (k < mostAxes) × (i ≤ mostMove) × AllWithin mostCoordinate low ⌝ }
     ensures { λ r. ⌜ r ≡ getD low k (pos 0) +ℤ pos i ⌝ }
 {
     let a = low[k];
     a + i as i64
 }
 
-pub fn zeros() -> [i64; 8]
+pub fn zeros() -> [i64; limit::AXES]
     ensures { λ r. ⌜ r ≡ padded [] ⌝ }
 {
-    [0i64; 8]
+    [0i64; limit::AXES]
 }
 
 // The prefix that passed: a point if no axis is left.
 fn passed(
     p: Prefix,
-    low: [i64; 8],
-    high: [i64; 8],
-    live: [bool; 32],
+    low: [i64; limit::AXES],
+    high: [i64; limit::AXES],
+    live: [bool; limit::BASIC_SETS],
     tested: u32,
     next: u64,
 ) -> Stop
-    requires { ⌜ p .k < 8 ⌝ }
+    requires { ⌜ p .k < mostAxes ⌝ }
     ensures { λ r. ⌜ r ≡ stopAt p low high live tested next ⌝ }
 {
     let q = Prefix {
@@ -121,7 +124,13 @@ fn fewer(a: u64, b: u32) -> u64
 
 // The values of axis k from number `from` on, up to one that passes; `tested` prefixes were tested before. A run of
 // values that fail is counted as far as the side and the limit go, and only its first is looked at.
-pub fn climb(s: &[u8], p: Prefix, from: u64, tested: u32, rows: &mut [[i64; 129]; 32]) -> Stop
+pub fn climb(
+    s: &[u8],
+    p: Prefix,
+    from: u64,
+    tested: u32,
+    rows: &mut [[i64; 129]; limit::BASIC_SETS],
+) -> Stop
     requires { ⌜ Ready (now s) p tested × Rowed (now s) (p .n) (p .count) (now rows) ⌝ }
     ensures is { λ r. ⌜ Climbed (now (s .entry)) p from tested r ⌝ }
     ensures rows { λ _. ⌜ Rowed (now (s .entry)) (p .n) (p .count) (now (rows .exit)) ⌝ }
@@ -167,7 +176,7 @@ pub fn climb(s: &[u8], p: Prefix, from: u64, tested: u32, rows: &mut [[i64; 129]
 }
 
 // The walk below a prefix. `rows` has a row of ends for each basic set, over whatever box it was last asked.
-pub fn level(s: &[u8], p: Prefix, t: &mut Tally, rows: &mut [[i64; 129]; 32]) -> Stop
+pub fn level(s: &[u8], p: Prefix, t: &mut Tally, rows: &mut [[i64; 129]; limit::BASIC_SETS]) -> Stop
     requires { ⌜ Ready (now s) p (now t .tested) × Rowed (now s) (p .n) (p .count) (now rows) ⌝ }
     ensures { λ r. ⌜ Rowed (now (s .entry)) (p .n) (p .count) (now (rows .exit)) × (ended r (now (t .exit) .tested) ≡ trailOf (levelOf (now (s .entry)) p (now (t .entry) .tested))) ⌝ }
 {
@@ -208,7 +217,7 @@ fn final_trail(r: Stop, tested: u32) -> Trail
 }
 
 // The walk below a prefix, with a tally of its own: what every other caller calls.
-pub fn tallied(s: &[u8], p: Prefix, rows: &mut [[i64; 129]; 32]) -> Trail
+pub fn tallied(s: &[u8], p: Prefix, rows: &mut [[i64; 129]; limit::BASIC_SETS]) -> Trail
     requires { ⌜ Ready (now s) p 0 × Rowed (now s) (p .n) (p .count) (now rows) ⌝ }
     ensures { λ r. ⌜ r ≡ trailOf (levelOf (now (s .entry)) p 0) ⌝ }
 {

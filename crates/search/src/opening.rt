@@ -3,12 +3,14 @@ ghost use mathlib.Core.Path.{_≡_};
 ghost use mathlib.Core.Bool.{false, _||_};
 ghost use Prim.Native.Nat.{_<_};
 ghost use lib.ListN.{length};
+ghost use Rattle.model.specs.Limits.{mostCoordinate};
 ghost use Rattle.codec.specs.Places.{basicAt};
 ghost use Rattle.bounds.specs.Ends.{Ends};
 ghost use Rattle.bounds.specs.Rows.{startOf, Row};
 ghost use Rattle.runs.specs.Upward.{Reach, Told};
 ghost use Rattle.search.specs.Search.{boxOf, canHold};
 ghost use Rattle.search.specs.Live.{Rows, Rowed, Tested, Sided, wideBox};
+use model::limit;
 
 // 0 where the basic set of row r can hold over the sides, otherwise for how many values of axis k, at most `most`, it
 // cannot; `live`: whether it can over sides around them all.
@@ -21,7 +23,7 @@ fn row_run(
     r: &mut [i64; 129],
     most: u64,
 ) -> u64
-    requires { ⌜ Row (now s) (length (now low)) (now r) × Ends (now low) (now high) 1048576 × (k < length (now low)) × Reach k (now high) most × (0 < most) × (live ≡ false → (canHold (boxOf (now low) (now high)) (basicAt (now s) (startOf (now r))) ≡ false) × (canHold (wideBox k (now low) (now high) most) (basicAt (now s) (startOf (now r))) ≡ false)) ⌝ }
+    requires { ⌜ Row (now s) (length (now low)) (now r) × Ends (now low) (now high) mostCoordinate × (k < length (now low)) × Reach k (now high) most × (0 < most) × (live ≡ false → (canHold (boxOf (now low) (now high)) (basicAt (now s) (startOf (now r))) ≡ false) × (canHold (wideBox k (now low) (now high) most) (basicAt (now s) (startOf (now r))) ≡ false)) ⌝ }
     ensures { λ m. ⌜ Told (now (s .entry)) k (now (low .entry)) (now (high .entry)) (now (r .entry)) (now (r .exit)) most m ⌝ }
 {
     if live {
@@ -54,7 +56,7 @@ fn shortened(m: u64) -> u64
 pub struct Opening {
     pub any: bool,
     pub run: u64,
-    pub live: [bool; 32],
+    pub live: [bool; limit::BASIC_SETS],
 }
 
 // `live` has those that can over a box around it and the next values of axis k, `most` in all.
@@ -63,7 +65,7 @@ fn opened(
     k: usize,
     low: &[i64],
     high: &[i64],
-    live: [bool; 32],
+    live: [bool; limit::BASIC_SETS],
     rows: &mut [[i64; 129]],
     most: u64,
 ) -> Opening
@@ -96,7 +98,7 @@ pub fn opened_in(
     k: usize,
     low: &[i64],
     high: &[i64],
-    live: [bool; 32],
+    live: [bool; limit::BASIC_SETS],
     count: usize,
     rows: &mut [[i64; 129]],
     most: u64,

@@ -1,6 +1,7 @@
 // A box of a walk: what is asked of it before, and where the walk begins.
 ghost use mathlib.Core.Path.{_≡_};
 ghost use lib.ListN.{length};
+ghost use Rattle.model.specs.Limits.{mostBasicSets};
 ghost use Rattle.codec.specs.Places.{Accepted};
 ghost use Rattle.search.specs.Search.{boxOf, cornersFit, limitFits};
 ghost use Rattle.search.specs.Search as S;
@@ -8,13 +9,14 @@ ghost use Rattle.search.specs.Sides.{Boxed};
 ghost use Rattle.search.specs.Live.{Laid};
 ghost use Rattle.search.specs.Levels.{Begun};
 use crate::levels::Prefix;
+use model::limit;
 
 // Whether no low is over its high.
-pub fn upright(low: [i32; 8], high: [i32; 8]) -> bool
+pub fn upright(low: [i32; limit::AXES], high: [i32; limit::AXES]) -> bool
     ensures { λ r. ⌜ r ≡ S.upright (boxOf low high) ⌝ }
 {
     let mut i = 0;
-    while i < 8 {
+    while i < limit::AXES {
         let a = low[i];
         let b = high[i];
         if b < a {
@@ -25,7 +27,7 @@ pub fn upright(low: [i32; 8], high: [i32; 8]) -> bool
     true
 }
 
-pub fn corners_fit(n: usize, low: [i32; 8], high: [i32; 8]) -> bool
+pub fn corners_fit(n: usize, low: [i32; limit::AXES], high: [i32; limit::AXES]) -> bool
     ensures { λ r. ⌜ r ≡ cornersFit n low high ⌝ }
 {
     if !query::point_fits(n, low) {
@@ -40,12 +42,12 @@ pub fn limit_fits(limit: u32) -> bool
     if limit == 0 {
         return false;
     }
-    limit <= 1000000
+    limit <= limit::PREFIXES
 }
 
 // The rows of the basic sets, and how many they are.
 fn laid(s: &[u8], rows: &mut [[i64; 129]]) -> usize
-    requires { ⌜ Accepted (now s) × (length (now rows) ≡ 32) ⌝ }
+    requires { ⌜ Accepted (now s) × (length (now rows) ≡ mostBasicSets) ⌝ }
     ensures { λ count. ⌜ Laid (now (s .entry)) (now (rows .exit)) count ⌝ }
 {
     let mut at = 0;
@@ -62,10 +64,10 @@ fn laid(s: &[u8], rows: &mut [[i64; 129]]) -> usize
 pub fn begin(
     n: usize,
     s: &[u8],
-    low: [i32; 8],
-    high: [i32; 8],
+    low: [i32; limit::AXES],
+    high: [i32; limit::AXES],
     limit: u32,
-    rows: &mut [[i64; 129]; 32],
+    rows: &mut [[i64; 129]; limit::BASIC_SETS],
 ) -> Prefix
     requires { ⌜ Boxed n (now s) low high ⌝ }
     ensures { λ p. ⌜ Begun (now (s .entry)) n low high limit (now (rows .exit)) p ⌝ }
@@ -80,6 +82,6 @@ pub fn begin(
         count: count,
         low: l,
         high: h,
-        live: [true; 32],
+        live: [true; limit::BASIC_SETS],
     }
 }

@@ -7,6 +7,8 @@ use Prim.Native.Nat.{ℕ, zero, suc, _+_}
 use lib.IntN.{ℤ, pos}
 use lib.Dec.{leb, ltb, eqb}
 use lib.ListN.{length, take, drop, getD, set, replicate}
+use Rattle.model.specs.Limits.{mostAxes, lastSet, setBytes}
+use Rattle.model.specs.Refusals.{badAxes, unknownCommand, cutShort, tableFull, noSuchSet, outOfPlace}
 use Rattle.model.specs.Lists.{all}
 use Rattle.model.specs.Sets.{Set}
 use Rattle.codec.specs.Bytes.{Answer, refused, gives, valueOf, signed, firstFailing, axesFit, decode}
@@ -21,14 +23,14 @@ pub record State : Type 0 where
   pub sets : List (List ℕ)
 
 abbrev pub empty : State
-empty = record { axes = 0; sets = replicate 4 [] }
+empty = record { axes = 0; sets = replicate (lastSet + 1) [] }
 
 abbrev pub setAt : State → ℕ → List ℕ
 setAt st m = getD (st .sets) m []
 
 -- "8,000 bytes each"
 abbrev pub room : ℕ
-room = 8000
+room = setBytes
 
 -- ---- commands and their operands
 
@@ -68,9 +70,9 @@ abbrev pub inPlace : ℕ → ℕ → Bool
 inPlace axes b = cond (eqb axes 0) (eqb b 0x10) (not (eqb b 0x10))
 
 unfoldable pub ending : ℕ → List ℕ → ℕ
-ending axes [] = 3
+ending axes [] = cutShort
 ending axes (b ∷ s) =
-    firstFailing ((ltb 0 (fixedWidth b), 2) ∷ (inPlace axes b, 15) ∷ (leb (commandWidth (b ∷ s)) (suc (length s)), 3) ∷ [])
+    firstFailing ((ltb 0 (fixedWidth b), unknownCommand) ∷ (inPlace axes b, outOfPlace) ∷ (leb (commandWidth (b ∷ s)) (suc (length s)), cutShort) ∷ [])
 
 -- ---- what a command prints, the state after it, and whether the script goes on
 
@@ -90,7 +92,7 @@ refusedLine k = line "refused" (pos k ∷ [])
 
 -- `10`: "axes and n"; 1 of the script ends it
 abbrev pub opened : State → ℕ → Done
-opened st n = cond (axesFit n) (says (record { axes = n; sets = st .sets }) (line "axes" (pos n ∷ []))) (ends st (refusedLine 1))
+opened st n = cond (axesFit n) (says (record { axes = n; sets = st .sets }) (line "axes" (pos n ∷ []))) (ends st (refusedLine badAxes))
 
 -- `40` to `44`: done, or the refusal's line and the target as it was
 abbrev pub stored : State → ℕ → Answer (List ℕ) → Done
@@ -100,7 +102,7 @@ stored st m (gives l) = says (record { axes = st .axes; sets = set (st .sets) m 
 -- a loaded set: its own refusals, then 11
 abbrev pub fitting : List ℕ → Answer Set → Answer (List ℕ)
 fitting l (refused k) = refused k
-fitting l (gives s) = cond (leb (length l) room) (gives l) (refused 11)
+fitting l (gives s) = cond (leb (length l) room) (gives l) (refused tableFull)
 
 unfoldable pub loadBytes : ℕ → List ℕ → Answer (List ℕ)
 loadBytes n l = fitting l (decode n l)
@@ -136,8 +138,8 @@ perform st b s =
     (cond (eqb b 0x43) (stored st m (differenceBytes n room first second))
     (cond (eqb b 0x44) (stored st m (complementBytes n room first))
     (cond (eqb b 0x45) (told st (listing n m) (decode n (setAt st m)))
-    (cond (eqb b 0x46) (told st memberLine (memberBytes n (setAt st m) (coordinates 8 (drop 1 s))))
-    (told st searchLine (searchBytes n (setAt st m) (coordinates 8 (drop 5 s)) (coordinates 8 (drop 37 s)) (valueOf (take 4 (drop 1 s)))))))))))
+    (cond (eqb b 0x46) (told st memberLine (memberBytes n (setAt st m) (coordinates mostAxes (drop 1 s))))
+    (told st searchLine (searchBytes n (setAt st m) (coordinates mostAxes (drop 5 s)) (coordinates mostAxes (drop 37 s)) (valueOf (take 4 (drop 1 s)))))))))))
 
 -- the bytes of one whole command: `00` ends, `10` opens, any other has its set numbers looked at first (14) and is performed
 unfoldable pub execute : State → List ℕ → Done
@@ -145,7 +147,7 @@ execute st [] = ends st []
 execute st (b ∷ s) =
     cond (eqb b 0x00) (ends st (line "end" []))
     (cond (eqb b 0x10) (opened st (getD s 0 0))
-    (cond (all (λ (m : ℕ). leb m 3) (take (setNumbers b) s)) (perform st b s) (says st (refusedLine 14))))
+    (cond (all (λ (m : ℕ). leb m lastSet) (take (setNumbers b) s)) (perform st b s) (says st (refusedLine noSuchSet))))
 
 -- ---- the script, command by command; the first number bounds how many
 

@@ -7,6 +7,8 @@ use Prim.Native.Nat.{ℕ, zero, suc, _+_, _*_, _≤_}
 use lib.IntN.{pos}
 use lib.Dec.{leb, ltb, eqb}
 use lib.ListN.{length, take, drop, getD, set}
+use Rattle.model.specs.Limits.{mostAxes, mostDivisions, lastSet}
+use Rattle.model.specs.Refusals.{cutShort}
 use Rattle.model.specs.Lists.{all}
 use Rattle.model.specs.Sets.{Set}
 use Rattle.codec.specs.Bytes.{Answer, refused, gives, decode, isOpening, isDivision, headOf, bodyIn, widthOf, readDivision, readConstraint, kindOf}
@@ -28,12 +30,12 @@ use Rattle.session.specs.declared.Next.the-variants.{Goes, Reads, Ends, 
 -- ---- the command at the front of what has been read
 
 abbrev pub cutOff : Bool → Front
-cutOff ended = cond (not ended) More (Stop 3)
+cutOff ended = cond (not ended) More (Stop cutShort)
 
 -- whole, or more input is needed, or the script ends by a number; `ended`: there is no more input
 unfoldable pub frontOf : ℕ → Bool → List ℕ → Front
 frontOf axes ended s =
-    elim (ending axes s) [ zero ↦ Whole (commandWidth s) | suc k ↦ cond (eqb (suc k) 3 && not ended) More (Stop (suc k)) ]
+    elim (ending axes s) [ zero ↦ Whole (commandWidth s) | suc k ↦ cond (eqb (suc k) cutShort && not ended) More (Stop (suc k)) ]
 
 -- ---- memory
 
@@ -136,7 +138,7 @@ there (b ∷ t) = ltb 0 (widthOf b) && leb (widthOf b) (suc (length t))
 -- the tables and the lengths of the sets in them
 pub record Fitted (tables lengths : List ℕ) : Type 0 where
   pub tables-long : length tables ≡ 32000
-  pub lengths-long : length lengths ≡ 4
+  pub lengths-long : length lengths ≡ lastSet + 1
   pub fit : (m : ℕ) → getD lengths m 0 ≤ room
 
 -- the text at once, the listing and the memory by the effect
@@ -198,7 +200,7 @@ turnIn st y ended s Nothing = frontTurn st y s (frontOf (st .axes) ended s)
 
 -- what a turn may be lent: tables of their sizes, lengths within them, `width` bytes for a line, and a state that turns leave
 abbrev pub cursorIn : List ℕ → Cursor → Bool
-cursorIn lengths c = leb (c .set) 3 && (leb (c .place) (getD lengths (c .set) 0) && (leb (c .basics) room && leb (c .divisions) 8))
+cursorIn lengths c = leb (c .set) lastSet && (leb (c .place) (getD lengths (c .set) 0) && (leb (c .basics) room && leb (c .divisions) mostDivisions))
 
 abbrev pub cursorFits : List ℕ → Listing → Bool
 cursorFits lengths Nothing = true
@@ -207,7 +209,7 @@ cursorFits lengths (From c) = cursorIn lengths c
 unfoldable pub usable : State → Memory → ℕ → Bool
 usable st y width =
     eqb (length (y .tables)) 32000
-    && (eqb (length (y .lengths)) 4 && (all (λ (l : ℕ). leb l room) (y .lengths) && (eqb (length (y .result)) room && (leb 512 width && (leb (st .axes) 8 && cursorFits (y .lengths) (st .listing))))))
+    && (eqb (length (y .lengths)) (lastSet + 1) && (all (λ (l : ℕ). leb l room) (y .lengths) && (eqb (length (y .result)) room && (leb 512 width && (leb (st .axes) mostAxes && cursorFits (y .lengths) (st .listing))))))
 
 -- the turn of a state on what has been read; memory or a state that no turn leaves is not touched
 unfoldable pub turnOf : State → Memory → ℕ → Bool → List ℕ → Turned

@@ -4,6 +4,7 @@ use mathlib.Core.List.{List, [], _∷_, _++_}
 use Prim.Native.Nat.{ℕ, zero, suc, _+_, _-_}
 use lib.ListN.{length, getD, set, take}
 use lib.IntN.{ℤ}
+use Rattle.model.specs.Limits.{mostPivots}
 use Rattle.simplex.specs.declared.Verdict.{Verdict}
 use Rattle.simplex.specs.declared.Verdict.the-variants.{Long}
 use Rattle.simplex.specs.declared.Move.{Move}
@@ -45,12 +46,12 @@ trace kinds (suc n) rows place = follow (moveOf rows place kinds (suc n)) (trace
 pub record Went (kinds : List ℕ) (start : ℕ) (rows : List (List ℤ)) (place : List ℕ) (past : List (List ℤ)) (columns : List ℕ) (x : Standing)
     (rows′ : List (List ℤ)) (place′ : List ℕ) (past′ : List (List ℤ)) (columns′ : List ℕ) : Type 0 where
   pub size : x .rows ≡ length rows
-  pub verdict-is : x .verdict ≡ trace kinds (200 - start) rows place .verdict
-  pub rows-are : rows′ ≡ trace kinds (200 - start) rows place .rows
-  pub place-is : place′ ≡ trace kinds (200 - start) rows place .place
-  pub count : x .pivots ≡ start + length (trace kinds (200 - start) rows place .kept)
-  pub past-is : take (x .pivots) past′ ≡ take start past ++ trace kinds (200 - start) rows place .kept
-  pub columns-are : take (x .pivots) columns′ ≡ take start columns ++ trace kinds (200 - start) rows place .columns
+  pub verdict-is : x .verdict ≡ trace kinds (mostPivots - start) rows place .verdict
+  pub rows-are : rows′ ≡ trace kinds (mostPivots - start) rows place .rows
+  pub place-is : place′ ≡ trace kinds (mostPivots - start) rows place .place
+  pub count : x .pivots ≡ start + length (trace kinds (mostPivots - start) rows place .kept)
+  pub past-is : take (x .pivots) past′ ≡ take start past ++ trace kinds (mostPivots - start) rows place .kept
+  pub columns-are : take (x .pivots) columns′ ≡ take start columns ++ trace kinds (mostPivots - start) rows place .columns
 
 pub record Made (rows : List (List ℤ)) (place : List ℕ) (past : List (List ℤ)) (columns : List ℕ) (k v w : ℕ) (rows′ : List (List ℤ)) (place′ : List ℕ) (past′ : List (List ℤ)) (columns′ : List ℕ) : Type 0 where
   pub rows-are : rows′ ≡ pivotRows rows place v w

@@ -5,6 +5,7 @@ use mathlib.Core.Option.{Option, none, some}
 use Prim.Native.Nat.{ℕ, _+_, _-_, _≤_, _<_}
 use lib.ListN.{length, take, replicate}
 use lib.IntN.{ℤ}
+use Rattle.model.specs.Limits.{mostAxes, mostDivisions, mostPivots}
 use Rattle.model.specs.Sets.{Kind, Constraint}
 use Rattle.model.specs.Values.{constraintOf}
 use Rattle.model.specs.declared.Constraint.{Constraint as Stored}
@@ -26,34 +27,34 @@ abbrev pub firstTable : ℕ → List Constraint → List (List ℤ)
 firstTable k cs = map (startRow k) cs
 
 abbrev pub firstPlace : ℕ → ℕ → List ℕ
-firstPlace k m = tabulate (8 + k + m) (placeAt k)
+firstPlace k m = tabulate (mostAxes + k + m) (placeAt k)
 
 abbrev pub firstKinds : ℕ → List Constraint → List ℕ
-firstKinds k cs = map kindNumber (replicate (8 + k) none ++ map kindOf cs)
+firstKinds k cs = map kindNumber (replicate (mostAxes + k) none ++ map kindOf cs)
 
 -- their test, with its pivots
 unfoldable pub traceOf : ℕ → List Constraint → Traced
-traceOf k cs = trace (firstKinds k cs) 200 (firstTable k cs) (firstPlace k (length cs))
+traceOf k cs = trace (firstKinds k cs) mostPivots (firstTable k cs) (firstPlace k (length cs))
 
 -- ---- what the tables hold: a wide test nothing, one that is dropped or long its pivots, one that found a point the tableau too
 
 pub record Stands (k : ℕ) (cs : List Constraint) (h : Standing) (rows : List (List ℤ)) (place kinds : List ℕ) (past : List (List ℤ)) (columns : List ℕ) : Type 0 where
-  pub few : k ≤ 8
+  pub few : k ≤ mostDivisions
   pub high : length rows ≡ 64
   pub long : length place ≡ 80
   pub wide : length kinds ≡ 80
-  pub many : length past ≡ 200
-  pub many′ : length columns ≡ 200
+  pub many : length past ≡ mostPivots
+  pub many′ : length columns ≡ mostPivots
   pub room : length cs ≤ 64
   pub size : h .rows ≡ length cs
-  pub most : h .pivots ≤ 200
+  pub most : h .pivots ≤ mostPivots
   pub kept : Kept (k + 10) (take (h .pivots) past) (take (h .pivots) columns)
   pub verdict-is : h .verdict ≡ traceOf k cs .verdict
   pub past-is : (h .verdict ≡ Wide → ⊥) → take (h .pivots) past ≡ traceOf k cs .kept
   pub columns-are : (h .verdict ≡ Wide → ⊥) → take (h .pivots) columns ≡ traceOf k cs .columns
   pub rows-are : h .verdict ≡ Point → take (h .rows) rows ≡ traceOf k cs .rows
-  pub place-is : h .verdict ≡ Point → take (8 + k + h .rows) place ≡ traceOf k cs .place
-  pub kinds-are : h .verdict ≡ Point → take (8 + k + h .rows) kinds ≡ firstKinds k cs
+  pub place-is : h .verdict ≡ Point → take (mostAxes + k + h .rows) place ≡ traceOf k cs .place
+  pub kinds-are : h .verdict ≡ Point → take (mostAxes + k + h .rows) kinds ≡ firstKinds k cs
 
 -- ---- one condition more
 
@@ -75,8 +76,8 @@ pub record Beginning (rows : List (List ℤ)) (place kinds : List ℕ) (past : L
   pub high : length rows ≡ 64
   pub long : length place ≡ 80
   pub wide : length kinds ≡ 80
-  pub many : length past ≡ 200
-  pub many′ : length columns ≡ 200
+  pub many : length past ≡ mostPivots
+  pub many′ : length columns ≡ mostPivots
 
 -- m rows and v variables with no violated row, and room for the row r
 pub record Calm (n m v : ℕ) (r : List ℤ) (rows : List (List ℤ)) (place kinds : List ℕ) : Type 0 where
@@ -96,10 +97,10 @@ onward left m v κ r rows place kinds = trace (take v kinds ++ (κ ∷ [])) left
 pub record Appended (m v made κ : ℕ) (r : List ℤ) (rows : List (List ℤ)) (place kinds : List ℕ) (past : List (List ℤ)) (columns : List ℕ)
     (x : Standing) (rows′ : List (List ℤ)) (place′ kinds′ : List ℕ) (past′ : List (List ℤ)) (columns′ : List ℕ) : Type 0 where
   pub size : x .rows ≡ m + 1
-  pub verdict-is : x .verdict ≡ onward (200 - made) m v κ r rows place kinds .verdict
-  pub rows-are : take (m + 1) rows′ ≡ onward (200 - made) m v κ r rows place kinds .rows
-  pub place-is : take (v + 1) place′ ≡ onward (200 - made) m v κ r rows place kinds .place
+  pub verdict-is : x .verdict ≡ onward (mostPivots - made) m v κ r rows place kinds .verdict
+  pub rows-are : take (m + 1) rows′ ≡ onward (mostPivots - made) m v κ r rows place kinds .rows
+  pub place-is : take (v + 1) place′ ≡ onward (mostPivots - made) m v κ r rows place kinds .place
   pub kinds-are : take (v + 1) kinds′ ≡ take v kinds ++ (κ ∷ [])
-  pub count : x .pivots ≡ made + length (onward (200 - made) m v κ r rows place kinds .kept)
-  pub past-is : take (x .pivots) past′ ≡ take made past ++ onward (200 - made) m v κ r rows place kinds .kept
-  pub columns-are : take (x .pivots) columns′ ≡ take made columns ++ onward (200 - made) m v κ r rows place kinds .columns
+  pub count : x .pivots ≡ made + length (onward (mostPivots - made) m v κ r rows place kinds .kept)
+  pub past-is : take (x .pivots) past′ ≡ take made past ++ onward (mostPivots - made) m v κ r rows place kinds .kept
+  pub columns-are : take (x .pivots) columns′ ≡ take made columns ++ onward (mostPivots - made) m v κ r rows place kinds .columns

@@ -2,11 +2,13 @@
 ghost use mathlib.Core.Path.{_≡_};
 ghost use Prim.Native.Nat.{_+_, _<_, _≤_};
 ghost use lib.ListN.{length, take};
+ghost use Rattle.model.specs.Limits.{mostPivots};
 ghost use Rattle.tableau.specs.Rows.{violated as violatedOf};
 ghost use Rattle.simplex.specs.Table.{runTable, Fine, Crossing};
 ghost use Rattle.tableau.proofs.Searches.{Whole};
 ghost use Rattle.sharing.specs.Past.{Left, Kept, Passed, Replayed};
 ghost use Rattle.sharing.specs.Trace.{Went, Made};
+use model::limit;
 use simplex::Move;
 use simplex::Verdict;
 use simplex::choose::choose;
@@ -101,14 +103,14 @@ pub fn go_on(
     start: usize,
 ) -> Standing
     requires { ⌜ Fine n (now t) (now place) (now kinds) ⌝ }
-    requires { ⌜ (length (now past) ≡ 200) × (length (now columns) ≡ 200) ⌝ }
-    requires { ⌜ start ≤ 200 ⌝ }
+    requires { ⌜ (length (now past) ≡ mostPivots) × (length (now columns) ≡ mostPivots) ⌝ }
+    requires { ⌜ start ≤ mostPivots ⌝ }
     ensures { λ x. ⌜ Went (now (kinds .entry)) start (now (t .entry)) (now (place .entry)) (now (past .entry)) (now (columns .entry)) x (now (t .exit)) (now (place .exit)) (now (past .exit)) (now (columns .exit)) ⌝ }
 {
     let rows = t.len();
     let mut made = start;
     loop {
-        let m = choose(t, n, place, kinds, 200 - made);
+        let m = choose(t, n, place, kinds, limit::PIVOTS - made);
         match m {
             Move::Stop(x) => {
                 return Standing {
@@ -137,13 +139,13 @@ pub fn go_from(
     u: usize,
 ) -> Standing
     requires { ⌜ Fine n (now t) (now place) (now kinds) ⌝ }
-    requires { ⌜ (length (now past) ≡ 200) × (length (now columns) ≡ 200) ⌝ }
-    requires { ⌜ start ≤ 200 ⌝ }
+    requires { ⌜ (length (now past) ≡ mostPivots) × (length (now columns) ≡ mostPivots) ⌝ }
+    requires { ⌜ start ≤ mostPivots ⌝ }
     requires { ⌜ (u ≡ violatedOf (now t) (now place) (now kinds)) × (u < length (now place)) ⌝ }
     ensures { λ x. ⌜ Went (now (kinds .entry)) start (now (t .entry)) (now (place .entry)) (now (past .entry)) (now (columns .entry)) x (now (t .exit)) (now (place .exit)) (now (past .exit)) (now (columns .exit)) ⌝ }
 {
     let rows = t.len();
-    let m = choose_at(t, n, place, kinds, 200 - start, u);
+    let m = choose_at(t, n, place, kinds, limit::PIVOTS - start, u);
     match m {
         Move::Stop(x) => Standing {
             rows,

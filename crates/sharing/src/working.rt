@@ -5,6 +5,7 @@ ghost use Prim.Native.Nat.{_+_, _≤_};
 ghost use lib.ListN.{length, take};
 ghost use Rattle.model.specs.Sets.{bounds};
 ghost use Rattle.model.specs.Values.{basicSetOf};
+ghost use Rattle.model.specs.Limits.{mostPivots};
 ghost use Rattle.simplex.specs.Table.{Valid};
 ghost use Rattle.sharing.specs.Working.{Beginning, Stands, Growing, Grown, Tried, Calm, Appended, onward};
 use crate::history::Standing;
@@ -14,6 +15,7 @@ use crate::history::replay;
 use crate::history::rest;
 use model::BasicSet;
 use model::Constraint;
+use model::limit;
 use simplex::Verdict;
 use simplex::fill::constraint_row;
 use simplex::fill::fill_bounds;
@@ -37,7 +39,7 @@ pub fn begin(
 {
     let k = b.divs;
     let m = 2 * k;
-    let n = 8 + 3 * k;
+    let n = limit::AXES + 3 * k;
     name_variables(k, n, place, kinds);
     let ds = b.divisions;
     fill_bounds(ds, k, rows);
@@ -67,7 +69,7 @@ fn append(
     columns: &mut [usize],
 ) -> Standing
     requires { ⌜ Calm n m v r (now rows) (now place) (now kinds) ⌝ }
-    requires { ⌜ (made ≤ 200) × (length (now past) ≡ 200) × (length (now columns) ≡ 200) ⌝ }
+    requires { ⌜ (made ≤ mostPivots) × (length (now past) ≡ mostPivots) × (length (now columns) ≡ mostPivots) ⌝ }
     ensures { λ x. ⌜ Appended m v made kind r (now (rows .entry)) (now (place .entry)) (now (kinds .entry)) (now (past .entry)) (now (columns .entry)) x (now (rows .exit)) (now (place .exit)) (now (kinds .exit)) (now (past .exit)) (now (columns .exit)) ⌝ }
 {
     let e = r[1];
@@ -110,7 +112,7 @@ pub fn grow(
     let m = h.rows;
     let made = h.pivots;
     let x = h.verdict;
-    let v = 8 + k + m;
+    let v = limit::AXES + k + m;
     let n = k + 10;
     let more = m + 1;
     let equality = c.equality;
@@ -236,8 +238,8 @@ pub fn candidate(
     match x {
         Verdict::Point => finish(
             m,
-            8 + k + m,
-            200 - made,
+            limit::AXES + k + m,
+            limit::PIVOTS - made,
             k + 10,
             r,
             rows,

@@ -11,6 +11,7 @@ use lib.IntN.{ℤ, pos, _*ℤ_}
 use lib.Signed.{_<ℤ_}
 use Rattle.tableau.specs.Rows.{den, exchangeRows, touched, violated, helping, narrowRowsAt, Line, ReadyAt}
 use Rattle.integers.specs.Size.{bound}
+use Rattle.model.specs.Limits.{mostAxes, mostDivisions, mostConstraints, mostPivots}
 use Rattle.model.specs.Sets as S
 use Rattle.model.specs.Sets.{Kind, equality, inequality, bounds, conditions}
 use Rattle.model.specs.Values.{divisionOf, constraintOf, basicSetOf}
@@ -86,10 +87,10 @@ builtTableAt m kinds (suc n) rows place = countMove (moveAt m rows place kinds (
 
 -- where the tableau's column j stands, and which one stands at c
 abbrev pub columnOf : ℕ → ℕ → ℕ
-columnOf k j = cond (ltb j 8) (k + j) (cond (ltb j (8 + k)) (j - 8) j)
+columnOf k j = cond (ltb j mostAxes) (k + j) (cond (ltb j (mostAxes + k)) (j - mostAxes) j)
 
 abbrev pub standing : ℕ → ℕ → ℕ
-standing k c = cond (ltb c k) (8 + c) (cond (ltb c (8 + k)) (c - k) c)
+standing k c = cond (ltb c k) (mostAxes + c) (cond (ltb c (mostAxes + k)) (c - k) c)
 
 -- f 0, f 1, .., of which there are n
 abbrev pub tabulate : {A : Type 0} → ℕ → (ℕ → A) → List A
@@ -114,11 +115,11 @@ kindNumber (some equality) = 2
 
 -- the first row of a constraint
 unfoldable pub startRow : ℕ → S.Constraint → List ℤ
-startRow k r = layout k (record { var = 0; den = pos 1; nums = r .constant ∷ T.pad 8 (r .axes) ++ T.pad k (r .divisions) })
+startRow k r = layout k (record { var = 0; den = pos 1; nums = r .constant ∷ T.pad mostAxes (r .axes) ++ T.pad k (r .divisions) })
 
 -- variable v's first place
 abbrev pub placeAt : ℕ → ℕ → ℕ
-placeAt k v = cond (ltb v 8) (64 + k + v) (cond (ltb v (8 + k)) (64 + (v - 8)) (v - (8 + k)))
+placeAt k v = cond (ltb v mostAxes) (64 + k + v) (cond (ltb v (mostAxes + k)) (64 + (v - mostAxes)) (v - (mostAxes + k)))
 
 -- ---- what the functions ask
 
@@ -144,11 +145,11 @@ Crossing n rows place v w = CrossingAt (bound 64) n rows place v w
 
 -- the run from (rows, place) ends in x, with these rows and places
 pub record Ran (rows : List (List ℤ)) (place kinds : List ℕ) (x : Counted) (rows′ : List (List ℤ)) (place′ : List ℕ) : Type 0 where
-  pub verdict-is : x .ended .verdict ≡ runTable kinds 200 rows place .verdict
-  pub pivots-are : x .ended .pivots ≡ 200 - runTable kinds 200 rows place .left
-  pub built-is : x .built ≡ builtTableAt (bound 64) kinds 200 rows place
-  pub rows-are : rows′ ≡ runTable kinds 200 rows place .rows
-  pub place-is : place′ ≡ runTable kinds 200 rows place .place
+  pub verdict-is : x .ended .verdict ≡ runTable kinds mostPivots rows place .verdict
+  pub pivots-are : x .ended .pivots ≡ mostPivots - runTable kinds mostPivots rows place .left
+  pub built-is : x .built ≡ builtTableAt (bound 64) kinds mostPivots rows place
+  pub rows-are : rows′ ≡ runTable kinds mostPivots rows place .rows
+  pub place-is : place′ ≡ runTable kinds mostPivots rows place .place
 
 -- ---- what the first table has
 
@@ -165,15 +166,15 @@ pub record Started (k : ℕ) (z s : ℤ) (a l : List ℤ) : Type 0 where
   pub den : getD l 0 (pos 0) ≡ pos 1
   pub constant : getD l 1 (pos 0) ≡ z
   pub divs : (c : ℕ) → c < k → getD l (c + 2) (pos 0) ≡ pos 0
-  pub axes : (i : ℕ) → i < 8 → getD l (k + 2 + i) (pos 0) ≡ s *ℤ getD a i (pos 0)
+  pub axes : (i : ℕ) → i < mostAxes → getD l (k + 2 + i) (pos 0) ≡ s *ℤ getD a i (pos 0)
   pub rest : (i : ℕ) → k + 10 ≤ i → getD l i (pos 0) ≡ pos 0
 
 -- the counts of a decoded basic set; candidates of a cut have them too
 pub record Valid (b : BasicSet) : Type 0 where
-  pub divs : b .divs ≤ 8
-  pub cons : b .cons ≤ 48
-  pub divisions : length (b .divisions) ≡ 8
-  pub constraints : length (b .constraints) ≡ 48
+  pub divs : b .divs ≤ mostDivisions
+  pub cons : b .cons ≤ mostConstraints
+  pub divisions : length (b .divisions) ≡ mostDivisions
+  pub constraints : length (b .constraints) ≡ mostConstraints
 
 -- the rows of the first n divisions' bounds are the first ones
 pub record Bounded (ds : List Division) (k n : ℕ) (rows rows′ : List (List ℤ)) : Type 0 where
@@ -185,15 +186,15 @@ pub record Ruled (b : BasicSet) (n : ℕ) (rows rows′ : List (List ℤ)) (kind
   pub long : length rows′ ≡ length rows
   pub names : length kinds′ ≡ length kinds
   pub firsts : take (2 * b .divs + n) rows′ ≡ take (2 * b .divs) rows ++ map (startRow (b .divs)) (map constraintOf (take n (b .constraints)))
-  pub before : (v : ℕ) → v < 8 + 3 * b .divs → getD kinds′ v 0 ≡ getD kinds v 0
-  pub kinds-are : (c : ℕ) → c < n → getD kinds′ (8 + 3 * b .divs + c) 0 ≡ kindNumber (getD (map (λ r. some (constraintOf r .kind)) (b .constraints)) c none)
+  pub before : (v : ℕ) → v < mostAxes + 3 * b .divs → getD kinds′ v 0 ≡ getD kinds v 0
+  pub kinds-are : (c : ℕ) → c < n → getD kinds′ (mostAxes + 3 * b .divs + c) 0 ≡ kindNumber (getD (map (λ r. some (constraintOf r .kind)) (b .constraints)) c none)
 
 -- the places of the first n variables, and their kinds but for the constraints
 pub record Named (k n : ℕ) (place place′ kinds kinds′ : List ℕ) : Type 0 where
   pub long : length place′ ≡ length place
   pub names : length kinds′ ≡ length kinds
   pub places : (v : ℕ) → v < n → getD place′ v 0 ≡ placeAt k v
-  pub free : (v : ℕ) → v < n → getD kinds′ v 0 ≡ cond (ltb v (8 + k)) 0 1
+  pub free : (v : ℕ) → v < n → getD kinds′ v 0 ≡ cond (ltb v (mostAxes + k)) 0 1
 
 -- the first table of a basic set stands in the first rows, with the places and kinds of its variables
 pub record First (b : BasicSet) (rows rows′ : List (List ℤ)) (place place′ kinds kinds′ : List ℕ) : Type 0 where
@@ -201,5 +202,5 @@ pub record First (b : BasicSet) (rows rows′ : List (List ℤ)) (place place′
   pub names : length place′ ≡ length place
   pub sames : length kinds′ ≡ length kinds
   pub rows-are : take (2 * b .divs + b .cons) rows′ ≡ map (startRow (b .divs)) (conditions (basicSetOf b))
-  pub places : (v : ℕ) → v < 8 + b .divs + (2 * b .divs + b .cons) → getD place′ v 0 ≡ placeAt (b .divs) v
-  pub kinds-are : (v : ℕ) → v < 8 + b .divs + (2 * b .divs + b .cons) → getD kinds′ v 0 ≡ kindNumber (T.sorts (basicSetOf b) v)
+  pub places : (v : ℕ) → v < mostAxes + b .divs + (2 * b .divs + b .cons) → getD place′ v 0 ≡ placeAt (b .divs) v
+  pub kinds-are : (v : ℕ) → v < mostAxes + b .divs + (2 * b .divs + b .cons) → getD kinds′ v 0 ≡ kindNumber (T.sorts (basicSetOf b) v)

@@ -12,7 +12,9 @@ ghost use Rattle.integers.specs.Z.{Within};
 ghost use Rattle.model.specs.Sets.{lower, upper};
 ghost use Rattle.model.specs.Values.{divisionOf, constraintOf, kindIs};
 ghost use mathlib.Core.Option.{some};
+ghost use Rattle.model.specs.Limits.{mostAxes, mostDivisions};
 ghost use Rattle.simplex.specs.Table.{startRow, placeAt, kindNumber, Copied, Started, Bounded, Named, Valid, First};
+use model::limit;
 
 fn times(s: i64, x: i16) -> i64
     requires { ⌜ Within 1 s ⌝ }
@@ -47,10 +49,10 @@ fn upper_constant(d: u32, c: i32) -> i64
 }
 
 // s times the first n numbers of a, from place `base` on.
-fn copy(r: &mut [i64; 18], base: usize, s: i64, a: [i16; 8], n: usize)
+fn copy(r: &mut [i64; 18], base: usize, s: i64, a: [i16; limit::PLACES], n: usize)
     requires { ⌜ length (now r) ≡ 18 ⌝ }
     requires { ⌜ base + n ≤ 18 ⌝ }
-    requires { ⌜ n ≤ 8 ⌝ }
+    requires { ⌜ n ≤ mostAxes ⌝ }
     requires { ⌜ Within 1 s ⌝ }
     ensures { λ _. ⌜ Copied base s n a (now (r .entry)) (now (r .exit)) ⌝ }
 {
@@ -63,21 +65,21 @@ fn copy(r: &mut [i64; 18], base: usize, s: i64, a: [i16; 8], n: usize)
 }
 
 // A first row without divisions.
-fn row_of(r: &mut [i64; 18], k: usize, z: i64, s: i64, a: [i16; 8])
-    requires { ⌜ k ≤ 8 ⌝ }
+fn row_of(r: &mut [i64; 18], k: usize, z: i64, s: i64, a: [i16; limit::PLACES])
+    requires { ⌜ k ≤ mostDivisions ⌝ }
     requires { ⌜ Within 1 s ⌝ }
     ensures { λ _. ⌜ Started k z s a (now (r .exit)) ⌝ }
 {
     *r = [0i64; 18];
     r[0] = 1;
     r[1] = z;
-    copy(r, k + 2, s, a, 8);
+    copy(r, k + 2, s, a, limit::AXES);
 }
 
 // numerator − d·q
 fn lower_row(r: &mut [i64; 18], e: Division, i: usize, k: usize)
     requires { ⌜ i < k ⌝ }
-    requires { ⌜ k ≤ 8 ⌝ }
+    requires { ⌜ k ≤ mostDivisions ⌝ }
     ensures { λ _. ⌜ now (r .exit) ≡ startRow k (lower i (divisionOf e)) ⌝ }
 {
     let z = e.constant;
@@ -90,7 +92,7 @@ fn lower_row(r: &mut [i64; 18], e: Division, i: usize, k: usize)
 // d·q − numerator + d − 1
 fn upper_row(r: &mut [i64; 18], e: Division, i: usize, k: usize)
     requires { ⌜ i < k ⌝ }
-    requires { ⌜ k ≤ 8 ⌝ }
+    requires { ⌜ k ≤ mostDivisions ⌝ }
     ensures { λ _. ⌜ now (r .exit) ≡ startRow k (upper i (divisionOf e)) ⌝ }
 {
     let z = e.constant;
@@ -101,7 +103,7 @@ fn upper_row(r: &mut [i64; 18], e: Division, i: usize, k: usize)
 }
 
 pub fn constraint_row(r: &mut [i64; 18], c: Constraint, k: usize)
-    requires { ⌜ k ≤ 8 ⌝ }
+    requires { ⌜ k ≤ mostDivisions ⌝ }
     ensures { λ _. ⌜ now (r .exit) ≡ startRow k (constraintOf c) ⌝ }
 {
     let z = c.constant;
@@ -112,9 +114,9 @@ pub fn constraint_row(r: &mut [i64; 18], c: Constraint, k: usize)
 }
 
 // The rows of the bounds of the first k divisions.
-pub fn fill_bounds(ds: [Division; 8], k: usize, rows: &mut [[i64; 18]])
-    requires { ⌜ k ≤ 8 ⌝ }
-    requires { ⌜ length ds ≡ 8 ⌝ }
+pub fn fill_bounds(ds: [Division; limit::DIVISIONS], k: usize, rows: &mut [[i64; 18]])
+    requires { ⌜ k ≤ mostDivisions ⌝ }
+    requires { ⌜ length ds ≡ mostDivisions ⌝ }
     requires { ⌜ 2 * k ≤ length (now rows) ⌝ }
     ensures { λ _. ⌜ Bounded ds k k (now (rows .entry)) (now (rows .exit)) ⌝ }
 {
@@ -134,28 +136,28 @@ pub fn kind_of(equality: bool) -> u8
 }
 
 fn place_of(k: usize, v: usize) -> usize
-    requires { ⌜ k ≤ 8 ⌝ }
+    requires { ⌜ k ≤ mostDivisions ⌝ }
     ensures { λ r. ⌜ r ≡ placeAt k v ⌝ }
 {
-    if v < 8 {
+    if v < limit::AXES {
         return 64 + k + v;
     }
-    if v < 8 + k {
-        return 64 + (v - 8);
+    if v < limit::AXES + k {
+        return 64 + (v - limit::AXES);
     }
-    v - (8 + k)
+    v - (limit::AXES + k)
 }
 
 fn free_or_bound(k: usize, v: usize) -> u8
-    requires { ⌜ k ≤ 8 ⌝ }
-    ensures { λ r. ⌜ r ≡ cond (ltb v (8 + k)) 0 1 ⌝ }
+    requires { ⌜ k ≤ mostDivisions ⌝ }
+    ensures { λ r. ⌜ r ≡ cond (ltb v (mostAxes + k)) 0 1 ⌝ }
 {
-    if v < 8 + k { 0 } else { 1 }
+    if v < limit::AXES + k { 0 } else { 1 }
 }
 
 // The first n variables.
 pub fn name_variables(k: usize, n: usize, place: &mut [usize], kinds: &mut [u8])
-    requires { ⌜ k ≤ 8 ⌝ }
+    requires { ⌜ k ≤ mostDivisions ⌝ }
     requires { ⌜ n ≤ length (now place) ⌝ }
     requires { ⌜ n ≤ length (now kinds) ⌝ }
     ensures { λ _. ⌜ Named k n (now (place .entry)) (now (place .exit)) (now (kinds .entry)) (now (kinds .exit)) ⌝ }
@@ -178,7 +180,7 @@ pub fn fill(b: BasicSet, rows: &mut [[i64; 18]], place: &mut [usize], kinds: &mu
 {
     let k = b.divs;
     let cons = b.cons;
-    let n = 8 + k + (2 * k + cons);
+    let n = limit::AXES + k + (2 * k + cons);
     name_variables(k, n, place, kinds);
     let ds = b.divisions;
     fill_bounds(ds, k, rows);
@@ -186,7 +188,7 @@ pub fn fill(b: BasicSet, rows: &mut [[i64; 18]], place: &mut [usize], kinds: &mu
     while i < cons {
         let c = b.constraints[i];
         constraint_row(&mut rows[2 * k + i], c, k);
-        kinds[8 + 3 * k + i] = kind_of(c.equality);
+        kinds[limit::AXES + 3 * k + i] = kind_of(c.equality);
         i += 1;
     }
 }

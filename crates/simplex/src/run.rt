@@ -4,6 +4,7 @@ use crate::Ended;
 use crate::Move;
 ghost use mathlib.Core.Path.{_≡_};
 ghost use Rattle.simplex.specs.Table.{pivotRows, pivotPlace, pivotBuilt, Fine, Crossing, Ran};
+use model::limit;
 
 // Step 5: the row of variable v and the column of variable w; the number of rows built.
 pub fn pivot_counted(
@@ -37,7 +38,7 @@ pub fn run(t: &mut [[i64; 18]], n: usize, place: &mut [usize], kinds: &[u8]) -> 
     requires { ⌜ Fine n (now t) (now place) (now kinds) ⌝ }
     ensures { λ x. ⌜ Ran (now (t .entry)) (now (place .entry)) (now (kinds .entry)) x (now (t .exit)) (now (place .exit)) ⌝ }
 {
-    let mut left: usize = 200;
+    let mut left: usize = limit::PIVOTS;
     let mut built: usize = 0;
     loop {
         let m = crate::choose::choose(t, n, place, kinds, left);
@@ -45,7 +46,7 @@ pub fn run(t: &mut [[i64; 18]], n: usize, place: &mut [usize], kinds: &[u8]) -> 
             Move::Stop(x) => {
                 let ended = Ended {
                     verdict: x,
-                    pivots: 200 - left,
+                    pivots: limit::PIVOTS - left,
                 };
                 return Counted { ended, built };
             }

@@ -9,6 +9,8 @@ use lib.ListN.{length, getD, set, take, drop}
 use Rattle.integers.specs.Size.{bound}
 use Rattle.model.specs.Sets.{Division, Constraint, bounds}
 use Rattle.wide_tableau.specs.Cells.{words, rowsOf}
+use Rattle.model.specs.Limits.{mostAxes, mostPivots, mostName}
+use Rattle.model.specs.Refusals.{badName}
 use Rattle.simplex.specs.Table.{Ending, runTableAt, tabulate, startRow, placeAt, kindNumber}
 use Rattle.simplex.specs.declared.Verdict.{Verdict}
 use Rattle.simplex.specs.declared.Verdict.the-variants as E
@@ -51,7 +53,7 @@ markedIn k y = ranked (newest k) (slotCopied 0 (k + 1) y)
 
 unfoldable pub markStep : ℕ → Memory → Step
 markStep k y =
-    cond (leb k 15) (cond (fitting y && isWord (headAt 0 4 y)) (stepped (saidOf (headAt 0 4 y)) (markedIn k y)) (stepped Misused y)) (stepped (Refused 18) y)
+    cond (leb k mostName) (cond (fitting y && isWord (headAt 0 4 y)) (stepped (saidOf (headAt 0 4 y)) (markedIn k y)) (stepped Misused y)) (stepped (Refused badName) y)
 
 -- ---- back: "or, in going back, never marked or forgotten"
 
@@ -60,33 +62,33 @@ backIn k rank y = ranked (map (forgotten rank)) (slotCopied (k + 1) 0 y)
 
 abbrev pub backBy : ℕ → ℕ → Memory → Step
 backBy k rank y =
-    cond (eqb rank 0) (stepped (Refused 18) y)
+    cond (eqb rank 0) (stepped (Refused badName) y)
     (cond (isWord (headAt (k + 1) 4 y)) (stepped (saidOf (headAt (k + 1) 4 y)) (backIn k rank y)) (stepped Misused y))
 
 unfoldable pub backStep : ℕ → Memory → Step
-backStep k y = cond (leb k 15) (cond (fitting y) (backBy k (getD (y .heads) (85 + k) 0) y) (stepped Misused y)) (stepped (Refused 18) y)
+backStep k y = cond (leb k mostName) (cond (fitting y) (backBy k (getD (y .heads) (85 + k) 0) y) (stepped Misused y)) (stepped (Refused badName) y)
 
 -- ---- start: "started from n and divisions, without marks, and tested"
 
 -- the places and kinds of the first table of k divisions' bounds
 unfoldable pub firstPlace : ℕ → List ℕ
-firstPlace k = tabulate (8 + k + 2 * k) (placeAt k)
+firstPlace k = tabulate (mostAxes + k + 2 * k) (placeAt k)
 
 abbrev pub freeOrBound : ℕ → ℕ → ℕ
-freeOrBound k v = cond (ltb v (8 + k)) 0 1
+freeOrBound k v = cond (ltb v (mostAxes + k)) 0 1
 
 unfoldable pub firstKinds : ℕ → List ℕ
-firstKinds k = tabulate (8 + k + 2 * k) (freeOrBound k)
+firstKinds k = tabulate (mostAxes + k + 2 * k) (freeOrBound k)
 
 abbrev pub firstRows : ℕ → List Division → List (List ℤ)
 firstRows k ds = map (startRow k) (bounds 0 ds)
 
 unfoldable pub startEnd : ℕ → List Division → Ending
-startEnd k ds = runTableAt (bound 128) (firstKinds k) 200 (firstRows k ds) (firstPlace k)
+startEnd k ds = runTableAt (bound 128) (firstKinds k) mostPivots (firstRows k ds) (firstPlace k)
 
 abbrev pub openedIn : ℕ → ℕ → Ending → Memory → Memory
 openedIn n k e y =
-    memory (map words (e .rows) ++ drop (2 * k) (y .rows)) (e .place ++ drop (8 + k + 2 * k) (y .place)) (firstKinds k ++ drop (8 + k + 2 * k) (y .kinds))
+    memory (map words (e .rows) ++ drop (2 * k) (y .rows)) (e .place ++ drop (mostAxes + k + 2 * k) (y .place)) (firstKinds k ++ drop (mostAxes + k + 2 * k) (y .kinds))
     (withRanks (map (forgotten 0)) ((n ∷ k ∷ 0 ∷ (2 * k) ∷ wordNumber (e .verdict) ∷ []) ++ drop 5 (y .heads)))
 
 abbrev pub opens : ℕ → ℕ → Ending → Memory → Step
@@ -112,11 +114,11 @@ saying w y = memory (y .rows) (y .place) (y .kinds) (set (y .heads) 4 w)
 -- with a row, variable v = 8 + k + m, of that kind: where the test goes on to
 abbrev pub goesOn : ℕ → ℕ → ℕ → List ℤ → Memory → Ending
 goesOn k m kind row y =
-    runTableAt (bound 128) (take (8 + k + m) (y .kinds) ++ (kind ∷ [])) 200 (rowsOf (take m (y .rows)) ++ (row ∷ [])) (take (8 + k + m) (y .place) ++ (m ∷ []))
+    runTableAt (bound 128) (take (mostAxes + k + m) (y .kinds) ++ (kind ∷ [])) mostPivots (rowsOf (take m (y .rows)) ++ (row ∷ [])) (take (mostAxes + k + m) (y .place) ++ (m ∷ []))
 
 abbrev pub wentOn : ℕ → ℕ → ℕ → Ending → Memory → Memory
 wentOn k m kind e y =
-    memory (map words (e .rows) ++ drop (m + 1) (y .rows)) (e .place ++ drop (8 + k + m + 1) (y .place)) (set (y .kinds) (8 + k + m) kind)
+    memory (map words (e .rows) ++ drop (m + 1) (y .rows)) (e .place ++ drop (mostAxes + k + m + 1) (y .place)) (set (y .kinds) (mostAxes + k + m) kind)
     (set (set (y .heads) 4 (wordNumber (e .verdict))) 3 (m + 1))
 
 -- "beyond it is wide": the table is left as it was
@@ -125,7 +127,7 @@ grownBy k m kind none y = saying 3 y
 grownBy k m kind (some row) y = wentOn k m kind (goesOn k m kind row y) y
 
 unfoldable pub grownIn : ℕ → ℕ → Constraint → Memory → Memory
-grownIn k m r y = grownBy k m (kindNumber (some (r .kind))) (ruleRow (bound 128) k (rowsOf (take m (y .rows))) (take (8 + k + m) (y .place)) r) y
+grownIn k m r y = grownBy k m (kindNumber (some (r .kind))) (ruleRow (bound 128) k (rowsOf (take m (y .rows))) (take (mostAxes + k + m) (y .place)) r) y
 
 -- "rules added meanwhile count unpivoted"
 abbrev pub countedIn : Memory → Memory

@@ -3,6 +3,7 @@ use mathlib.Core.List.{List, [], _∷_}
 use Prim.Native.Nat.{ℕ, zero, suc}
 use lib.IntN.{ℤ, pos, negsuc}
 use lib.ListN.{getD, take, drop}
+use Rattle.model.specs.Limits.{mostAxes}
 use Rattle.model.specs.Sets.{Division, Constraint}
 use Rattle.model.specs.Values.{kindIs}
 use Rattle.codec.specs.Bytes.{firstFailing}
@@ -28,7 +29,7 @@ quotientOf q = record { divisor = unsigned (q .divisor); constant = q .constant;
 
 -- ten numbers a division: d, c and 8 axes
 abbrev pub divisionBy : List ℤ → Division
-divisionBy xs = record { divisor = unsigned (getD xs 0 (pos 0)); constant = getD xs 1 (pos 0); axes = take 8 (drop 2 xs) }
+divisionBy xs = record { divisor = unsigned (getD xs 0 (pos 0)); constant = getD xs 1 (pos 0); axes = take mostAxes (drop 2 xs) }
 
 unfoldable pub divisionsIn : ℕ → List ℤ → List Division
 divisionsIn zero xs = []

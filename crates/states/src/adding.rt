@@ -15,11 +15,13 @@ ghost use lib.Dec.{T};
 ghost use lib.ListN.{length};
 ghost use Rattle.model.specs.Values.{constraintOf};
 ghost use Rattle.wide_tableau.specs.Cells.{cells};
+ghost use Rattle.model.specs.Limits.{mostConstraints};
 ghost use Rattle.memory.specs.Memory.{memory, headAt, Fits};
 ghost use Rattle.memory.specs.Sound.{sound as soundOf};
 ghost use Rattle.states.specs.Numbers.{ruleOf};
 ghost use Rattle.states.specs.Calls.{stepped, says, goesOn, grownIn, joinedIn, addStep};
 ghost use Rattle.states.specs.Parts.{Open, Joins, Grew};
+use model::limit;
 
 // The test goes on with the new row, variable v, of that kind: the word.
 fn go_with(
@@ -34,7 +36,7 @@ fn go_with(
     requires { ⌜ Open k m (now rows) (now place) (now kinds) × Joins k row ⌝ }
     ensures { λ w. ⌜ Grew k m kind (goesOn k m kind (cells row) (memory (now (rows .entry)) (now (place .entry)) (now (kinds .entry)) [])) w (now (rows .entry)) (now (rows .exit)) (now (place .entry)) (now (place .exit)) (now (kinds .entry)) (now (kinds .exit)) ⌝ }
 {
-    let v = 8 + k + m;
+    let v = limit::AXES + k + m;
     rows[m] = row;
     place[v] = m;
     kinds[v] = kind;
@@ -43,7 +45,7 @@ fn go_with(
         k + 10,
         &mut place[..v + 1],
         &kinds[..v + 1],
-        200,
+        limit::PIVOTS,
     );
     let ended = e.ended;
     let x = ended.verdict;
@@ -64,7 +66,7 @@ fn grow(
     ensures { λ _. ⌜ memory (now (rows .exit)) (now (place .exit)) (now (kinds .exit)) (now (heads .exit)) ≡ grownIn k m (constraintOf c) (memory (now (rows .entry)) (now (place .entry)) (now (kinds .entry)) (now (heads .entry))) ⌝ }
 {
     let mut row = [0u64; 36];
-    let names = 8 + k + m;
+    let names = limit::AXES + k + m;
     if !drafting::settle::draft(c, &rows[..m], &place[..names], k, &mut row) {
         heads[4] = 3;
         return;
@@ -82,7 +84,7 @@ fn join(
     kinds: &mut [u8],
     heads: &mut [usize],
 ) -> Said
-    requires { ⌜ Fits (memory (now rows) (now place) (now kinds) (now heads)) × T (soundOf (memory (now rows) (now place) (now kinds) (now heads))) × (headAt 0 2 (memory (now rows) (now place) (now kinds) (now heads)) < 48) ⌝ }
+    requires { ⌜ Fits (memory (now rows) (now place) (now kinds) (now heads)) × T (soundOf (memory (now rows) (now place) (now kinds) (now heads))) × (headAt 0 2 (memory (now rows) (now place) (now kinds) (now heads)) < mostConstraints) ⌝ }
     ensures { λ r. ⌜ stepped r (memory (now (rows .exit)) (now (place .exit)) (now (kinds .exit)) (now (heads .exit))) ≡ says (joinedIn (constraintOf c) (memory (now (rows .entry)) (now (place .entry)) (now (kinds .entry)) (now (heads .entry)))) ⌝ }
 {
     let k = heads[1];

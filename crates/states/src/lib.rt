@@ -1,4 +1,6 @@
 // Named states (document 02, request 8): one working basic set with its tableau, and marks to step back to, in lent memory.
+use model::limit;
+
 mod adding;
 mod marking;
 mod numbers;
@@ -23,13 +25,13 @@ pub enum Said {
 pub struct Rule {
     pub equality: bool,
     pub constant: i32,
-    pub axes: [i32; 8],
-    pub divisions: [i32; 8],
+    pub axes: [i32; limit::AXES],
+    pub divisions: [i32; limit::DIVISIONS],
 }
 
 // A division as numbers: floor((axes·x + constant) / divisor).
 pub struct Quotient {
     pub divisor: i32,
     pub constant: i32,
-    pub axes: [i32; 8],
+    pub axes: [i32; limit::AXES],
 }

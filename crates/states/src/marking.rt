@@ -8,6 +8,8 @@ use memory::sound::is_word;
 ghost use mathlib.Core.Path.{_≡_};
 ghost use Rattle.memory.specs.Memory.{memory};
 ghost use Rattle.states.specs.Calls.{stepped, saidOf, markStep, backStep};
+use model::limit;
+use model::refusal;
 
 pub fn said_of(w: usize) -> Said
     ensures { λ r. ⌜ r ≡ saidOf w ⌝ }
@@ -36,8 +38,8 @@ pub fn mark(
 ) -> Said
     ensures { λ r. ⌜ stepped r (memory (now (rows .exit)) (now (place .exit)) (now (kinds .exit)) (now (heads .exit))) ≡ markStep name (memory (now (rows .entry)) (now (place .entry)) (now (kinds .entry)) (now (heads .entry))) ⌝ }
 {
-    if 15 < name {
-        return Said::Refused(18);
+    if limit::NAME < name {
+        return Said::Refused(refusal::BAD_NAME);
     }
     if !fits(rows, place, kinds, heads) {
         return Said::Misused;
@@ -60,15 +62,15 @@ pub fn back(
 ) -> Said
     ensures { λ r. ⌜ stepped r (memory (now (rows .exit)) (now (place .exit)) (now (kinds .exit)) (now (heads .exit))) ≡ backStep name (memory (now (rows .entry)) (now (place .entry)) (now (kinds .entry)) (now (heads .entry))) ⌝ }
 {
-    if 15 < name {
-        return Said::Refused(18);
+    if limit::NAME < name {
+        return Said::Refused(refusal::BAD_NAME);
     }
     if !fits(rows, place, kinds, heads) {
         return Said::Misused;
     }
     let rank = heads[85 + name];
     if rank == 0 {
-        return Said::Refused(18);
+        return Said::Refused(refusal::BAD_NAME);
     }
     let w = heads[5 * (name + 1) + 4];
     if !is_word(w) {

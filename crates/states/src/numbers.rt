@@ -15,10 +15,13 @@ ghost use lib.IntN.{pos, negsuc};
 ghost use lib.ListN.{length, take, drop};
 ghost use Rattle.model.specs.Lists.{all};
 ghost use Rattle.model.specs.Values.{kindIs, divisionOf, constraintOf};
-ghost use Rattle.codec.specs.Bytes.{within, coefficient, constantFits, refusal, division};
+ghost use Rattle.model.specs.Limits.{mostAxes, mostDivisions, mostDivisor};
+ghost use Rattle.codec.specs.Bytes.{coefficient, divisionConstant, constantFits, refusal, division};
 ghost use Rattle.planning.specs.State.{startRefusal};
 ghost use Rattle.states.specs.Numbers.{ruleOf, ruleNumber, unsigned, quotientOf, divisionBy, divisionsIn};
 ghost use Rattle.states.specs.Parts.{Proper, Listed, Divided};
+use model::limit;
+use model::refusal;
 
 // An equality's constant has an opposite.
 fn constant_fits(equality: bool, z: i32) -> bool
@@ -39,7 +42,7 @@ pub fn rule_refusal(n: usize, k: usize, rules: usize, r: Rule) -> u32
     let x = r.axes;
     let q = r.divisions;
     if !constant_fits(e, z) {
-        return 7;
+        return refusal::OUT_OF_RANGE;
     }
     let c = extremes::numbers::refusal(
         n,
@@ -53,10 +56,10 @@ pub fn rule_refusal(n: usize, k: usize, rules: usize, r: Rule) -> u32
     if c != 0 {
         return c;
     }
-    if rules < 48 {
+    if rules < limit::CONSTRAINTS {
         return 0;
     }
-    10
+    refusal::OVER_LIMIT
 }
 
 pub fn constraint_of(r: Rule) -> Constraint
@@ -77,13 +80,13 @@ pub fn constraint_of(r: Rule) -> Constraint
     }
 }
 
-fn eight(xs: &[i32], at: usize) -> [i32; 8]
-    requires { ⌜ at + 8 ≤ length (now xs) ⌝ }
-    ensures { λ r. ⌜ r ≡ take 8 (drop at (now (xs .entry))) ⌝ }
+fn eight(xs: &[i32], at: usize) -> [i32; limit::AXES]
+    requires { ⌜ at + mostAxes ≤ length (now xs) ⌝ }
+    ensures { λ r. ⌜ r ≡ take mostAxes (drop at (now (xs .entry))) ⌝ }
 {
-    let mut r = [0i32; 8];
+    let mut r = [0i32; limit::AXES];
     let mut i: usize = 0;
-    while i < 8 {
+    while i < limit::AXES {
         let x = xs[at + i];
         r[i] = x;
         i += 1;
@@ -106,16 +109,20 @@ fn quotient_at(xs: &[i32], at: usize) -> Quotient
     }
 }
 
+const MOST_DIVISOR: i32 = limit::DIVISOR as i32;
+
+const LEAST_CONSTANT: i32 = -limit::DIVISION_CONSTANT;
+
 fn divisor_fits(d: i32) -> bool
-    ensures { λ b. ⌜ b ≡ (ltb 0 (unsigned d) && leb (unsigned d) 32767) ⌝ }
+    ensures { λ b. ⌜ b ≡ (ltb 0 (unsigned d) && leb (unsigned d) mostDivisor) ⌝ }
 {
-    1 <= d && d <= 32767
+    1 <= d && d <= MOST_DIVISOR
 }
 
 fn numerator_fits(c: i32) -> bool
-    ensures { λ b. ⌜ b ≡ within (negsuc 999999999) (pos 1000000000) c ⌝ }
+    ensures { λ b. ⌜ b ≡ divisionConstant c ⌝ }
 {
-    -1000000000 <= c && c <= 1000000000
+    LEAST_CONSTANT <= c && c <= limit::DIVISION_CONSTANT
 }
 
 // 9, 6, 7 or 8 of division number i, from 0; 0 for none.
@@ -125,20 +132,20 @@ fn division_refusal(n: usize, i: usize, q: Quotient) -> u32
     let d = q.divisor;
     let c = q.constant;
     let a = q.axes;
-    if 8 <= i {
-        return 9;
+    if limit::DIVISIONS <= i {
+        return refusal::TOO_MANY;
     }
     if !divisor_fits(d) {
-        return 6;
+        return refusal::BAD_DIVISOR;
     }
     if !numerator_fits(c) {
-        return 7;
+        return refusal::OUT_OF_RANGE;
     }
     if !are_coefficients(a) {
-        return 7;
+        return refusal::OUT_OF_RANGE;
     }
     if !are_absent(n, a) {
-        return 8;
+        return refusal::NOT_ABSENT;
     }
     0
 }
@@ -149,10 +156,10 @@ pub fn start_refusal(n: usize, xs: &[i32], count: usize) -> u32
     ensures { λ r. ⌜ r ≡ startRefusal n (divisionsIn count (now (xs .entry))) ⌝ }
 {
     if n == 0 {
-        return 1;
+        return refusal::BAD_AXES;
     }
-    if 8 < n {
-        return 1;
+    if limit::AXES < n {
+        return refusal::BAD_AXES;
     }
     let mut i: usize = 0;
     while i < count {
@@ -181,20 +188,20 @@ fn division_of(q: Quotient) -> Division
     }
 }
 
-fn no_divisions() -> [Division; 8]
-    ensures { λ r. ⌜ length r ≡ 8 ⌝ }
+fn no_divisions() -> [Division; limit::DIVISIONS]
+    ensures { λ r. ⌜ length r ≡ mostDivisions ⌝ }
 {
-    let axes = [0i16; 8];
+    let axes = [0i16; limit::AXES];
     let d = Division {
         divisor: 1,
         constant: 0,
         axes: axes,
     };
-    [d; 8]
+    [d; limit::DIVISIONS]
 }
 
 // The divisions, none of which is refused.
-pub fn divisions_of(xs: &[i32], count: usize) -> [Division; 8]
+pub fn divisions_of(xs: &[i32], count: usize) -> [Division; limit::DIVISIONS]
     requires { ⌜ Listed count (now xs) ⌝ }
     ensures { λ ds. ⌜ Divided count (now (xs .entry)) ds ⌝ }
 {

@@ -12,10 +12,12 @@ ghost use mathlib.Core.List.{[], _∷_, _++_, map};
 ghost use Prim.Native.Nat.{_*_, _≤_};
 ghost use lib.ListN.{length, take, drop};
 ghost use Rattle.model.specs.Values.{divisionOf};
+ghost use Rattle.model.specs.Limits.{mostDivisions};
 ghost use Rattle.memory.specs.Memory.{memory, Fits};
 ghost use Rattle.states.specs.Numbers.{divisionsIn};
 ghost use Rattle.states.specs.Calls.{stepped, wordNumber, firstKinds, startEnd, opens, startStep};
 ghost use Rattle.states.specs.Parts.{Listed, Room, Begun, Ran};
+use model::limit;
 
 // The number that stands for a word.
 pub fn word_of(v: Verdict) -> usize
@@ -30,20 +32,26 @@ pub fn word_of(v: Verdict) -> usize
 }
 
 // The first table of the divisions' bounds.
-fn lay(ds: [Division; 8], k: usize, t: &mut [[u64; 36]], place: &mut [usize], kinds: &mut [u8])
+fn lay(
+    ds: [Division; limit::DIVISIONS],
+    k: usize,
+    t: &mut [[u64; 36]],
+    place: &mut [usize],
+    kinds: &mut [u8],
+)
     requires { ⌜ Room k ds (now t) (now place) (now kinds) ⌝ }
     ensures { λ _. ⌜ Begun k (map divisionOf (take k ds)) (now (t .exit)) (now (place .exit)) (now (kinds .exit)) ⌝ }
 {
     let m = 2 * k;
-    let mut first = [[0i64; 18]; 16];
+    let mut first = [[0i64; 18]; 2 * limit::DIVISIONS];
     simplex::fill::fill_bounds(ds, k, &mut first);
     carrying::carry::carry(&first[..m], t);
-    simplex::fill::name_variables(k, 8 + k + m, place, kinds);
+    simplex::fill::name_variables(k, limit::AXES + k + m, place, kinds);
 }
 
 // So, and tested: the word.
 fn tested(
-    ds: [Division; 8],
+    ds: [Division; limit::DIVISIONS],
     k: usize,
     t: &mut [[u64; 36]],
     place: &mut [usize],
@@ -53,7 +61,7 @@ fn tested(
     ensures { λ w. ⌜ Ran (startEnd k (map divisionOf (take k ds))) w (now (t .exit)) (now (place .exit)) × (now (kinds .exit) ≡ firstKinds k) ⌝ }
 {
     lay(ds, k, t, place, kinds);
-    let e = carrying::going::go_on(t, k + 10, place, kinds, 200);
+    let e = carrying::going::go_on(t, k + 10, place, kinds, limit::PIVOTS);
     let ended = e.ended;
     let v = ended.verdict;
     word_of(v)
@@ -61,7 +69,7 @@ fn tested(
 
 // The state's head.
 fn write_head(heads: &mut [usize], n: usize, k: usize, w: usize)
-    requires { ⌜ (5 ≤ length (now heads)) × (k ≤ 8) ⌝ }
+    requires { ⌜ (5 ≤ length (now heads)) × (k ≤ mostDivisions) ⌝ }
     ensures { λ _. ⌜ now (heads .exit) ≡ (n ∷ k ∷ 0 ∷ (2 * k) ∷ w ∷ []) ++ drop 5 (now (heads .entry)) ⌝ }
 {
     heads[0] = n;
@@ -85,7 +93,7 @@ fn set_up(
     ensures { λ r. ⌜ stepped r (memory (now (rows .exit)) (now (place .exit)) (now (kinds .exit)) (now (heads .exit))) ≡ opens n k (startEnd k (divisionsIn k (now (divisions .entry)))) (memory (now (rows .entry)) (now (place .entry)) (now (kinds .entry)) (now (heads .entry))) ⌝ }
 {
     let m = 2 * k;
-    let names = 8 + k + m;
+    let names = limit::AXES + k + m;
     let ds = divisions_of(divisions, k);
     let w = tested(
         ds,

@@ -4,6 +4,7 @@ use mathlib.Core.Bool.{false}
 use mathlib.Core.List.{List}
 use Prim.Native.Nat.{ℕ, _≤_}
 use lib.ListN.{length}
+use Rattle.model.specs.Limits.{mostDivisions, mostConstraints}
 use Rattle.model.specs.Lists.{any}
 use Rattle.model.specs.Values.{basicSetOf}
 use Rattle.model.specs.declared.BasicSet.{BasicSet as Stored}
@@ -25,8 +26,8 @@ pub record Level (left : ℕ) (p : Stored) (b : List ℕ) (pos : ℕ) : Type 0 w
   pub cutters : All (Valid n) (setFrom b pos)
   pub many : length (setFrom b pos) ≡ left
   pub valid : Valid n (basicSetOf p)
-  pub divs : p .divs ≤ 8
-  pub cons : p .cons ≤ 48
+  pub divs : p .divs ≤ mostDivisions
+  pub cons : p .cons ≤ mostConstraints
 
 -- a basic set that is cut has no common divisor left in a rule; one that no cutter is left for may have
 abbrev pub TightAt : ℕ → Stored → Type 0

@@ -12,6 +12,7 @@ use cutting::piece;
 use joining::any_divisible;
 use joining::tight_set;
 use model::BasicSet;
+use model::limit;
 use records::decode_basic;
 use results::Done;
 use results::emit;
@@ -127,7 +128,7 @@ pub fn subtract(a: &[u8], b: &[u8], out: &mut [u8]) -> Done
     let mut rows = [[0i64; 18]; 64];
     let mut place = [0usize; 80];
     let mut kinds = [0u8; 80];
-    let mut past = [[0i64; 18]; 200];
+    let mut past = [[0i64; 18]; limit::PIVOTS];
     let mut spare = [[0i64; 18]; 64];
     let mut t = Done {
         at: 0,

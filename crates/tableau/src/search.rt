@@ -7,6 +7,7 @@ ghost use lib.Dec.{leb};
 ghost use lib.IntN.{natAbs};
 ghost use Rattle.integers.specs.Size.{bound};
 ghost use Rattle.tableau.specs.Rows.{violatedBy, violatedAt, violated as violatedOf, helpsBy, helpsAt, helping as helpingOf, small as smallOf, narrowRows, narrowRow, Line};
+use integers::bound;
 
 pub fn is_violated(kind: u8, x: i64) -> bool
     ensures { λ b. ⌜ b ≡ violatedBy kind x ⌝ }
@@ -35,14 +36,16 @@ fn is_helping(kind: u8, c: i64, e: i64) -> bool
     false
 }
 
+const LEAST: i64 = -bound::AT_64;
+
 // The number test of one number; the bound of the definition `bound 64`.
 fn is_small(x: i64) -> bool
     ensures { λ b. ⌜ b ≡ leb (natAbs x) (bound 64) ⌝ }
 {
-    if x < -2147483647 {
+    if x < LEAST {
         return false;
     }
-    x <= 2147483647
+    x <= bound::AT_64
 }
 
 pub fn small(r: &[i64; 18], n: usize) -> bool

@@ -7,6 +7,7 @@ use Prim.Native.Nat.{ℕ, zero, suc, _+_, _≤_}
 use lib.Dec.{T, eqb}
 use lib.IntN.{ℤ}
 use lib.ListN.{length}
+use Rattle.model.specs.Limits.{mostAxes}
 use Rattle.model.specs.Lists.{any}
 use Rattle.model.specs.Sets.{Kind, Constraint, BasicSet, conditions, RationalPoint, meetsBasic}
 use Rattle.feasibility.specs.Tableau.{Verdict, Tableau, exchange, narrow, bound, Look, noneViolated, noneHelps, pivot, look, run, sorts, begin}
@@ -81,7 +82,7 @@ always j t = true
 
 -- axes, divisions, bounds and rules: the variables of a test
 abbrev pub variables : BasicSet → ℕ
-variables b = 8 + length (b .divisions) + length (conditions b)
+variables b = mostAxes + length (b .divisions) + length (conditions b)
 
 -- with n pivots, of which 2 to the power of `variables b` are enough (proofs/Judged)
 abbrev pub unlimited : ℕ → BasicSet → Verdict
@@ -96,4 +97,4 @@ unlimitedValue n z b e = extremeBy always n z b e
 
 -- "no point with fractions meets its rules .. and its divisions' bounds"
 abbrev pub NoPoint : BasicSet → Type 0
-NoPoint b = (p : RationalPoint) → length (p .x) ≤ 8 → length (p .q) ≤ length (b .divisions) → ¬ T (meetsBasic p b)
+NoPoint b = (p : RationalPoint) → length (p .x) ≤ mostAxes → length (p .q) ≤ length (b .divisions) → ¬ T (meetsBasic p b)

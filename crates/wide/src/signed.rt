@@ -15,6 +15,7 @@ ghost use lib.Signed.{quotZ, ltZ};
 ghost use Rattle.integers.specs.Z.{Within};
 ghost use Rattle.integers.specs.Size.{bound};
 ghost use Rattle.wide.specs.Wide.{xor, size, valueOf, Bounded, cell, highOf};
+use integers::bound;
 
 fn differ(a: bool, b: bool) -> bool
     ensures { λ r. ⌜ r ≡ xor a b ⌝ }
@@ -118,7 +119,7 @@ pub fn is_small(x: Wide) -> bool
     if h != 0 {
         return false;
     }
-    l <= 9223372036854775807
+    l <= bound::AT_128
 }
 
 // x < 0

@@ -2,9 +2,11 @@
 ghost use mathlib.Core.Path.{_≡_};
 ghost use Prim.Native.Nat.{_+_, _≤_};
 ghost use lib.ListN.{length};
+ghost use Rattle.model.specs.Limits.{setBytes};
 use integers::put_i16;
 use integers::put_i32;
 use integers::put_u16;
+use model::limit;
 
 // From a place on: c + a·x + b·q, with the first division q, that is = 0 (`13`) or ≥ 0 (`14`).
 pub fn rule(out: &mut [u8], at: usize, kind: u8, c: i32, a: i16, b: i16)
@@ -51,10 +53,10 @@ pub fn tenth(c: i32) -> [u8; 61]
 }
 
 // A table for results.
-pub fn table() -> [u8; 8000]
-    ensures { λ r. ⌜ 8000 ≡ length r ⌝ }
+pub fn table() -> [u8; limit::SET_BYTES]
+    ensures { λ r. ⌜ setBytes ≡ length r ⌝ }
 {
-    [0; 8000]
+    [0; limit::SET_BYTES]
 }
 
 // A basic set of 49 rules that hold everywhere.

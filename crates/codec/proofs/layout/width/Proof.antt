@@ -13,9 +13,6 @@ returns c = rw (c .if1 .taken)
 is-division-requires : tie.Need-is-division-requires
 is-division-requires c κs = search needs
 
-add-result : tie.Need-add-result
-add-result c = search needs
-
 returns-2 : tie.Need-returns-2
 returns-2 c =
     let a = c .before in let b = a .before .before .args .b in let e : isDivision b ≡ true = sym (a .is-division .ensures) ∙ c .if2 .taken in
@@ -23,9 +20,6 @@ returns-2 c =
 
 is-constraint-requires : tie.Need-is-constraint-requires
 is-constraint-requires c κs = search needs
-
-add-result-2 : tie.Need-add-result-2
-add-result-2 c = search needs
 
 returns-3 : tie.Need-returns-3
 returns-3 c =
@@ -44,9 +38,7 @@ width-spec =
     (tie.spec
     returns
     is-division-requires
-    add-result
     returns-2
     is-constraint-requires
-    add-result-2
     returns-3
     returns-4)
