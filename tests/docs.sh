@@ -59,5 +59,7 @@ if [[ -n $shown && $(cat examples/shift.out) == ${shown//$'\n..\n'/$'\n*\n'} ]];
 # the reading list and the public calls; every other law and definition is used
 counted "" python3 tools/reading.py
 counted "use of" python3 tools/unused.py
+# command bytes, widths, limits and refusals stand as digits at their homes alone
+counted "home:" python3 tools/layout.py
 echo "$passed passed, $failed failed"
 [ "$failed" -eq 0 ]
