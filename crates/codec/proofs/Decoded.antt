@@ -12,8 +12,9 @@ pub use Rattle.integers.specs.LittleEndian.{Bytes}
 use Rattle.integers.specs.LittleEndian.{bytes-value, value-small, unsigned-signed, bytes-take, bytes-drop}
 use Rattle.model.specs.Lists.{all, concatMap}
 use Rattle.model.specs.Sets.{Division, Kind, equality, inequality, Constraint, Set, absent, wellFormed}
-use Rattle.codec.specs.Bytes.{Answer, refused, gives, bytesOf, valueOf, signed, signedBytes, Command, opens, division, constraint, opcode, encodeCommand, commands, encode, signedList, readDivision, readConstraint, Counts, firstFailing, testsOf, refusal, counted, widthOf, readCommand, Built, build, after, parse, setOf, axesFit, decode, headRefusal}
-use Rattle.codec.proofs.Parsing.{parse-next, parse-stop, all-passed}
+use Rattle.model.specs.Numbers.{numbered}
+use Rattle.codec.specs.Bytes.{Answer, refused, gives, bytesOf, valueOf, signed, signedBytes, Command, opens, misnumbered, division, constraint, opcode, numberedOpcode, constantIn, axesIn, divisionsIn, encodeCommand, commands, encode, signedList, readDivision, readConstraint, Counts, firstFailing, testsOf, refusal, counted, widthOf, readCommand, Built, build, after, parse, setOf, axesFit, decode, headRefusal}
+use Rattle.codec.proofs.Parsing.{parse-next, parse-stop, all-passed, no-misnumbered}
 use Rattle.model.proofs.Count.{and-left, and-right, and-make, to-T, no-suc}
 use Rattle.model.proofs.Values.{divides, fits}
 
@@ -108,6 +109,7 @@ formed n k (opens ∷ cs) u =
           (subst (λ (m : ℕ). T (all (λ (r : Constraint). absent m (r .divisions)) (b .constraints))) (native.Mathlib.Nat.zero-add (length (b .divisions))) (f .absents)))
           (f .others);
     }
+formed n k (misnumbered ∷ cs) u = absurd (no-misnumbered n k (u .0))
 formed n k (division e ∷ cs) u =
     let f = formed n (counted k (division e)) cs (u .1) in
     let b : Built = build cs in
@@ -166,6 +168,7 @@ decode-formed n bs s e =
 pub clean-start : (n : ℕ) (k : Counts) (cs : List Command) → Unrefused n k cs → k .basics ≡ 0 → (build cs .divisions ≡ []) × (build cs .constraints ≡ [])
 clean-start n k [] u e = (refl, refl)
 clean-start n k (opens ∷ cs) u e = (refl, refl)
+clean-start n k (misnumbered ∷ cs) u e = absurd (no-misnumbered n k (u .0))
 clean-start n k (division d ∷ cs) u e = absurd (clash (ltb→lt 0 (k .basics) (all-passed (testsOf n k (division d)) tt (u .0) .0)) e)
   where
     clash : 0 < k .basics → k .basics ≡ 0 → ⊥
@@ -181,6 +184,7 @@ commands-back n k [] u = refl
 commands-back n k (opens ∷ cs) u =
     ap (λ (l : List Command). opens ∷ l)
     (append-assoc (map division (build cs .divisions)) (map constraint (build cs .constraints)) (commands (build cs .rest)) ∙ commands-back n (counted k opens) cs (u .1))
+commands-back n k (misnumbered ∷ cs) u = absurd (no-misnumbered n k (u .0))
 commands-back n k (division e ∷ cs) u = ap (λ (l : List Command). division e ∷ l) (commands-back n (counted k (division e)) cs (u .1))
 commands-back n k (constraint r ∷ cs) u =
     let o : build cs .divisions ≡ [] = formed n (counted k (constraint r)) cs (u .1) .ordered (more (k .constraints)) in
@@ -231,54 +235,82 @@ body-12 s p h =
     ∙ ap (λ (l : List ℕ). bytesOf 2 (valueOf (take 2 s)) ++ l) (signed-back 4 t (bytes-drop 2 s p) (omega arith))
     ∙ value-back 2 s p (omega arith))
 
-body-constraint : (k : Kind) (s : List ℕ) → Bytes s → 36 ≤ length s → encodeCommand (constraint (readConstraint k s)) ++ drop 36 s ≡ opcode k ∷ s
-body-constraint k s p h =
+-- the body of a rule, whatever stands before it
+body-rule : (t : List ℕ) → Bytes t → 36 ≤ length t → (signedBytes 4 (constantIn t) ++ concatMap (signedBytes 2) (axesIn t) ++ concatMap (signedBytes 2) (divisionsIn t)) ++ drop 36 t ≡ t
+body-rule s p h =
     let d₄ : 16 ≤ length (drop 4 s) = omega (arith, lib.ListN.length-drop 4 s) in
     let d₂₀ : 16 ≤ length (drop 20 s) = omega (arith, lib.ListN.length-drop 20 s) in
-    ap (λ (l : List ℕ). opcode k ∷ l)
-    (append-assoc (signedBytes 4 (signed 4 (valueOf (take 4 s))) ++ concatMap (signedBytes 2) (signedList 8 (drop 4 s))) (concatMap (signedBytes 2) (signedList 8 (drop 20 s))) (drop 36 s)
-    ∙ append-assoc (signedBytes 4 (signed 4 (valueOf (take 4 s)))) (concatMap (signedBytes 2) (signedList 8 (drop 4 s))) (concatMap (signedBytes 2) (signedList 8 (drop 20 s)) ++ drop 36 s)
-    ∙ ap (λ (l : List ℕ). signedBytes 4 (signed 4 (valueOf (take 4 s))) ++ l)
-    (ap (λ (l : List ℕ). concatMap (signedBytes 2) (signedList 8 (drop 4 s)) ++ l)
-    (ap (λ (l : List ℕ). concatMap (signedBytes 2) (signedList 8 (drop 20 s)) ++ l) (sym (lib.Seq.drop-drop 16 20 s)) ∙ list-back 8 (drop 20 s) (bytes-drop 20 s p) d₂₀ ∙ sym (lib.Seq.drop-drop 16 4 s))
+    append-assoc (signedBytes 4 (constantIn s) ++ concatMap (signedBytes 2) (axesIn s)) (concatMap (signedBytes 2) (divisionsIn s)) (drop 36 s)
+    ∙ append-assoc (signedBytes 4 (constantIn s)) (concatMap (signedBytes 2) (axesIn s)) (concatMap (signedBytes 2) (divisionsIn s) ++ drop 36 s)
+    ∙ ap (λ (l : List ℕ). signedBytes 4 (constantIn s) ++ l)
+    (ap (λ (l : List ℕ). concatMap (signedBytes 2) (axesIn s) ++ l)
+    (ap (λ (l : List ℕ). concatMap (signedBytes 2) (divisionsIn s) ++ l) (sym (lib.Seq.drop-drop 16 20 s)) ∙ list-back 8 (drop 20 s) (bytes-drop 20 s p) d₂₀ ∙ sym (lib.Seq.drop-drop 16 4 s))
     ∙ list-back 8 (drop 4 s) (bytes-drop 4 s p) d₄)
-    ∙ signed-back 4 s p (omega arith))
+    ∙ signed-back 4 s p (omega arith)
 
-encode-read : (b : ℕ) (s : List ℕ) → T (ltb 0 (widthOf b)) → T (leb (widthOf b) (suc (length s))) → Bytes s → encodeCommand (readCommand b s) ++ drop (widthOf b - 1) s ≡ b ∷ s
-encode-read b s w l p = at₁ (eqb b 0x11) refl
+body-short : (k : Kind) (s : List ℕ) → Bytes s → 36 ≤ length s → encodeCommand (constraint (numbered 0 (readConstraint k s))) ++ drop 36 s ≡ opcode k ∷ s
+body-short k s p h = ap (λ (l : List ℕ). opcode k ∷ l) (body-rule s p h)
+
+body-long : (k : Kind) (s : List ℕ) → Bytes s → 38 ≤ length s → eqb (valueOf (take 2 s)) 0 ≡ false
+    → encodeCommand (constraint (numbered (valueOf (take 2 s)) (readConstraint k (drop 2 s)))) ++ drop 38 s ≡ numberedOpcode k ∷ s
+body-long k s p h z =
+    let t : List ℕ = drop 2 s in
+    let m : ℕ = valueOf (take 2 s) in
+    let R : List ℕ = signedBytes 4 (constantIn t) ++ concatMap (signedBytes 2) (axesIn t) ++ concatMap (signedBytes 2) (divisionsIn t) in
+    let l : 36 ≤ length t = omega (arith, lib.ListN.length-drop 2 s) in
+    ap (λ (x : Bool). (cond x (opcode k ∷ []) (numberedOpcode k ∷ bytesOf 2 m) ++ R) ++ drop 38 s) z
+    ∙ ap (λ (l : List ℕ). numberedOpcode k ∷ l)
+    (append-assoc (bytesOf 2 m) R (drop 38 s) ∙ ap (λ (l : List ℕ). bytesOf 2 m ++ l) (ap (λ (l : List ℕ). R ++ l) (sym (lib.Seq.drop-drop 36 2 s)) ∙ body-rule t (bytes-drop 2 s p) l) ∙ value-back 2 s p (omega arith))
+
+encode-read : (n : ℕ) (k : Counts) (b : ℕ) (s : List ℕ) → T (ltb 0 (widthOf b)) → T (leb (widthOf b) (suc (length s))) → refusal n k (readCommand b s) ≡ 0 → Bytes s → encodeCommand (readCommand b s) ++ drop (widthOf b - 1) s ≡ b ∷ s
+encode-read n k b s w l z p = at₁ (eqb b 0x11) refl
   where
     P : ℕ → Type 0
-    P c = T (leb (widthOf c) (suc (length s))) → encodeCommand (readCommand c s) ++ drop (widthOf c - 1) s ≡ c ∷ s
+    P c = T (leb (widthOf c) (suc (length s))) → refusal n k (readCommand c s) ≡ 0 → encodeCommand (readCommand c s) ++ drop (widthOf c - 1) s ≡ c ∷ s
 
-    is : (c : ℕ) → T (eqb b c) → P c → encodeCommand (readCommand b s) ++ drop (widthOf b - 1) s ≡ b ∷ s
-    is c t h = subst P (sym (eqb→eq b c t)) h l
+    is : (c : ℕ) → eqb b c ≡ true → P c → encodeCommand (readCommand b s) ++ drop (widthOf b - 1) s ≡ b ∷ s
+    is c e h = subst P (sym (eqb→eq b c (to-T (eqb b c) e))) h l z
+
+    -- a rule that is written with its number
+    long : (q : Kind) → 39 ≤ suc (length s) → (x : Bool) → eqb (valueOf (take 2 s)) 0 ≡ x → refusal n k (cond x misnumbered (constraint (numbered (valueOf (take 2 s)) (readConstraint q (drop 2 s))))) ≡ 0
+        → encodeCommand (cond x misnumbered (constraint (numbered (valueOf (take 2 s)) (readConstraint q (drop 2 s))))) ++ drop 38 s ≡ numberedOpcode q ∷ s
+    long q h true e z = absurd (no-misnumbered n k z)
+    long q h false e z = body-long q s p (le-of-suc-le-suc h) e
+
+    at₆ : (t : Bool) → eqb b 0x17 ≡ t → eqb b 0x16 ≡ false → eqb b 0x14 ≡ false → eqb b 0x13 ≡ false → eqb b 0x12 ≡ false → eqb b 0x11 ≡ false → encodeCommand (readCommand b s) ++ drop (widthOf b - 1) s ≡ b ∷ s
+    at₆ true e v u z y x = is 0x17 e (λ m r. long inequality (leb→le 39 (suc (length s)) m) (eqb (valueOf (take 2 s)) 0) refl r)
+    at₆ false e v u z y x = absurd (subst T (ap (λ (m : ℕ). ltb 0 m) none) w)
+      where
+        none : widthOf b ≡ 0
+        none = simp (x, y, z, u, v, e)
+
+    at₅ : (t : Bool) → eqb b 0x16 ≡ t → eqb b 0x14 ≡ false → eqb b 0x13 ≡ false → eqb b 0x12 ≡ false → eqb b 0x11 ≡ false → encodeCommand (readCommand b s) ++ drop (widthOf b - 1) s ≡ b ∷ s
+    at₅ true e u z y x = is 0x16 e (λ m r. long equality (leb→le 39 (suc (length s)) m) (eqb (valueOf (take 2 s)) 0) refl r)
+    at₅ false e u z y x = at₆ (eqb b 0x17) refl e u z y x
 
     at₄ : (t : Bool) → eqb b 0x14 ≡ t → eqb b 0x13 ≡ false → eqb b 0x12 ≡ false → eqb b 0x11 ≡ false → encodeCommand (readCommand b s) ++ drop (widthOf b - 1) s ≡ b ∷ s
-    at₄ true e z y x = is 0x14 (to-T (eqb b 0x14) e) (λ m. body-constraint inequality s p (le-of-suc-le-suc (leb→le 37 (suc (length s)) m)))
-    at₄ false e z y x = absurd (ap₄ (λ (a c d f : Bool). T (ltb 0 (cond a 1 (cond c (cond c 3 1 + 20) (cond (d || f) (cond c 3 1 + 36) 0))))) x y z e w)
-      where
-        ap₄ : (Q : Bool → Bool → Bool → Bool → Type 0) {a c d f : Bool} → a ≡ false → c ≡ false → d ≡ false → f ≡ false → Q a c d f → Q false false false false
-        ap₄ Q {a} {c} {d} {f} x y z e q = subst (λ (u : Bool). Q false false false u) e (subst (λ (u : Bool). Q false false u f) z (subst (λ (u : Bool). Q false u d f) y (subst (λ (u : Bool). Q u c d f) x q)))
+    at₄ true e z y x = is 0x14 e (λ m r. body-short inequality s p (le-of-suc-le-suc (leb→le 37 (suc (length s)) m)))
+    at₄ false e z y x = at₅ (eqb b 0x16) refl e z y x
 
     at₃ : (t : Bool) → eqb b 0x13 ≡ t → eqb b 0x12 ≡ false → eqb b 0x11 ≡ false → encodeCommand (readCommand b s) ++ drop (widthOf b - 1) s ≡ b ∷ s
-    at₃ true e y x = is 0x13 (to-T (eqb b 0x13) e) (λ m. body-constraint equality s p (le-of-suc-le-suc (leb→le 37 (suc (length s)) m)))
+    at₃ true e y x = is 0x13 e (λ m r. body-short equality s p (le-of-suc-le-suc (leb→le 37 (suc (length s)) m)))
     at₃ false e y x = at₄ (eqb b 0x14) refl e y x
 
     at₂ : (t : Bool) → eqb b 0x12 ≡ t → eqb b 0x11 ≡ false → encodeCommand (readCommand b s) ++ drop (widthOf b - 1) s ≡ b ∷ s
-    at₂ true e x = is 0x12 (to-T (eqb b 0x12) e) (λ m. body-12 s p (le-of-suc-le-suc (leb→le 23 (suc (length s)) m)))
+    at₂ true e x = is 0x12 e (λ m r. body-12 s p (le-of-suc-le-suc (leb→le 23 (suc (length s)) m)))
     at₂ false e x = at₃ (eqb b 0x13) refl e x
 
     at₁ : (t : Bool) → eqb b 0x11 ≡ t → encodeCommand (readCommand b s) ++ drop (widthOf b - 1) s ≡ b ∷ s
-    at₁ true e = is 0x11 (to-T (eqb b 0x11) e) (λ m. refl)
+    at₁ true e = is 0x11 e (λ m r. refl)
     at₁ false e = at₂ (eqb b 0x12) refl e
 
 pub bytes-back : (n : ℕ) (k : Counts) (s : List ℕ) (cs : List Command) → Parsed n k s cs → Bytes s → concatMap encodeCommand cs ≡ s
 bytes-back n k [] [] done p = refl
 bytes-back n k (_ ∷ _) (_ ∷ cs) (next b s w l z q) p =
     ap (λ (t : List ℕ). encodeCommand (readCommand b s) ++ t) (bytes-back n (counted k (readCommand b s)) (drop (widthOf b - 1) s) cs q (bytes-drop (widthOf b - 1) s (p .1)))
-    ∙ encode-read b s w l (p .1)
+    ∙ encode-read n k b s w l z (p .1)
 
--- a set has one encoding
+-- what is decoded encodes to its bytes
 pub encode-decode : (n : ℕ) (bs : List ℕ) (s : Set) → Bytes bs → decode n bs ≡ gives s → encode s ≡ bs
 unfolding decode parse encode
 encode-decode n bs s p e =
@@ -291,3 +323,7 @@ encode-decode n bs s p e =
     ∙ ap₂ (λ (x : List Division) (y : List Constraint). map division x ++ (map constraint y ++ commands (build (d .0) .rest))) (sym (c .0)) (sym (c .1))
     ∙ commands-back n k (d .0) u in
     ap (concatMap encodeCommand) same ∙ bytes-back n k bs (d .0) (d .1) p
+
+-- so a set has one encoding, and each of its rules: bytes that decode to one set are the same
+pub one-encoding : (n m : ℕ) (bs cs : List ℕ) (s : Set) → Bytes bs → Bytes cs → decode n bs ≡ gives s → decode m cs ≡ gives s → bs ≡ cs
+one-encoding n m bs cs s p q d e = sym (encode-decode n bs s p d) ∙ encode-decode m cs s q e

@@ -1,18 +1,20 @@
 -- What is encoded decodes to itself.
 use mathlib.Core.Path.{_≡_, refl, sym, ap, ap₂, _∙_, subst}
-use mathlib.Core.Bool.{Bool, true, cond}
+use mathlib.Core.Bool.{Bool, true, false, cond}
 use mathlib.Core.List.{List, [], _∷_, _++_, map, append-assoc}
 use Prim.Native.Nat.{ℕ, zero, suc, _+_, _*_, _-_, _≤_, _<_}
 use native.Mathlib.Nat.{le-refl}
 use native.Mathlib.Omega.{arith}
-use lib.Dec.{T, leb, ltb, eqb, leb→le, le→leb}
+use lib.Dec.{T, leb, ltb, eqb, leb→le, le→leb, lt→ltb, eqb→eq}
 use lib.IntN.{ℤ, pos, negsuc}
 use lib.Signed.{mag}
-use lib.ListN.{length, drop}
+use lib.ListN.{length, drop, length-append}
+use lib.Seq.{drop-drop, drop-at}
 use Rattle.integers.specs.LittleEndian.{value-bytes, signed-bytes}
 use Rattle.model.specs.Lists.{all, concatMap}
 use Rattle.model.specs.Sets.{Division, Kind, equality, inequality, Constraint, Set}
-use Rattle.codec.specs.Bytes.{refused, gives, bytesOf, valueOf, signed, signedBytes, Command, opens, division, constraint, opcode, encodeCommand, commands, encode, headOf, signedList, bodyIn, readDivision, readConstraint, Counts, coefficient, firstFailing, refusal, counted, widthOf, readCommand, Built, build, after, parse, setOf, axesFit, decode, headRefusal}
+use Rattle.model.specs.Numbers.{numbered}
+use Rattle.codec.specs.Bytes.{refused, gives, bytesOf, valueOf, signed, signedBytes, Command, opens, misnumbered, division, constraint, opcode, numberedOpcode, encodeCommand, commands, encode, headOf, signedList, bodyIn, readDivision, readConstraint, Counts, coefficient, firstFailing, refusal, counted, widthOf, readCommand, Built, build, after, parse, setOf, axesFit, decode, headRefusal}
 use Rattle.codec.proofs.Parsing.{parse-next}
 use Rattle.model.proofs.Count.{and-left, and-right, from-T, suc-inj, no-suc}
 
@@ -74,12 +76,14 @@ pub record DivisionFits (e : Division) : Type 0 where
 pub record ConstraintFits (r : Constraint) : Type 0 where
   pub axis-places : length (r .axes) ≡ 8
   pub division-places : length (r .divisions) ≡ 8
+  pub number : r .number < 65536
   pub constant : Fits 2147483648 (r .constant)
   pub axes : T (all coefficient (r .axes))
   pub divisions : T (all coefficient (r .divisions))
 
 abbrev pub CommandFits : Command → Type 0
 CommandFits opens = Unit {0}
+CommandFits misnumbered = ⊥
 CommandFits (division e) = DivisionFits e
 CommandFits (constraint r) = ConstraintFits r
 
@@ -98,13 +102,14 @@ read-division e t f =
       axes = (subst (λ (m : ℕ). signedList m (concatMap (signedBytes 2) (e .axes) ++ t) ≡ e .axes) (f .places) (list-back (e .axes) t (f .axes))) i;
     }
 
-read-constraint : (r : Constraint) (t : List ℕ) → ConstraintFits r → readConstraint (r .kind) (ruleBytes r t) ≡ r
-read-constraint r t f =
+read-constraint : (r : Constraint) (t : List ℕ) (m : ℕ) → m ≡ r .number → ConstraintFits r → numbered m (readConstraint (r .kind) (ruleBytes r t)) ≡ r
+read-constraint r t m q f =
     let d : signedList 8 (drop 16 (concatMap (signedBytes 2) (r .axes) ++ (concatMap (signedBytes 2) (r .divisions) ++ t))) ≡ r .divisions =
     ap (signedList 8) (past-8 (r .axes) (concatMap (signedBytes 2) (r .divisions) ++ t) (f .axis-places))
     ∙ subst (λ (m : ℕ). signedList m (concatMap (signedBytes 2) (r .divisions) ++ t) ≡ r .divisions) (f .division-places) (list-back (r .divisions) t (f .divisions)) in
     λ i. record {
       kind = r .kind;
+      number = q i;
       constant = signed-4 (r .constant) (f .constant) i;
       axes = (subst (λ (m : ℕ). signedList m (concatMap (signedBytes 2) (r .axes) ++ (concatMap (signedBytes 2) (r .divisions) ++ t)) ≡ r .axes) (f .axis-places) (list-back (r .axes) (concatMap (signedBytes 2) (r .divisions) ++ t) (f .axes))) i;
       divisions = d i;
@@ -128,33 +133,68 @@ parse-command n f k (division e) t h z =
     step n f k 0x12 (divisionBytes e t) (division e) t tt
     (le→leb 23 (suc (length (divisionBytes e t))) (let l = length-coefs (e .axes) 8 t (h .places) in omega arith))
     (ap division (read-division e t h)) z (past-8 (e .axes) t (h .places))
-parse-command n f k (constraint r) t h z =
-    ap (λ (s : List ℕ). parse n (suc f) k (opcode (r .kind) ∷ (signedBytes 4 (r .constant) ++ s))) (append-assoc (concatMap (signedBytes 2) (r .axes)) (concatMap (signedBytes 2) (r .divisions)) t)
-    ∙ step n f k (opcode (r .kind)) (ruleBytes r t) (constraint r) t (known (r .kind))
-    (le→leb (widthOf (opcode (r .kind))) (suc (length (ruleBytes r t))) (enough (r .kind)))
-    (as-constraint (r .kind) (ruleBytes r t) ∙ ap constraint (read-constraint r t h)) z (past (r .kind))
+parse-command n f k misnumbered t h z = absurd h
+parse-command n f k (constraint r) t h z = by (eqb (r .number) 0) refl
   where
-    known : (k : Kind) → T (ltb 0 (widthOf (opcode k)))
-    known equality = tt
-    known inequality = tt
+    s : List ℕ
+    s = ruleBytes r t
 
-    enough : (k : Kind) → widthOf (opcode k) ≤ suc (length (ruleBytes r t))
-    enough k = let a = length-coefs (r .axes) 8 (concatMap (signedBytes 2) (r .divisions) ++ t) (h .axis-places) in let b = length-coefs (r .divisions) 8 t (h .division-places) in let w = width k in omega arith
-      where
-        width : (k : Kind) → widthOf (opcode k) ≡ 37
-        width equality = refl
-        width inequality = refl
+    body : List ℕ
+    body = signedBytes 4 (r .constant) ++ concatMap (signedBytes 2) (r .axes) ++ concatMap (signedBytes 2) (r .divisions)
 
-    as-constraint : (k : Kind) (s : List ℕ) → readCommand (opcode k) s ≡ constraint (readConstraint k s)
-    as-constraint equality s = refl
-    as-constraint inequality s = refl
+    joined : body ++ t ≡ s
+    joined = ap (λ (l : List ℕ). signedBytes 4 (r .constant) ++ l) (append-assoc (concatMap (signedBytes 2) (r .axes)) (concatMap (signedBytes 2) (r .divisions)) t)
 
-    over : drop 16 (drop 16 (concatMap (signedBytes 2) (r .axes) ++ (concatMap (signedBytes 2) (r .divisions) ++ t))) ≡ t
-    over = ap (drop 16) (past-8 (r .axes) (concatMap (signedBytes 2) (r .divisions) ++ t) (h .axis-places)) ∙ past-8 (r .divisions) t (h .division-places)
+    size : length s ≡ 36 + length t
+    size = let a = length-coefs (r .axes) 8 (concatMap (signedBytes 2) (r .divisions) ++ t) (h .axis-places) in let b = length-coefs (r .divisions) 8 t (h .division-places) in omega arith
 
-    past : (k : Kind) → drop (widthOf (opcode k) - 1) (ruleBytes r t) ≡ t
-    past equality = sym (lib.Seq.drop-drop 16 16 (concatMap (signedBytes 2) (r .axes) ++ (concatMap (signedBytes 2) (r .divisions) ++ t))) ∙ over
-    past inequality = sym (lib.Seq.drop-drop 16 16 (concatMap (signedBytes 2) (r .axes) ++ (concatMap (signedBytes 2) (r .divisions) ++ t))) ∙ over
+    past : drop 36 s ≡ t
+    past =
+        sym (drop-drop 16 16 (concatMap (signedBytes 2) (r .axes) ++ (concatMap (signedBytes 2) (r .divisions) ++ t)))
+        ∙ ap (drop 16) (past-8 (r .axes) (concatMap (signedBytes 2) (r .divisions) ++ t) (h .axis-places)) ∙ past-8 (r .divisions) t (h .division-places)
+
+    -- under the command b, with the head m before the body
+    under : (b : ℕ) (m : List ℕ) → widthOf b ≡ 37 + length m → readCommand b (m ++ s) ≡ constraint r → parse n (suc f) k ((b ∷ m ++ body) ++ t) ≡ after (constraint r) (parse n f (counted k (constraint r)) t)
+    under b m w q =
+        let some : 0 < widthOf b = omega arith in
+        let room : widthOf b ≤ suc (length (m ++ s)) = let l = size in omega (arith, length-append m s) in
+        let behind : widthOf b - 1 ≡ length m + 36 = omega arith in
+        ap (λ (l : List ℕ). parse n (suc f) k (b ∷ l)) (append-assoc m body t ∙ ap (λ (l : List ℕ). m ++ l) joined)
+        ∙ step n f k b (m ++ s) (constraint r) t (lt→ltb 0 (widthOf b) some) (le→leb (widthOf b) (suc (length (m ++ s))) room) q z
+        (ap (λ (i : ℕ). drop i (m ++ s)) behind ∙ sym (drop-drop 36 (length m) (m ++ s)) ∙ ap (drop 36) (drop-at m s (length m) refl) ∙ past)
+
+    -- `13` and `14`
+    bare-width : (c : Kind) → widthOf (opcode c) ≡ 37
+    bare-width equality = refl
+    bare-width inequality = refl
+
+    read-bare : (c : Kind) → readCommand (opcode c) s ≡ constraint (numbered 0 (readConstraint c s))
+    read-bare equality = refl
+    read-bare inequality = refl
+
+    -- `16` and `17`
+    m : List ℕ
+    m = bytesOf 2 (r .number)
+
+    numbered-width : (c : Kind) → widthOf (numberedOpcode c) ≡ 39
+    numbered-width equality = refl
+    numbered-width inequality = refl
+
+    read-numbered : (c : Kind) → readCommand (numberedOpcode c) (m ++ s) ≡ cond (eqb (valueOf m) 0) misnumbered (constraint (numbered (valueOf m) (readConstraint c s)))
+    read-numbered equality = refl
+    read-numbered inequality = refl
+
+    value : valueOf m ≡ r .number
+    value = bytes-2 (r .number) (h .number)
+
+    by : (x : Bool) → eqb (r .number) 0 ≡ x → parse n (suc f) k (encodeCommand (constraint r) ++ t) ≡ after (constraint r) (parse n f (counted k (constraint r)) t)
+    by true e =
+        ap (λ (x : Bool). parse n (suc f) k ((cond x (opcode (r .kind) ∷ []) (numberedOpcode (r .kind) ∷ m) ++ body) ++ t)) e
+        ∙ under (opcode (r .kind)) [] (bare-width (r .kind)) (read-bare (r .kind) ∙ ap constraint (read-constraint r t 0 (sym (eqb→eq (r .number) 0 (subst T (sym e) tt))) h))
+    by false e =
+        ap (λ (x : Bool). parse n (suc f) k ((cond x (opcode (r .kind) ∷ []) (numberedOpcode (r .kind) ∷ m) ++ body) ++ t)) e
+        ∙ under (numberedOpcode (r .kind)) m (numbered-width (r .kind)) (read-numbered (r .kind)
+        ∙ ap (λ (x : Bool). cond x misnumbered (constraint (numbered (valueOf m) (readConstraint (r .kind) s)))) (ap (λ (v : ℕ). eqb v 0) value ∙ e) ∙ ap constraint (read-constraint r t (valueOf m) value h))
 
 -- ---- all commands
 
@@ -169,10 +209,18 @@ encode-nonempty (division e) t = omega (arith, more (concatMap (signedBytes 2) (
   where
     more : (s t : List ℕ) → length t ≤ length (s ++ t)
     more s t = omega (arith, lib.ListN.length-append s t)
-encode-nonempty (constraint r) t = omega (arith, more (concatMap (signedBytes 2) (r .axes) ++ concatMap (signedBytes 2) (r .divisions)) t)
+encode-nonempty misnumbered t = omega arith
+encode-nonempty (constraint r) t = by (eqb (r .number) 0)
   where
+    B : List ℕ
+    B = signedBytes 4 (r .constant) ++ concatMap (signedBytes 2) (r .axes) ++ concatMap (signedBytes 2) (r .divisions)
+
     more : (s t : List ℕ) → length t ≤ length (s ++ t)
     more s t = omega (arith, lib.ListN.length-append s t)
+
+    by : (x : Bool) → 1 + length t ≤ length ((cond x (opcode (r .kind) ∷ []) (numberedOpcode (r .kind) ∷ bytesOf 2 (r .number)) ++ B) ++ t)
+    by true = let m = more B t in omega arith
+    by false = let m = more (bytesOf 2 (r .number) ++ B) t in omega arith
 
 parse-all : (n : ℕ) (cs : List Command) (f : ℕ) (k : Counts) → length (concatMap encodeCommand cs) ≤ f → Accepted n k cs → parse n f k (concatMap encodeCommand cs) ≡ gives cs
 unfolding decode parse encode

@@ -16,7 +16,7 @@ use lib.Seq.{drop-cons, drop-drop}
 use Rattle.integers.specs.Mach.{clash}
 use Rattle.model.specs.Lists.{all}
 use Rattle.model.specs.Sets.{absent, equality}
-use Rattle.codec.specs.Bytes.{valueOf, signed, signedList, coefficient, within, constantFits, Command, opens, division, constraint, isDivision, bodyOf, headOf, bodyIn, Counts, refusal, counted, widthOf, kindOf, readConstraint, readCommand, Built, parse, decode, number, axesFit}
+use Rattle.codec.specs.Bytes.{valueOf, signed, signedList, coefficient, within, constantFits, Command, opens, misnumbered, division, constraint, isDivision, isNumbered, bodyOf, headOf, bodyIn, Counts, refusal, counted, widthOf, kindOf, readConstraint, isMisnumbered, readCommand, Built, parse, decode, number, axesFit}
 use Rattle.codec.specs.Places.{commandsOf, built, setFrom, bodyAt, divisionAt, constraintAt, Checked, opened}
 use Rattle.codec.specs.Accepting.{Over, Upto, InRange, DivisionThere, ConstraintThere, Leads, inBasic, Under, DivisionsTo, ConstraintsTo, Ends, Accepts}
 use Rattle.codec.specs.declared.accepting.Quick.{Quick}
@@ -58,6 +58,7 @@ module _ (n : ℕ) (s : List ℕ) where
   -- ---- one command
   added-length : (k : Counts) (c : Command) (x : Built) → k .basics + length (added c x .rest) ≡ counted k c .basics + length (x .rest)
   added-length k opens x = omega arith
+  added-length k misnumbered x = refl
   added-length k (division e) x = refl
   added-length k (constraint r) x = refl
 
@@ -121,13 +122,16 @@ module _ (n : ℕ) (s : List ℕ) where
         let x₂ = lt-ltb c 48 f in
         let x₃ = both (v .constant) (both (inner (all coefficient) at 4 (at + 5) (omega arith) (coefficients-in n (at + 5) s low high m r o u)) (inner (all coefficient) at 20 (at + 21) (omega arith) (coefficients-in d (at + 21) s below above w a p q))) in
         let x₄ = both (inner (absent n) at 4 (at + 5) (omega arith) (absents-in n (at + 5) s low high m r o u)) (inner (absent d) at 20 (at + 21) (omega arith) (absents-in d (at + 21) s below above w a p q)) in
-        leads-next at 37 (inBasic b d c) (constraint (constraintAt s at)) (read-constraint (getD s at 0) (drop (at + 1) s) not-opens not-division) wide (omega arith) (v .inside) (simp (x₁, x₂, x₃, x₄))
+        leads-next at 37 (inBasic b d c) (constraint (constraintAt s at)) (read-constraint (getD s at 0) (drop (at + 1) s) not-opens not-division named) wide (omega arith) (v .inside) (simp (x₁, x₂, x₃, x₄))
       where
         not-opens : getD s at 0 ≡ 0x11 → ⊥
         not-opens y = ⊎-elim (λ x. omega arith) (λ x. omega arith) (v .command)
 
         not-division : isDivision (getD s at 0) ≡ false
         not-division = ⊎-elim (λ x. ap isDivision x) (λ x. ap isDivision x) (v .command)
+
+        named : isMisnumbered (getD s at 0) (headOf (getD s at 0) (drop (at + 1) s)) ≡ false
+        named = ap (λ (x : Bool). x && eqb (headOf (getD s at 0) (drop (at + 1) s)) 0) (⊎-elim (λ x. ap isNumbered x) (λ x. ap isNumbered x) (v .command))
 
         wide : widthOf (getD s at 0) ≡ 37
         wide = ⊎-elim (λ x. ap widthOf x) (λ x. ap widthOf x) (v .command)

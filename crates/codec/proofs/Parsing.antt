@@ -14,9 +14,10 @@ use lib.Seq.{drop-cons, drop-drop}
 use lib.Dec.{ltb→lt}
 use Rattle.integers.specs.LittleEndian.{signed-ind}
 use Rattle.model.specs.Lists.{all}
-use Rattle.model.specs.Sets.{isZero, absent, equality, inequality}
-use Rattle.codec.specs.Bytes.{Answer, refused, gives, valueOf, signed, signedList, coefficient, within, constantFits, Command, opens, division, constraint, isOpening, isDivision, isConstraint, isEquality, goesOn, bodyOf, headOf, divisionBody, constraintBody, kindOf, Counts, firstFailing, testsOf, refusal, counted, widthOf, readDivision, readConstraint, bodyIn, readCommand, headRefusal, after, parse, setOf, axesFit, decode, number}
-use Rattle.codec.specs.Places.{longestConstraint}
+use Rattle.model.specs.Sets.{Constraint, isZero, absent, equality, inequality}
+use Rattle.model.specs.Numbers.{numbered}
+use Rattle.codec.specs.Bytes.{Answer, refused, gives, valueOf, signed, signedList, coefficient, within, constantFits, constantIn, axesIn, divisionsIn, Command, opens, division, constraint, isOpening, isDivision, isBare, isNumbered, isConstraint, isEquality, goesOn, hasHead, misnumbered, bodyOf, headOf, divisionBody, constraintBody, kindOf, Counts, firstFailing, testsOf, refusal, counted, widthOf, readDivision, readConstraint, bodyIn, isMisnumbered, readRule, readCommand, headRefusal, after, parse, setOf, axesFit, decode, number}
+use Rattle.codec.specs.Places.{bareWidth, numberedWidth, longestConstraint}
 
 -- ---- lists of coefficients
 pub all-more : (f : ℤ → Bool) (left p : ℕ) (s : List ℕ) → (left ≡ 0 → ⊥) → all f (signedList left (drop p s)) ≡ (f (signed 2 (valueOf (take 2 (drop p s)))) && all f (signedList (left - 1) (drop (p + 2) s)))
@@ -189,8 +190,29 @@ read-opens b s e = rw e
 pub read-division : (b : ℕ) (s : List ℕ) → isDivision b ≡ true → readCommand b s ≡ division (readDivision (headOf b s) (bodyIn b s))
 read-division b s e = let q : b ≡ 0x12 = eqb-true b 0x12 e in rw q
 
-pub read-constraint : (b : ℕ) (s : List ℕ) → (b ≡ 0x11 → ⊥) → isDivision b ≡ false → readCommand b s ≡ constraint (readConstraint (kindOf b) (bodyIn b s))
-read-constraint b s p f = let d : eqb b 0x11 ≡ false = ne-eqb b 0x11 p in simp (d, f)
+-- a rule, which is misnumbered or not
+module _ (b : ℕ) (s : List ℕ) (p : b ≡ 0x11 → ⊥) (f : isDivision b ≡ false) where
+  abbrev numbered-rule : Constraint
+  numbered-rule = numbered (headOf b s) (readConstraint (kindOf b) (bodyIn b s))
+
+  pub read-rule : readCommand b s ≡ readRule b (headOf b s) (bodyIn b s)
+  read-rule =
+      ap (λ (x : Bool). cond x opens (cond (isDivision b) (division (readDivision (headOf b s) (bodyIn b s))) (readRule b (headOf b s) (bodyIn b s)))) (ne-eqb b 0x11 p)
+      ∙ ap (λ (x : Bool). cond x (division (readDivision (headOf b s) (bodyIn b s))) (readRule b (headOf b s) (bodyIn b s))) f
+
+  read-misnumbered : isMisnumbered b (headOf b s) ≡ true → readCommand b s ≡ misnumbered
+  read-misnumbered g = read-rule ∙ ap (λ (x : Bool). cond x misnumbered (constraint numbered-rule)) g
+
+  pub read-constraint : isMisnumbered b (headOf b s) ≡ false → readCommand b s ≡ constraint numbered-rule
+  read-constraint g = read-rule ∙ ap (λ (x : Bool). cond x misnumbered (constraint numbered-rule)) g
+
+  -- both count as a rule
+  pub counted-rule : (k : Counts) → counted k (readCommand b s) ≡ record { basics = k .basics; divisions = k .divisions; constraints = k .constraints + 1 }
+  counted-rule k = ap (counted k) read-rule ∙ either (isMisnumbered b (headOf b s))
+    where
+      either : (x : Bool) → counted k (cond x misnumbered (constraint numbered-rule)) ≡ record { basics = k .basics; divisions = k .divisions; constraints = k .constraints + 1 }
+      either true = refl
+      either false = refl
 
 pub width-division : (b : ℕ) → isDivision b ≡ true → widthOf b ≡ bodyOf b + divisionBody
 width-division b e = let q : b ≡ 0x12 = eqb-true b 0x12 e in rw q
@@ -211,16 +233,33 @@ pub record IsConstraint (b : ℕ) : Type 0 where
   pub not-division : isDivision b ≡ false
   pub some : 0 < b
 
-pub constraint-code : (b : ℕ) → isConstraint b ≡ true → IsConstraint b
-constraint-code b e = go (eqb b 0x13) refl (eqb b 0x14) refl e
+-- a byte that is one of two
+one-of : (P : ℕ → Type 0) (b c d : ℕ) → (eqb b c || eqb b d) ≡ true → P c → P d → P b
+one-of P b c d e p q = go (eqb b c) refl (eqb b d) refl e
   where
-    is : (c : ℕ) → 0x12 < c → b ≡ c → IsConstraint b
-    is c h q = record { not-opens = λ z. omega arith; not-division = ne-eqb b 0x12 (λ z. omega arith); some = omega arith }
+    go : (x : Bool) → eqb b c ≡ x → (y : Bool) → eqb b d ≡ y → (x || y) ≡ true → P b
+    go true f y g e = subst P (sym (eqb-true b c f)) p
+    go false f true g e = subst P (sym (eqb-true b d g)) q
+    go false f false g e = absurd (subst T (sym e) tt)
 
-    go : (x : Bool) → eqb b 0x13 ≡ x → (y : Bool) → eqb b 0x14 ≡ y → (x || y) ≡ true → IsConstraint b
-    go true p y q e = is 0x13 (omega arith) (eqb-true b 0x13 p)
-    go false p true q e = is 0x14 (omega arith) (eqb-true b 0x14 q)
-    go false p false q e = absurd (subst T (sym e) tt)
+pub bare-code : (b : ℕ) → isConstraint b ≡ true → isNumbered b ≡ false → isBare b ≡ true
+bare-code b e f = go (isBare b) (isNumbered b) e f
+  where
+    go : (x y : Bool) → (x || y) ≡ true → y ≡ false → x ≡ true
+    go true y e f = refl
+    go false y e f = sym f ∙ e
+
+pub constraint-code : (b : ℕ) → isConstraint b ≡ true → IsConstraint b
+constraint-code b e =
+    let h : 0x12 < b = by (λ (x : Bool). isNumbered b ≡ x → 0x12 < b) (isNumbered b) (λ q z. one-of (λ (c : ℕ). 0x12 < c) b 0x16 0x17 z (omega arith) (omega arith))
+    (λ q z. one-of (λ (c : ℕ). 0x12 < c) b 0x13 0x14 (bare-code b e z) (omega arith) (omega arith)) refl in
+    record { not-opens = λ z. omega arith; not-division = ne-eqb b 0x12 (λ z. omega arith); some = omega arith }
+
+pub width-bare : (b : ℕ) → isBare b ≡ true → widthOf b ≡ bareWidth
+width-bare b e = one-of (λ (c : ℕ). widthOf c ≡ bareWidth) b 0x13 0x14 e refl refl
+
+pub width-numbered : (b : ℕ) → isNumbered b ≡ true → widthOf b ≡ numberedWidth
+width-numbered b e = one-of (λ (c : ℕ). widthOf c ≡ numberedWidth) b 0x16 0x17 e refl refl
 
 pub no-code : (b : ℕ) → isConstraint b ≡ false → (b ≡ 0x11 → ⊥) → isDivision b ≡ false → widthOf b ≡ 0
 no-code b e p f = let d : eqb b 0x11 ≡ false = ne-eqb b 0x11 p in simp (d, f, e)
@@ -237,16 +276,22 @@ pub off-code : (b : ℕ) → goesOn b ≡ false → (isDivision b ≡ false) × 
 off-code b e =
     let l = borrow.Author.Tests.ltb-false 0x11 b e in
     let x : eqb b 0x13 ≡ false = ne-eqb b 0x13 (λ z. omega arith) in let y : eqb b 0x14 ≡ false = ne-eqb b 0x14 (λ z. omega arith) in
-    (ne-eqb b 0x12 (λ z. omega arith), simp (x, y))
+    let u : eqb b 0x16 ≡ false = ne-eqb b 0x16 (λ z. omega arith) in let v : eqb b 0x17 ≡ false = ne-eqb b 0x17 (λ z. omega arith) in
+    (ne-eqb b 0x12 (λ z. omega arith), simp (x, y, u, v))
+
+-- the width by the tests of the first byte: it opens, is a division, a constraint, has a number
+abbrev widthBy : Bool → Bool → Bool → Bool → ℕ
+widthBy x y z m = cond x 1 (cond y (cond (y || m) 3 1 + divisionBody) (cond z (cond (y || m) 3 1 + constraintBody) 0))
 
 pub width-most : (b : ℕ) → widthOf b ≤ longestConstraint
-width-most b = go (isOpening b) (isDivision b) (isConstraint b)
+width-most b = go (isOpening b) (isDivision b) (isConstraint b) (isNumbered b)
   where
-    go : (x y z : Bool) → cond x 1 (cond y (cond y 3 1 + divisionBody) (cond z (cond y 3 1 + constraintBody) 0)) ≤ longestConstraint
-    go true y z = omega arith
-    go false true z = omega arith
-    go false false true = omega arith
-    go false false false = omega arith
+    go : (x y z m : Bool) → widthBy x y z m ≤ longestConstraint
+    go true y z m = omega arith
+    go false true z m = omega arith
+    go false false true true = omega arith
+    go false false true false = omega arith
+    go false false false m = omega arith
 
 pub kind-equality : (b : ℕ) → isEquality b ≡ true → kindOf b ≡ equality
 kind-equality b e = ap (λ (x : Bool). cond x equality inequality) e
@@ -254,32 +299,45 @@ kind-equality b e = ap (λ (x : Bool). cond x equality inequality) e
 pub kind-inequality : (b : ℕ) → isEquality b ≡ false → kindOf b ≡ inequality
 kind-inequality b e = ap (λ (x : Bool). cond x equality inequality) e
 
--- what stands before the body
-pub head-division : (b : ℕ) (s : List ℕ) → isDivision b ≡ true → headOf b s ≡ valueOf (take 2 s)
-head-division b s e = ap (λ (x : Bool). valueOf (take (cond x 3 1 - 1) s)) e
+-- what stands before the body: of a division, and of a rule with its number
+pub headed-division : (b : ℕ) → isDivision b ≡ true → hasHead b ≡ true
+headed-division b e = ap (λ (x : Bool). x || isNumbered b) e
 
-pub head-none : (b : ℕ) (s : List ℕ) → isDivision b ≡ false → headOf b s ≡ 0
+pub headed-numbered : (b : ℕ) → isNumbered b ≡ true → hasHead b ≡ true
+headed-numbered b e = one-of (λ (c : ℕ). hasHead c ≡ true) b 0x16 0x17 e refl refl
+
+pub headed-none : (b : ℕ) → isDivision b ≡ false → isNumbered b ≡ false → hasHead b ≡ false
+headed-none b e f = ap₂ (λ (x y : Bool). x || y) e f
+
+pub head-two : (b : ℕ) (s : List ℕ) → hasHead b ≡ true → headOf b s ≡ valueOf (take 2 s)
+head-two b s e = ap (λ (x : Bool). valueOf (take (cond x 3 1 - 1) s)) e
+
+pub head-none : (b : ℕ) (s : List ℕ) → hasHead b ≡ false → headOf b s ≡ 0
 head-none b s e = ap (λ (x : Bool). valueOf (take (cond x 3 1 - 1) s)) e
 
 -- the body of a command is behind its first byte, and as long as the command says
 pub body-behind : (b : ℕ) → 0 < bodyOf b
-body-behind b = by (λ (x : Bool). 0 < cond x 3 1) (isDivision b) (λ q. omega arith) (λ q. omega arith)
+body-behind b = by (λ (x : Bool). 0 < cond x 3 1) (hasHead b) (λ q. omega arith) (λ q. omega arith)
 
-pub body-division : (b : ℕ) → isDivision b ≡ true → bodyOf b ≡ 3
-body-division b e = ap (λ (x : Bool). cond x 3 1) e
+pub body-three : (b : ℕ) → hasHead b ≡ true → bodyOf b ≡ 3
+body-three b e = ap (λ (x : Bool). cond x 3 1) e
 
-pub body-other : (b : ℕ) → isDivision b ≡ false → bodyOf b ≡ 1
-body-other b e = ap (λ (x : Bool). cond x 3 1) e
+pub body-one : (b : ℕ) → hasHead b ≡ false → bodyOf b ≡ 1
+body-one b e = ap (λ (x : Bool). cond x 3 1) e
 
 pub body-in : (b : ℕ) → 0 < widthOf b → bodyOf b ≤ widthOf b
-body-in b h = go (eqb b 0x11) (isDivision b) (isConstraint b) (λ e. let q : b ≡ 0x11 = eqb-true b 0x11 e in ap isDivision q) h
+body-in b h =
+    go (eqb b 0x11) (isDivision b) (isConstraint b) (isNumbered b)
+    (λ e. let q : b ≡ 0x11 = eqb-true b 0x11 e in (ap isDivision q, ap isNumbered q)) h
   where
-    go : (x y z : Bool) → (x ≡ true → y ≡ false) → 0 < cond x 1 (cond y (cond y 3 1 + divisionBody) (cond z (cond y 3 1 + constraintBody) 0)) → cond y 3 1 ≤ cond x 1 (cond y (cond y 3 1 + divisionBody) (cond z (cond y 3 1 + constraintBody) 0))
-    go true true z d h = absurd (subst T (d refl) tt)
-    go true false z d h = omega arith
-    go false true z d h = omega arith
-    go false false true d h = omega arith
-    go false false false d h = absurd (omega arith)
+    go : (x y z m : Bool) → (x ≡ true → (y ≡ false) × (m ≡ false)) → 0 < widthBy x y z m → cond (y || m) 3 1 ≤ widthBy x y z m
+    go true true z m d h = absurd (subst T (d refl .0) tt)
+    go true false z true d h = absurd (subst T (d refl .1) tt)
+    go true false z false d h = omega arith
+    go false true z m d h = omega arith
+    go false false true true d h = omega arith
+    go false false true false d h = omega arith
+    go false false false m d h = absurd (omega arith)
 
 pub body-drop : (b : ℕ) (s : List ℕ) (at : ℕ) → drop (at + bodyOf b) s ≡ bodyIn b (drop (at + 1) s)
 body-drop b s at =
@@ -303,23 +361,49 @@ all-passed (t ∷ ts) p e = at (t .0) (t .1) (ltb 0 (t .1)) refl p e (λ q. all-
     at false m true q p e ih = let l = ltb-true 0 m q in absurd (omega arith)
     at b m false q p e ih = absurd p
 
+-- the tests of a rule in their order, also where it is misnumbered
+abbrev pub ruleTests : ℕ → Counts → ℕ → ℕ → List ℕ → List (Bool × ℕ)
+ruleTests n k b m t =
+    (ltb 0 (k .basics), 4)
+    ∷ (ltb (k .constraints) 48, 9)
+    ∷ (not (isMisnumbered b m), 17)
+    ∷ (constantFits (kindOf b) (constantIn t) && (all coefficient (axesIn t) && all coefficient (divisionsIn t)), 7)
+    ∷ (absent n (axesIn t) && absent (k .divisions) (divisionsIn t), 8)
+    ∷ []
+
+pub rule-tests : (n : ℕ) (k : Counts) (b m : ℕ) (t : List ℕ) → refusal n k (readRule b m t) ≡ firstFailing (ruleTests n k b m t)
+rule-tests n k b m t = by (λ (x : Bool). isMisnumbered b m ≡ x → refusal n k (readRule b m t) ≡ firstFailing (ruleTests n k b m t)) (isMisnumbered b m) (λ q e. simp e) (λ q e. simp e) refl
+
+-- a misnumbered rule is refused, always
+pub no-misnumbered : (n : ℕ) (k : Counts) → refusal n k misnumbered ≡ 0 → ⊥
+no-misnumbered n k z = all-passed (testsOf n k misnumbered) tt z .1 .1 .0
+
+pub well-numbered : (n : ℕ) (k : Counts) (b : ℕ) (s : List ℕ) → (b ≡ 0x11 → ⊥) → isDivision b ≡ false → refusal n k (readCommand b s) ≡ 0 → isMisnumbered b (headOf b s) ≡ false
+well-numbered n k b s p f z =
+    by (λ (x : Bool). isMisnumbered b (headOf b s) ≡ x → isMisnumbered b (headOf b s) ≡ false) (isMisnumbered b (headOf b s))
+    (λ q e. absurd (no-misnumbered n k (ap (refusal n k) (sym (read-misnumbered b s p f e)) ∙ z))) (λ q e. e) refl
+
 pub few-next : (n : ℕ) (k : Counts) (c : Command) → refusal n k c ≡ 0 → k .divisions ≤ 8 → counted k c .divisions ≤ 8
 few-next n k opens z h = omega arith
+few-next n k misnumbered z h = h
 few-next n k (division e) z h = let t = all-passed (testsOf n k (division e)) tt z in let l = ltb→lt (k .divisions) 8 (t .1 .1 .0) in omega arith
 few-next n k (constraint r) z h = h
 
 basics-next : (k : Counts) (c : Command) → counted k c .basics ≤ k .basics + 1
 basics-next k opens = omega arith
+basics-next k misnumbered = omega arith
 basics-next k (division e) = omega arith
 basics-next k (constraint r) = omega arith
 
 divisions-next : (k : Counts) (c : Command) → counted k c .divisions ≤ k .divisions + 1
 divisions-next k opens = omega arith
+divisions-next k misnumbered = omega arith
 divisions-next k (division e) = omega arith
 divisions-next k (constraint r) = omega arith
 
 constraints-next : (k : Counts) (c : Command) → counted k c .constraints ≤ k .constraints + 1
 constraints-next k opens = omega arith
+constraints-next k misnumbered = omega arith
 constraints-next k (division e) = omega arith
 constraints-next k (constraint r) = omega arith
 

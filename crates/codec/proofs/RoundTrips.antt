@@ -1,16 +1,17 @@
 -- What is decoded from checked bytes encodes to those bytes, and what is encoded decodes to what it was: for each basic set.
 use mathlib.Core.Path.{_≡_, refl, sym, ap, ap₂, _∙_, subst}
+use mathlib.Core.Bool.{Bool, true, false, cond}
 use mathlib.Core.List.{List, [], _∷_, _++_, map, append-nil}
 use Prim.Native.Nat.{ℕ, _+_, _-_, _*_, _≤_, _<_}
 use native.Mathlib.Omega.{arith}
-use lib.Dec.{T}
+use lib.Dec.{T, eqb}
 use lib.ListN.{length, take, drop, length-append}
 use lib.Seq.{take-at}
 use Rattle.integers.specs.LittleEndian.{bytes-drop}
 use Rattle.model.specs.Lists.{concatMap}
 use Rattle.model.specs.Sets.{Division, Constraint, BasicSet, Set}
-use Rattle.codec.specs.Bytes.{gives, Command, division, constraint, encodeCommand, commands, encode, signedBytes, axesFit, decode, number}
-use Rattle.codec.specs.Places.{commandsOf, built, basicAt, setFrom, divisionWidth, constraintWidth, widths, longestDivision, longestConstraint, longestBasic, longestSet, endOf, Boundary}
+use Rattle.codec.specs.Bytes.{gives, Command, division, constraint, constraintBody, opcode, numberedOpcode, ruleHead, bytesOf, encodeCommand, commands, encode, signedBytes, axesFit, decode, number}
+use Rattle.codec.specs.Places.{commandsOf, built, basicAt, setFrom, divisionWidth, bareWidth, numberedWidth, constraintWidth, widths, longestDivision, longestConstraint, longestBasic, longestSet, endOf, Boundary}
 use Rattle.codec.proofs.Decoded.{Bytes, bytes-back, commands-back, encode-decode}
 use Rattle.codec.proofs.Walking.{accepted-parsed, checked-unrefused}
 use Rattle.codec.proofs.Boundaries.{boundary-start, boundary-set, decode-is}
@@ -25,10 +26,27 @@ concat-size f P w h (a ∷ l) p = length-append (f a) (concatMap f l) ∙ ap₂ 
 division-size : (n : ℕ) (e : Division) → ValidDivision n e → length (encodeCommand (division e)) ≡ divisionWidth e
 division-size n e v = let l = v .places in let m = coefficients-length (e .axes) in omega arith
 
+-- of a rule, the command with its number and the body
+head-size : (r : Constraint) → length (ruleHead (r .kind) (r .number)) + constraintBody ≡ constraintWidth r
+head-size r = by (eqb (r .number) 0)
+  where
+    by : (x : Bool) → length (cond x (opcode (r .kind) ∷ []) (numberedOpcode (r .kind) ∷ bytesOf 2 (r .number))) + constraintBody ≡ cond x bareWidth numberedWidth
+    by true = refl
+    by false = refl
+
+constraint-most : (r : Constraint) → constraintWidth r ≤ longestConstraint
+constraint-most r = by (eqb (r .number) 0)
+  where
+    by : (x : Bool) → cond x bareWidth numberedWidth ≤ longestConstraint
+    by true = omega arith
+    by false = omega arith
+
 constraint-size : (n k : ℕ) (r : Constraint) → ValidConstraint n k r → length (encodeCommand (constraint r)) ≡ constraintWidth r
 constraint-size n k r v =
     let l = v .axis-places in let l′ = v .division-places in let m = coefficients-length (r .axes) in let m′ = coefficients-length (r .divisions) in
-    let a = length-append (concatMap (signedBytes 2) (r .axes)) (concatMap (signedBytes 2) (r .divisions)) in omega arith
+    let body : List ℕ = signedBytes 4 (r .constant) ++ concatMap (signedBytes 2) (r .axes) ++ concatMap (signedBytes 2) (r .divisions) in
+    let a = length-append (concatMap (signedBytes 2) (r .axes)) (concatMap (signedBytes 2) (r .divisions)) in
+    let b = length-append (ruleHead (r .kind) (r .number)) body in let h = head-size r in omega arith
 
 pub valid-size : (n : ℕ) (b : BasicSet) → Valid n b → length (encode (b ∷ [])) ≡ 1 + (widths divisionWidth (b .divisions) + widths constraintWidth (b .constraints))
 unfolding encode
@@ -47,7 +65,7 @@ divisions-most (e ∷ l) = let h = divisions-most l in omega arith
 
 constraints-most : (l : List Constraint) → widths constraintWidth l ≤ longestConstraint * length l
 constraints-most [] = omega arith
-constraints-most (r ∷ l) = let h = constraints-most l in omega arith
+constraints-most (r ∷ l) = let h = constraints-most l in let m = constraint-most r in omega arith
 
 pub valid-short : (n : ℕ) (b : BasicSet) → Valid n b → length (encode (b ∷ [])) ≤ longestBasic
 valid-short n b v =

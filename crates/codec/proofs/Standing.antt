@@ -1,7 +1,7 @@
 -- At a place among the divisions and constraints of a basic set of checked bytes: what stands there, and what comes
 -- after it.
 use mathlib.Core.Path.{_≡_, refl, sym, ap, _∙_, subst}
-use mathlib.Core.Bool.{Bool, true, false}
+use mathlib.Core.Bool.{Bool, true, false, _&&_, cond}
 use mathlib.Core.List.{List, [], _∷_}
 use mathlib.Core.Logic.{_⊎_, inl, inr}
 use Prim.Native.Nat.{ℕ, _+_, _-_, _≤_, _<_}
@@ -9,9 +9,9 @@ use native.Mathlib.Omega.{arith}
 use lib.Dec.{ltb, leb, eqb, ltb→lt}
 use lib.ListN.{length, drop, getD}
 use borrow.Author.Tests.{eqb-true, eqb-false, ltb-true, ltb-false}
-use Rattle.codec.specs.Bytes.{Command, opens, division, constraint, isDivision, isConstraint, goesOn, divisionBody, constraintBody, Counts, testsOf, refusal, counted, widthOf, Built}
-use Rattle.codec.specs.Places.{built, bodyAt, divisionAt, constraintAt, nextOf, divisionWidth, constraintWidth, widths, endOf, Whole, Checked}
-use Rattle.codec.proofs.Parsing.{all-passed, read-opens, read-division, read-constraint, width-division, width-constraint, division-code, constraint-code, no-code, other-code, on-code, off-code, body-room}
+use Rattle.codec.specs.Bytes.{Command, opens, division, constraint, isDivision, isNumbered, isConstraint, goesOn, headOf, divisionBody, constraintBody, Counts, testsOf, refusal, counted, widthOf, isMisnumbered, Built}
+use Rattle.codec.specs.Places.{built, bodyAt, divisionAt, constraintAt, nextOf, divisionWidth, bareWidth, numberedWidth, constraintWidth, widths, endOf, Whole, Checked}
+use Rattle.codec.proofs.Parsing.{all-passed, read-opens, read-division, read-constraint, width-division, width-constraint, width-bare, width-numbered, bare-code, well-numbered, headed-none, head-none, division-code, constraint-code, no-code, other-code, on-code, off-code, body-room}
 use Rattle.codec.proofs.Walking.{added, head, ordered, inside-of, built-end}
 use Rattle.model.proofs.Count.{and-left}
 
@@ -38,8 +38,12 @@ pub record ConstraintAt (n : ℕ) (s : List ℕ) (at : ℕ) (k : Counts) : Type 
 width-of-division : (b : ℕ) → isDivision b ≡ true → widthOf b ≡ 23
 width-of-division b e = let q : b ≡ 0x12 = eqb-true b 0x12 e in ap widthOf q
 
-width-of-constraint : (b : ℕ) → (b ≡ 0x11 → ⊥) → isDivision b ≡ false → isConstraint b ≡ true → widthOf b ≡ 37
-width-of-constraint b p f e = let d : eqb b 0x11 ≡ false = borrow.Author.Tests.ne-eqb b 0x11 p in simp (d, f, e)
+width-of-constraint : (b : ℕ) (s : List ℕ) → isDivision b ≡ false → isConstraint b ≡ true → isMisnumbered b (headOf b s) ≡ false → widthOf b ≡ cond (eqb (headOf b s) 0) bareWidth numberedWidth
+width-of-constraint b s f e g = go (isNumbered b) refl
+  where
+    go : (x : Bool) → isNumbered b ≡ x → widthOf b ≡ cond (eqb (headOf b s) 0) bareWidth numberedWidth
+    go true q = width-numbered b q ∙ sym (ap (λ (x : Bool). cond x bareWidth numberedWidth) (sym (ap (λ (x : Bool). x && eqb (headOf b s) 0) q) ∙ g))
+    go false q = width-bare b (bare-code b e q) ∙ sym (ap (λ (m : ℕ). cond (eqb m 0) bareWidth numberedWidth) (head-none b s (headed-none b f q)))
 
 module _ (n : ℕ) (s : List ℕ) (at : ℕ) (k : Counts) (c : Checked n s at k) where
   pub division-at : isDivision (getD s at 0) ≡ true → DivisionAt n s at k
@@ -64,9 +68,10 @@ module _ (n : ℕ) (s : List ℕ) (at : ℕ) (k : Counts) (c : Checked n s at k)
   pub constraint-at : isConstraint (getD s at 0) ≡ true → ConstraintAt n s at k
   constraint-at e =
       let i = constraint-code (getD s at 0) e in
-      let w = width-of-constraint (getD s at 0) (i .not-opens) (i .not-division) e in
       let h = head n s at k (widthOf (getD s at 0)) c (inside-of s at (getD s at 0) refl (i .some)) refl in
-      let r = read-constraint (getD s at 0) (drop (at + 1) s) (i .not-opens) (i .not-division) in
+      let g = well-numbered n k (getD s at 0) (drop (at + 1) s) (i .not-opens) (i .not-division) (h .none) in
+      let w = width-of-constraint (getD s at 0) (drop (at + 1) s) (i .not-division) e g in
+      let r = read-constraint (getD s at 0) (drop (at + 1) s) (i .not-opens) (i .not-division) g in
       let t = all-passed (testsOf n k (constraint (constraintAt s at))) tt (ap (refusal n k) (sym r) ∙ h .none) in
       let u : Checked n s (nextOf s at) (counted k (constraint (constraintAt s at))) = subst (λ (y : Command). Checked n s (nextOf s at) (counted k y)) r (h .there) in
       let b : built (drop at s) ≡ added (constraint (constraintAt s at)) (built (drop (nextOf s at) s)) = h .builds ∙ ap (λ (y : Command). added y (built (drop (nextOf s at) s))) r in

@@ -1,6 +1,6 @@
 -- What a decoded set is: valid basic sets over n axes, at most 32; and what is valid decodes from its encoding.
 use mathlib.Core.Path.{_≡_, refl, sym, ap, _∙_, subst}
-use mathlib.Core.Bool.{Bool, true, false, _&&_, cond}
+use mathlib.Core.Bool.{Bool, true, false, _&&_, _||_, cond}
 use mathlib.Core.List.{List, [], _∷_, _++_, map, append-assoc}
 use Prim.Native.Nat.{ℕ, zero, suc, _+_, _-_, _≤_, _<_, zero-le}
 use native.Mathlib.Nat.{zero-add, add-zero}
@@ -11,12 +11,13 @@ use lib.ListN.{length, take, drop, getD}
 use Rattle.integers.specs.LittleEndian.{bytes-drop, signed-mag}
 use Rattle.model.specs.Lists.{all}
 use Rattle.model.specs.Sets.{Division, Constraint, BasicSet, Set, absent}
-use Rattle.codec.specs.Bytes.{gives, valueOf, signedList, Command, opens, division, constraint, commands, encode, isDivision, bodyOf, headOf, bodyIn, kindOf, readDivision, readConstraint, readCommand, widthOf, Counts, within, coefficient, constantFits, testsOf, firstFailing, refusal, counted, Built, build, axesFit, decode}
+use Rattle.model.specs.Numbers.{numbered}
+use Rattle.codec.specs.Bytes.{gives, valueOf, signedList, Command, opens, misnumbered, division, constraint, commands, encode, isOpening, hasHead, isMisnumbered, isDivision, bodyOf, headOf, bodyIn, kindOf, readDivision, readConstraint, readCommand, widthOf, Counts, within, coefficient, constantFits, testsOf, firstFailing, refusal, counted, Built, build, axesFit, decode}
 use Rattle.codec.specs.Places.{commandsOf, built, setFrom, Boundary}
 use Rattle.model.proofs.Count.{and-left, and-right, and-make, from-T}
 use Rattle.codec.proofs.Encoded.{Fits, DivisionFits, ConstraintFits, Accepted, decode-encode}
 use Rattle.codec.proofs.Decoded.{Parsed, done, next, Bytes, decoded}
-use Rattle.codec.proofs.Parsing.{all-passed}
+use Rattle.codec.proofs.Parsing.{all-passed, no-misnumbered}
 use Rattle.codec.proofs.Walking.{accepted-parsed}
 
 -- ---- every element
@@ -50,6 +51,7 @@ pub record ValidDivision (n : ℕ) (e : Division) : Type 0 where
 pub record ValidConstraint (n k : ℕ) (r : Constraint) : Type 0 where
   pub axis-places : length (r .axes) ≡ 8
   pub division-places : length (r .divisions) ≡ 8
+  pub number : r .number < 65536
   pub width : Fits 2147483648 (r .constant)
   pub constant : T (constantFits (r .kind) (r .constant))
   pub axes : T (all coefficient (r .axes))
@@ -79,7 +81,7 @@ division-fits n e v =
     }
 
 constraint-fits : (n k : ℕ) (r : Constraint) → ValidConstraint n k r → ConstraintFits r
-constraint-fits n k r v = record { axis-places = v .axis-places; division-places = v .division-places; constant = v .width; axes = v .axes; divisions = v .divisions }
+constraint-fits n k r v = record { axis-places = v .axis-places; division-places = v .division-places; number = v .number; constant = v .width; axes = v .axes; divisions = v .divisions }
 
 -- no test of the list fails
 abbrev Passes : List (Bool × ℕ) → Type 0
@@ -170,6 +172,18 @@ value-4 (a ∷ b ∷ []) p = let x = p .0 in let y = p .1 .0 in omega arith
 value-4 (a ∷ b ∷ c ∷ []) p = let x = p .0 in let y = p .1 .0 in let z = p .1 .1 .0 in omega arith
 value-4 (a ∷ b ∷ c ∷ d ∷ s) p = let x = p .0 in let y = p .1 .0 in let z = p .1 .1 .0 in let w = p .1 .1 .1 .0 in omega arith
 
+value-2 : (s : List ℕ) → Bytes s → valueOf (take 2 s) < 65536
+value-2 [] p = omega arith
+value-2 (a ∷ []) p = let x = p .0 in omega arith
+value-2 (a ∷ b ∷ s) p = let x = p .0 in let y = p .1 .0 in omega arith
+
+head-small : (b : ℕ) (s : List ℕ) → Bytes s → headOf b s < 65536
+head-small b s p = by (hasHead b)
+  where
+    by : (x : Bool) → valueOf (take (cond x 3 1 - 1) s) < 65536
+    by true = value-2 s p
+    by false = omega arith
+
 length-signed : (k : ℕ) (s : List ℕ) → length (signedList k s) ≡ k
 length-signed zero s = refl
 length-signed (suc k) s = ap suc (length-signed k (drop 2 s))
@@ -177,16 +191,22 @@ length-signed (suc k) s = ap suc (length-signed k (drop 2 s))
 abbrev Read : Command → Type 0
 Read opens = Unit {0}
 Read (division e) = length (e .axes) ≡ 8
-Read (constraint r) = (length (r .axes) ≡ 8) × (length (r .divisions) ≡ 8) × Fits 2147483648 (r .constant)
+Read misnumbered = Unit {0}
+Read (constraint r) = (length (r .axes) ≡ 8) × (length (r .divisions) ≡ 8) × Fits 2147483648 (r .constant) × (r .number < 65536)
 
 read-shape : (b : ℕ) (s : List ℕ) → Bytes s → Read (readCommand b s)
-read-shape b s p = at (eqb b 0x11) (isDivision b)
+read-shape b s p = at (isOpening b) (isDivision b) (isMisnumbered b (headOf b s))
   where
-    at : (x y : Bool) → Read (cond x opens (cond y (division (readDivision (headOf b s) (bodyIn b s))) (constraint (readConstraint (kindOf b) (bodyIn b s)))))
-    at true y = tt
-    at false true = length-signed 8 (drop 4 (bodyIn b s))
-    at false false =
-        (length-signed 8 (drop 4 (bodyIn b s)), length-signed 8 (drop 20 (bodyIn b s)), signed-mag 4 2147483648 (valueOf (take 4 (bodyIn b s))) refl (value-4 (bodyIn b s) (bytes-drop (bodyOf b - 1) s p)))
+    at : (x y z : Bool) → Read (cond x opens (cond y (division (readDivision (headOf b s) (bodyIn b s))) (cond z misnumbered (constraint (numbered (headOf b s) (readConstraint (kindOf b) (bodyIn b s)))))))
+    at true y z = tt
+    at false true z = length-signed 8 (drop 4 (bodyIn b s))
+    at false false true = tt
+    at false false false = (
+      length-signed 8 (drop 4 (bodyIn b s)),
+      length-signed 8 (drop 20 (bodyIn b s)),
+      signed-mag 4 2147483648 (valueOf (take 4 (bodyIn b s))) refl (value-4 (bodyIn b s) (bytes-drop (bodyOf b - 1) s p)),
+      head-small b s p,
+    )
 
 -- read, and not refused where it stands
 abbrev Sound : ℕ → Counts → List Command → Type 0
@@ -230,6 +250,7 @@ made n k (opens ∷ cs) u =
       );
       few = λ h. let x = m .few (omega arith) in omega arith;
     }
+made n k (misnumbered ∷ cs) u = absurd (no-misnumbered n k (u .1))
 made n k (division e ∷ cs) u =
     let m = made n (counted k (division e)) cs (u .2) in
     let b : Built = build cs in
@@ -275,6 +296,7 @@ made n k (constraint r ∷ cs) u =
         record {
           axis-places = u .0 .0;
           division-places = u .0 .1;
+          number = u .0 .3;
           width = u .0 .2;
           constant = and-left (constantFits (r .kind) (r .constant)) (all coefficient (r .axes) && all coefficient (r .divisions)) c₇;
           axes = and-left (all coefficient (r .axes)) (all coefficient (r .divisions)) cs₇;

@@ -9,7 +9,7 @@ use lib.Dec.{T, ltb, leb, ltb→lt, leb→le}
 use lib.ListN.{length, drop, getD, drop-of-length-le, length-drop, List·getD-eq-default}
 use lib.Seq.{drop-cons, drop-drop}
 use borrow.Author.Tests.{ltb-true, ltb-false}
-use Rattle.codec.specs.Bytes.{gives, Command, opens, division, constraint, Counts, refusal, counted, widthOf, readCommand, headRefusal, Built, build, parse, number}
+use Rattle.codec.specs.Bytes.{gives, Command, opens, misnumbered, division, constraint, Counts, refusal, counted, widthOf, readCommand, headRefusal, Built, build, parse, number}
 use Rattle.codec.specs.Places.{commandsOf, built, Checked}
 use Rattle.codec.proofs.Parsing.{parse-next, number-after}
 use Rattle.codec.proofs.Split.{unless, refusalOf, parse-split, commands-fuel}
@@ -18,11 +18,13 @@ use Rattle.codec.proofs.Decoded.{Parsed, done, next, parsed, Unrefused,
 -- ---- what the bytes build, command by command
 abbrev pub added : Command → Built → Built
 added opens b = record { divisions = []; constraints = []; rest = record { divisions = b .divisions; constraints = b .constraints } ∷ b .rest }
+added misnumbered b = b
 added (division e) b = record { divisions = e ∷ b .divisions; constraints = b .constraints; rest = b .rest }
 added (constraint r) b = record { divisions = b .divisions; constraints = r ∷ b .constraints; rest = b .rest }
 
 build-added : (c : Command) (cs : List Command) → build (c ∷ cs) ≡ added c (build cs)
 build-added opens cs = refl
+build-added misnumbered cs = refl
 build-added (division e) cs = refl
 build-added (constraint r) cs = refl
 

@@ -10,7 +10,7 @@ use lib.Signed.{_≤ℤ_}
 use lib.ListN.{length, take, drop, getD, replicate}
 use Rattle.model.specs.Limits.{mostAxes, mostDivisions, mostConstraints, coefficientPlaces, mostCoefficient, mostDivisor}
 use Rattle.codec.specs.Bytes.{divisionByte, equalityByte, inequalityByte, valueOf, signed, divisionConstant, constantFits, kindOf, Counts, decode, number}
-use Rattle.codec.specs.Places.{setFrom, longestDivision, longestConstraint, divisionAt, constraintAt, Checked, opened}
+use Rattle.codec.specs.Places.{setFrom, longestDivision, bareWidth, divisionAt, constraintAt, Checked, opened}
 use Rattle.codec.specs.declared.accepting.Quick.{Quick}
 
 -- number i of those of 2 bytes from p on
@@ -46,7 +46,7 @@ pub record DivisionThere (s : List ℕ) (at : ℕ) : Type 0 where
 
 -- a constraint at a place, with its constant in range
 pub record ConstraintThere (s : List ℕ) (at : ℕ) : Type 0 where
-  pub inside : at + longestConstraint ≤ length s
+  pub inside : at + bareWidth ≤ length s
   pub command : (getD s at 0 ≡ equalityByte) ⊎ (getD s at 0 ≡ inequalityByte)
   pub constant : constantFits (kindOf (getD s at 0)) (constraintAt s at .constant) ≡ true
 
@@ -70,7 +70,7 @@ pub record DivisionsTo (s : List ℕ) (start at count : ℕ) (low high : List �
 -- constraints from a place on; low and high go on from those before them, below and above are those of the divisions
 pub record ConstraintsTo (s : List ℕ) (start : ℕ) (low₀ high₀ : List ℤ) (at : ℕ) (low high below above : List ℤ) : Type 0 where
   pub count : ℕ
-  pub place : at ≡ start + longestConstraint * count
+  pub place : at ≡ start + bareWidth * count
   pub inside : at ≤ length s
   pub lower : Under low low₀
   pub higher : Under high₀ high

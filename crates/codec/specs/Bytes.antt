@@ -1,5 +1,5 @@
 -- The bytes of a set, the refusals, and the operations on bytes (document 01, "Bytes of a set", "Refused").
-use mathlib.Core.Bool.{Bool, true, _&&_, _||_, cond}
+use mathlib.Core.Bool.{Bool, true, false, _&&_, _||_, cond}
 use mathlib.Core.List.{List, [], _∷_, _++_, map}
 use Prim.Native.Nat.{ℕ, zero, suc, _+_, _-_}
 use lib.IntN.{ℤ, pos, negsuc}
@@ -7,10 +7,11 @@ use lib.Dec.{leb, ltb, eqb}
 use lib.Signed.{leZ}
 use lib.ListN.{length, take, drop}
 use Rattle.model.specs.Limits.{mostAxes, mostDivisions, mostConstraints, mostBasicSets, mostCoefficient, mostDivisor, mostDivisionConstant}
-use Rattle.model.specs.Refusals.{badAxes, unknownCommand, cutShort, noBasicSet, lateDivision, badDivisor, outOfRange, notAbsent, tooMany}
+use Rattle.model.specs.Refusals.{badAxes, unknownCommand, cutShort, noBasicSet, lateDivision, badDivisor, outOfRange, notAbsent, tooMany, noNumber}
 pub use Rattle.integers.specs.LittleEndian.{bytesOf, valueOf, unsigned, signed, signedBytes}
 use Rattle.model.specs.Lists.{all, concatMap}
 use Rattle.model.specs.Sets.{Division, Kind, equality, inequality, Constraint, BasicSet, Set, absent}
+use Rattle.model.specs.Numbers.{numbered}
 
 -- a refusal with its number, or a result
 pub data Answer {ℓ} (A : Type ℓ) : Type ℓ where
@@ -19,7 +20,7 @@ pub data Answer {ℓ} (A : Type ℓ) : Type ℓ where
 
 -- ---- the layout: command bytes, and where the numbers of a command stand
 
--- "`11` opens a basic set", "`12` division", "`13` equality, `14` inequality"
+-- "`11` opens a basic set", "`12` division", "`13` equality, `14` inequality"; 02, 6: "Commands `16` (equality) and `17` (inequality)"
 abbrev pub openingByte : ℕ
 openingByte = 0x11
 
@@ -32,6 +33,12 @@ equalityByte = 0x13
 abbrev pub inequalityByte : ℕ
 inequalityByte = 0x14
 
+abbrev pub numberedEqualityByte : ℕ
+numberedEqualityByte = 0x16
+
+abbrev pub numberedInequalityByte : ℕ
+numberedInequalityByte = 0x17
+
 -- the command that opens a basic set, that of a division, of a rule, and of a rule that is an equality
 abbrev pub isOpening : ℕ → Bool
 isOpening b = eqb b openingByte
@@ -39,22 +46,33 @@ isOpening b = eqb b openingByte
 abbrev pub isDivision : ℕ → Bool
 isDivision b = eqb b divisionByte
 
+-- of rules, those without a number and those "with the number directly after the command byte"
+abbrev pub isBare : ℕ → Bool
+isBare b = eqb b equalityByte || eqb b inequalityByte
+
+abbrev pub isNumbered : ℕ → Bool
+isNumbered b = eqb b numberedEqualityByte || eqb b numberedInequalityByte
+
 abbrev pub isConstraint : ℕ → Bool
-isConstraint b = eqb b equalityByte || eqb b inequalityByte
+isConstraint b = isBare b || isNumbered b
 
 abbrev pub isEquality : ℕ → Bool
-isEquality b = eqb b equalityByte
+isEquality b = eqb b equalityByte || eqb b numberedEqualityByte
 
 -- a byte at which a basic set goes on: in checked bytes every command but the one that opens the next
 abbrev pub goesOn : ℕ → Bool
 goesOn b = ltb openingByte b
 
+-- a command with a number of 2 bytes before its body: the divisor of a division, the number of a rule
+abbrev pub hasHead : ℕ → Bool
+hasHead b = isDivision b || isNumbered b
+
 -- where the body of a command stands, counted from its first byte: its constant, its axes and, of a rule, its divisions
 abbrev pub bodyOf : ℕ → ℕ
-bodyOf b = cond (isDivision b) 3 1
+bodyOf b = cond (hasHead b) 3 1
 
--- what stands between a command's first byte and its body, as a number (the divisor of a division); 0 where nothing
--- does
+-- what stands between a command's first byte and its body, as a number (the divisor of a division, the number of a
+-- rule); 0 where nothing does
 abbrev pub headOf : ℕ → List ℕ → ℕ
 headOf b s = valueOf (take (bodyOf b - 1) s)
 
@@ -77,8 +95,9 @@ widthOf b = cond (isOpening b) 1 (cond (isDivision b) (bodyOf b + divisionBody) 
 
 -- ---- commands
 
+-- misnumbered: a `16` or `17` with number 0, which is always refused
 pub data Command : Type 0 where
-  opens : Command
+  opens misnumbered : Command
   division : Division → Command
   constraint : Constraint → Command
 
@@ -86,10 +105,20 @@ abbrev pub opcode : Kind → ℕ
 opcode equality = equalityByte
 opcode inequality = inequalityByte
 
+abbrev pub numberedOpcode : Kind → ℕ
+numberedOpcode equality = numberedEqualityByte
+numberedOpcode inequality = numberedInequalityByte
+
+-- "`13` and `14` read as number 0 and are what is written for it"
+abbrev pub ruleHead : Kind → ℕ → List ℕ
+ruleHead k m = cond (eqb m 0) (opcode k ∷ []) (numberedOpcode k ∷ bytesOf 2 m)
+
 abbrev pub encodeCommand : Command → List ℕ
 encodeCommand opens = openingByte ∷ []
+-- no set has one: its bytes do not matter
+encodeCommand misnumbered = numberedEqualityByte ∷ []
 encodeCommand (division e) = divisionByte ∷ bytesOf 2 (e .divisor) ++ signedBytes 4 (e .constant) ++ concatMap (signedBytes 2) (e .axes)
-encodeCommand (constraint r) = opcode (r .kind) ∷ signedBytes 4 (r .constant) ++ concatMap (signedBytes 2) (r .axes) ++ concatMap (signedBytes 2) (r .divisions)
+encodeCommand (constraint r) = ruleHead (r .kind) (r .number) ++ (signedBytes 4 (r .constant) ++ concatMap (signedBytes 2) (r .axes) ++ concatMap (signedBytes 2) (r .divisions))
 
 abbrev pub commands : Set → List Command
 commands s = concatMap (λ (b : BasicSet). opens ∷ map division (b .divisions) ++ map constraint (b .constraints)) s
@@ -116,7 +145,7 @@ abbrev pub readDivision : ℕ → List ℕ → Division
 readDivision d t = record { divisor = d; constant = constantIn t; axes = axesIn t }
 
 abbrev pub readConstraint : Kind → List ℕ → Constraint
-readConstraint k t = record { kind = k; constant = constantIn t; axes = axesIn t; divisions = divisionsIn t }
+readConstraint k t = record { kind = k; number = 0; constant = constantIn t; axes = axesIn t; divisions = divisionsIn t }
 
 -- ---- the refusals of one command, in their order; 0 is none
 
@@ -146,6 +175,7 @@ constantFits inequality z = true
 
 abbrev pub testsOf : ℕ → Counts → Command → List (Bool × ℕ)
 testsOf n k opens = (ltb (k .basics) mostBasicSets, tooMany) ∷ []
+testsOf n k misnumbered = (ltb 0 (k .basics), noBasicSet) ∷ (ltb (k .constraints) mostConstraints, tooMany) ∷ (false, noNumber) ∷ []
 testsOf n k (division e) =
     (ltb 0 (k .basics), noBasicSet)
     ∷ (eqb (k .constraints) 0, lateDivision)
@@ -166,6 +196,7 @@ refusal n k c = firstFailing (testsOf n k c)
 
 abbrev pub counted : Counts → Command → Counts
 counted k opens = record { basics = k .basics + 1; divisions = 0; constraints = 0 }
+counted k misnumbered = record { basics = k .basics; divisions = k .divisions; constraints = k .constraints + 1 }
 counted k (division e) = record { basics = k .basics; divisions = k .divisions + 1; constraints = k .constraints }
 counted k (constraint r) = record { basics = k .basics; divisions = k .divisions; constraints = k .constraints + 1 }
 
@@ -178,9 +209,17 @@ kindOf b = cond (isEquality b) equality inequality
 abbrev pub bodyIn : ℕ → List ℕ → List ℕ
 bodyIn b s = drop (bodyOf b - 1) s
 
+-- the rule with the command b, the number m and the body t
+abbrev pub isMisnumbered : ℕ → ℕ → Bool
+isMisnumbered b m = isNumbered b && eqb m 0
+
+abbrev pub readRule : ℕ → ℕ → List ℕ → Command
+readRule b m t = cond (isMisnumbered b m) misnumbered (constraint (numbered m (readConstraint (kindOf b) t)))
+
 -- the command b whose bytes after the first are s
 abbrev pub readCommand : ℕ → List ℕ → Command
-readCommand b s = cond (isOpening b) opens (cond (isDivision b) (division (readDivision (headOf b s) (bodyIn b s))) (constraint (readConstraint (kindOf b) (bodyIn b s))))
+readCommand b s =
+    cond (isOpening b) opens (cond (isDivision b) (division (readDivision (headOf b s) (bodyIn b s))) (readRule b (headOf b s) (bodyIn b s)))
 
 -- divisions and rules that follow, up to the next basic set, and the basic sets from there on
 pub record Built : Type 0 where
@@ -191,6 +230,7 @@ pub record Built : Type 0 where
 abbrev pub build : List Command → Built
 build [] = record { divisions = []; constraints = []; rest = [] }
 build (opens ∷ cs) = let b : Built = build cs in record { divisions = []; constraints = []; rest = record { divisions = b .divisions; constraints = b .constraints } ∷ b .rest }
+build (misnumbered ∷ cs) = build cs
 build (division e ∷ cs) = let b : Built = build cs in record { divisions = e ∷ b .divisions; constraints = b .constraints; rest = b .rest }
 build (constraint r ∷ cs) = let b : Built = build cs in record { divisions = b .divisions; constraints = r ∷ b .constraints; rest = b .rest }
 

@@ -1,14 +1,17 @@
 -- The bytes of a set from a place on: what the commands there build, and the records by which code goes through checked bytes.
 use mathlib.Core.Path.{_≡_}
+use mathlib.Core.Bool.{cond}
 use mathlib.Core.List.{List, [], _∷_}
 use Prim.Native.Nat.{ℕ, zero, suc, _+_, _-_, _*_, _≤_, _<_}
+use lib.Dec.{eqb}
 use lib.ListN.{length, drop, getD}
 use Rattle.model.specs.Limits.{mostDivisions, mostConstraints, mostBasicSets}
 use Rattle.model.specs.Sets as S
 use Rattle.model.specs.Sets.{Division, Constraint, Set}
+use Rattle.model.specs.Numbers.{numbered}
 use Rattle.model.specs.Values.{basicSetOf}
 use Rattle.model.specs.declared.BasicSet.{BasicSet}
-use Rattle.codec.specs.Bytes.{divisionByte, equalityByte, Command, Counts, headOf, bodyIn, widthOf, kindOf, readDivision, readConstraint, readCommand, Built, build, parse, decode, number}
+use Rattle.codec.specs.Bytes.{divisionByte, equalityByte, numberedEqualityByte, Command, Counts, headOf, bodyIn, widthOf, kindOf, readDivision, readConstraint, readCommand, Built, build, parse, decode, number}
 
 -- the commands of the bytes, whether or not they are refused; the first number bounds the length
 unfoldable pub commandsOf : ℕ → List ℕ → List Command
@@ -28,12 +31,18 @@ basicAt s at = record { divisions = built (drop at s) .divisions; constraints = 
 abbrev pub setFrom : List ℕ → ℕ → Set
 setFrom s at = built (drop at s) .rest
 
--- how many bytes a division and a rule are written with
+-- how many bytes a division and a rule are written with, a rule without and with its number
 abbrev pub divisionWidth : Division → ℕ
 divisionWidth e = widthOf divisionByte
 
+abbrev pub bareWidth : ℕ
+bareWidth = widthOf equalityByte
+
+abbrev pub numberedWidth : ℕ
+numberedWidth = widthOf numberedEqualityByte
+
 abbrev pub constraintWidth : Constraint → ℕ
-constraintWidth r = widthOf equalityByte
+constraintWidth r = cond (eqb (r .number) 0) bareWidth numberedWidth
 
 abbrev pub widths : {A : Type 0} → (A → ℕ) → List A → ℕ
 widths f [] = 0
@@ -44,7 +53,7 @@ abbrev pub longestDivision : ℕ
 longestDivision = widthOf divisionByte
 
 abbrev pub longestConstraint : ℕ
-longestConstraint = widthOf equalityByte
+longestConstraint = numberedWidth
 
 -- the most that a basic set of 8 divisions and 48 rules has, and a set of 32 of them
 abbrev pub longestBasic : ℕ
@@ -68,7 +77,7 @@ abbrev pub divisionAt : List ℕ → ℕ → Division
 divisionAt s at = readDivision (headAt s at) (bodyAt s at)
 
 abbrev pub constraintAt : List ℕ → ℕ → Constraint
-constraintAt s at = readConstraint (kindOf (getD s at 0)) (bodyAt s at)
+constraintAt s at = numbered (headAt s at) (readConstraint (kindOf (getD s at 0)) (bodyAt s at))
 
 -- the place after it
 abbrev pub nextOf : List ℕ → ℕ → ℕ

@@ -8,9 +8,9 @@ ghost use lib.ListN.{length};
 ghost use Rattle.model.specs.Limits.{mostAxes, coefficientPlaces};
 ghost use Rattle.codec.specs.Accepting.{Under, Over, Upto, rangesAllowed, InRange, DivisionsTo, ConstraintsTo, Ends, Accepts, DivisionThere, ConstraintThere};
 use crate::layout::AXES_PLACE;
+use crate::layout::BARE_HEAD;
+use crate::layout::BARE_WIDTH;
 use crate::layout::CONSTANT_PLACE;
-use crate::layout::CONSTRAINT_HEAD;
-use crate::layout::CONSTRAINT_WIDTH;
 use crate::layout::DIVISION;
 use crate::layout::DIVISION_HEAD;
 use crate::layout::DIVISION_WIDTH;
@@ -30,14 +30,14 @@ const DIVISION_CONSTANT: usize = DIVISION_HEAD + CONSTANT_PLACE;
 
 const DIVISION_AXES: usize = DIVISION_HEAD + AXES_PLACE;
 
-const CONSTRAINT_CONSTANT: usize = CONSTRAINT_HEAD + CONSTANT_PLACE;
+const CONSTRAINT_CONSTANT: usize = BARE_HEAD + CONSTANT_PLACE;
 
-const CONSTRAINT_AXES: usize = CONSTRAINT_HEAD + AXES_PLACE;
+const CONSTRAINT_AXES: usize = BARE_HEAD + AXES_PLACE;
 
-const CONSTRAINT_DIVISIONS: usize = CONSTRAINT_HEAD + DIVISIONS_PLACE;
+const CONSTRAINT_DIVISIONS: usize = BARE_HEAD + DIVISIONS_PLACE;
 
 // The width of as many constraints as a basic set may have.
-const CONSTRAINTS_WIDTH: usize = limit::CONSTRAINTS * CONSTRAINT_WIDTH;
+const CONSTRAINTS_WIDTH: usize = limit::CONSTRAINTS * BARE_WIDTH;
 
 // The table of ranges: the least at each place, as many zeros, the greatest, as many zeros.
 const RANGES: usize = 4 * limit::PLACES;
@@ -221,7 +221,7 @@ fn constraint_there(s: &[u8], at: usize) -> bool
     requires { ⌜ at ≤ length (now s) ⌝ }
     ensures { λ r. ⌜ (r ≡ true → ConstraintThere (now (s .entry)) at) ⌝ }
 {
-    if s.len() - at < CONSTRAINT_WIDTH {
+    if s.len() - at < BARE_WIDTH {
         return false;
     }
     if s[at] == INEQUALITY {
@@ -281,7 +281,7 @@ fn constraints(
         below = b;
         let a = raised(above, s, at + CONSTRAINT_DIVISIONS);
         above = a;
-        at += CONSTRAINT_WIDTH;
+        at += BARE_WIDTH;
     }
     ConstraintRun {
         at,

@@ -8,7 +8,7 @@ ghost use Rattle.model.specs.Lists.{all};
 ghost use Rattle.model.specs.Sets.{isZero};
 ghost use Rattle.model.specs.Limits.{mostAxes, mostDivisions, coefficientPlaces};
 ghost use Rattle.codec.specs.Bytes as B;
-ghost use Rattle.codec.specs.Bytes.{signed, signedList, coefficient, divisionConstant, constantFits, divisionBody, constraintBody, readDivision, readConstraint, readCommand, constraint, division, opens, refusal, headRefusal, decode, number, kindOf};
+ghost use Rattle.codec.specs.Bytes.{signed, signedList, coefficient, divisionConstant, constantFits, divisionBody, constraintBody, readDivision, isMisnumbered, readRule, readCommand, division, opens, refusal, headRefusal, decode, number, kindOf};
 ghost use Rattle.codec.specs.Checking.{countsOf, bitsAllowed};
 use crate::accepting::accepts;
 use crate::layout::AXES_PLACE;
@@ -19,6 +19,7 @@ use crate::layout::body;
 use crate::layout::head;
 use crate::layout::is_division;
 use crate::layout::is_equality;
+use crate::layout::is_numbered;
 use crate::layout::width;
 use integers::u16_at;
 use integers::u32_at;
@@ -158,10 +159,20 @@ fn division_refusal(n: usize, k: Counts, d: u64, t: &[u8], bits: &[u16]) -> u32
     0
 }
 
-// The refusal of a constraint whose command is b and whose body is t.
-fn constraint_refusal(n: usize, k: Counts, b: u8, t: &[u8], bits: &[u16]) -> u32
+// Whether a constraint whose command is b is written with a number, m, that is 0.
+fn is_misnumbered(b: u8, m: u64) -> bool
+    ensures { λ r. ⌜ r ≡ isMisnumbered b m ⌝ }
+{
+    if is_numbered(b) {
+        return m == 0;
+    }
+    false
+}
+
+// The refusal of a constraint whose command is b, whose head is m and whose body is t.
+fn constraint_refusal(n: usize, k: Counts, b: u8, m: u64, t: &[u8], bits: &[u16]) -> u32
     requires { ⌜ (constraintBody ≤ length (now t)) × (n ≤ mostAxes) × (k .divisions ≤ mostDivisions) × (now bits ≡ bitsAllowed) ⌝ }
-    ensures { λ r. ⌜ r ≡ refusal n (countsOf k) (constraint (readConstraint (kindOf b) (now (t .entry)))) ⌝ }
+    ensures { λ r. ⌜ r ≡ refusal n (countsOf k) (readRule b m (now (t .entry))) ⌝ }
 {
     let d = k.divisions;
     if k.basics == 0 {
@@ -169,6 +180,9 @@ fn constraint_refusal(n: usize, k: Counts, b: u8, t: &[u8], bits: &[u16]) -> u32
     }
     if limit::CONSTRAINTS <= k.constraints {
         return refusal::TOO_MANY;
+    }
+    if is_misnumbered(b, m) {
+        return refusal::NO_NUMBER;
     }
     if !constraint_constant_in(b, u32_at(t, CONSTANT_PLACE)) {
         return refusal::OUT_OF_RANGE;
@@ -205,10 +219,11 @@ fn head_refusal(n: usize, k: Counts, s: &[u8], at: usize, bits: &[u16]) -> u32
         return opens_refusal(n, k);
     }
     let t = body(s, at);
+    let m = head(s, at);
     if is_division(b) {
-        return division_refusal(n, k, head(s, at), t, bits);
+        return division_refusal(n, k, m, t, bits);
     }
-    constraint_refusal(n, k, b, t, bits)
+    constraint_refusal(n, k, b, m, t, bits)
 }
 
 // The counts after the command b.

@@ -65,6 +65,10 @@ outOfPlace = 15
 abbrev pub badFleet : ℕ
 badFleet = 16
 
+-- 02, 6: "17 for a `16` or `17` with number 0"
+abbrev pub noNumber : ℕ
+noNumber = 17
+
 -- 02, 8: "18 for a name over 15 or, in going back, never marked or forgotten"
 abbrev pub badName : ℕ
 badName = 18

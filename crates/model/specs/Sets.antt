@@ -32,6 +32,8 @@ pub data Kind : Type 0 where
 -- a rule: "an expression, constant plus coefficients times axes and divisions, that is = 0 (equality) or ≥ 0 (inequality)"
 pub record Constraint : Type 0 where
   pub kind : Kind
+  -- "the number in the mine's rulebook", 0 for none (document 02, request 6)
+  pub number : ℕ
   pub constant : ℤ
   pub axes : List ℤ
   pub divisions : List ℤ
@@ -101,10 +103,10 @@ unit (suc i) z = pos 0 ∷ unit i z
 
 -- the two bounds of the division at place i, as constraints: numerator − d·q ≥ 0, then d·q − numerator + d − 1 ≥ 0
 abbrev pub lower : ℕ → Division → Constraint
-lower i e = record { kind = inequality; constant = e .constant; axes = e .axes; divisions = unit i (negℤ (pos (e .divisor))) }
+lower i e = record { kind = inequality; number = 0; constant = e .constant; axes = e .axes; divisions = unit i (negℤ (pos (e .divisor))) }
 
 abbrev pub upper : ℕ → Division → Constraint
-upper i e = record { kind = inequality; constant = pos (e .divisor) -ℤ pos 1 -ℤ e .constant; axes = map negℤ (e .axes); divisions = unit i (pos (e .divisor)) }
+upper i e = record { kind = inequality; number = 0; constant = pos (e .divisor) -ℤ pos 1 -ℤ e .constant; axes = map negℤ (e .axes); divisions = unit i (pos (e .divisor)) }
 
 abbrev pub bounds : ℕ → List Division → List Constraint
 bounds i [] = []

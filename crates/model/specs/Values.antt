@@ -16,7 +16,7 @@ abbrev pub divisionOf : Division → S.Division
 divisionOf e = record { divisor = e .divisor; constant = e .constant; axes = e .axes }
 
 abbrev pub constraintOf : Constraint → S.Constraint
-constraintOf r = record { kind = kindIs (r .equality); constant = r .constant; axes = r .axes; divisions = r .divisions }
+constraintOf r = record { kind = kindIs (r .equality); number = r .number; constant = r .constant; axes = r .axes; divisions = r .divisions }
 
 abbrev pub basicSetOf : BasicSet → S.BasicSet
 basicSetOf b =

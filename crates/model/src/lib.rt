@@ -9,9 +9,10 @@ pub struct Division {
     pub axes: [i16; limit::AXES],
 }
 
-// constant + axes·x + divisions·q, that is = 0 (equality) or ≥ 0 (document 01: a rule)
+// constant + axes·x + divisions·q, that is = 0 (equality) or ≥ 0 (document 01: a rule); its number in the rulebook, 0 for none
 pub struct Constraint {
     pub equality: bool,
+    pub number: u16,
     pub constant: i32,
     pub axes: [i16; limit::AXES],
     pub divisions: [i16; limit::DIVISIONS],

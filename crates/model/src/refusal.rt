@@ -29,8 +29,10 @@ pub const NO_SUCH_SET: u32 = 14;
 
 pub const OUT_OF_PLACE: u32 = 15;
 
-// 02, requests 2, 8 and 12.
+// 02, requests 2, 6, 8 and 12.
 pub const BAD_FLEET: u32 = 16;
+
+pub const NO_NUMBER: u32 = 17;
 
 pub const BAD_NAME: u32 = 18;
 

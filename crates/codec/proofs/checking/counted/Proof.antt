@@ -3,7 +3,7 @@ use Prim.Native.Nat.{_-_}
 use borrow.Author.Needs.{needs}
 use Rattle.codec.specs.Bytes.{counted}
 use Rattle.codec.specs.Checking.{countsOf}
-use Rattle.codec.proofs.Parsing.{read-division, read-constraint}
+use Rattle.codec.proofs.Parsing.{read-division, counted-rule}
 use Rattle.codec.proofs.checking.counted.Statement.{statement}
 use Rattle.codec.proofs.checking.counted.Tie as tie
 
@@ -30,7 +30,7 @@ add-t7 c = search needs
 returns-3 : tie.Need-returns-3
 returns-3 c =
     let y = c .before in let d = y .before in let a = d .before .before .args in
-    λ t. sym (ap (counted (countsOf (a .k))) (read-constraint (a .b) t (d .before .if1 .left) (sym (d .is-division .ensures) ∙ y .if2 .left)))
+    λ t. sym (counted-rule (a .b) t (d .before .if1 .left) (sym (d .is-division .ensures) ∙ y .if2 .left) (countsOf (a .k)))
 
 pub counted-spec : {M : Type 1} → statement M
 counted-spec =

@@ -1,14 +1,15 @@
 use mathlib.Core.Path.{_≡_, sym, ap, ap₂, _∙_, subst}
+use mathlib.Core.Bool.{false}
 use mathlib.Core.List.{List}
 use Prim.Native.Nat.{ℕ, _+_, _-_, _≤_}
 use native.Mathlib.Omega.{arith}
 use lib.ListN.{length, drop, getD}
 use borrow.Author.Needs.{needs}
 use Rattle.codec.specs.Bytes as B
-use Rattle.codec.specs.Bytes.{kindOf, divisionBody, constraintBody, widthOf}
+use Rattle.codec.specs.Bytes.{isDivision, divisionBody, constraintBody, widthOf}
 use Rattle.codec.specs.Places.{Whole}
 use Rattle.codec.specs.Checking.{countsOf}
-use Rattle.codec.proofs.Parsing.{head-unknown, head-cut, head-at, read-opens, read-division, read-constraint, width-division, width-constraint, other-code, body-room}
+use Rattle.codec.proofs.Parsing.{head-unknown, head-cut, head-at, read-opens, read-division, read-rule, width-division, width-constraint, other-code, body-room}
 use Rattle.codec.proofs.checking.head_refusal.Statement.{statement}
 use Rattle.codec.proofs.checking.head_refusal.Tie as tie
 
@@ -74,34 +75,41 @@ is-division-requires : tie.Need-is-division-requires
 is-division-requires c κs = search needs
 
 head-requires : tie.Need-head-requires
-head-requires c κs = whole (c .before .before .before .before)
+head-requires c κs = whole (c .before .before)
 
 -- a division
 division-refusal-requires : tie.Need-division-refusal-requires
 division-refusal-requires c κs =
-    let y = c .before in let d = y .before in let o = d .before in let e = o .before .before in
-    (subst (λ (t : List ℕ). divisionBody ≤ length t) (sym (o .body .ensures)) (body-room (b e) (s e) (at e) divisionBody (width-division (b e) (sym (d .is-division .ensures) ∙ y .if4 .taken)) (room e)), st e .pre .1, st e .pre .3)
+    let d = c .before in let o = d .before .before in let e = o .before .before in
+    (subst (λ (t : List ℕ). divisionBody ≤ length t) (sym (o .body .ensures)) (body-room (b e) (s e) (at e) divisionBody (width-division (b e) (sym (d .is-division .ensures) ∙ c .if4 .taken)) (room e)), st e .pre .1, st e .pre .3)
 
 returns-4 : tie.Need-returns-4
 returns-4 c =
-    let h = c .before in let y = h .before in let d = y .before in let o = d .before in let e = o .before .before in
+    let y = c .before in let d = y .before in let h = d .before in let o = h .before in let e = o .before .before in
     c .division-refusal .ensures
     ∙ ap₂ (λ (m : ℕ) (t : List ℕ). B.refusal (st e .args .n) (k e) (B.division (B.readDivision m t))) (h .head .ensures .0) (o .body .ensures)
     ∙ ap (B.refusal (st e .args .n) (k e)) (sym (read-division (b e) (drop (at e + 1) (s e)) (sym (d .is-division .ensures) ∙ y .if4 .taken))) ∙ sym (refuses e)
 
--- a constraint
+-- a rule
+module _ (c : tie.Else4) where
+  abbrev o : tie.After-body
+  o = c .before .before .before
+
+  other : isDivision (b (o .before .before)) ≡ false
+  other = sym (c .before .is-division .ensures) ∙ c .if4 .left
+
 constraint-refusal-requires : tie.Need-constraint-refusal-requires
 constraint-refusal-requires c κs =
-    let d = c .before in let o = d .before in let e3 = o .before in let e = e3 .before in let f = sym (d .is-division .ensures) ∙ c .if4 .left in
-    let w = width-constraint (b e) (e3 .if3 .left) f (other-code (b e) (e3 .if3 .left) f (some e)) in
-    (subst (λ (t : List ℕ). constraintBody ≤ length t) (sym (o .body .ensures)) (body-room (b e) (s e) (at e) constraintBody w (room e)), st e .pre .1, st e .pre .2, st e .pre .3)
+    let e = o c .before .before in let n = o c .before .if3 .left in
+    let w = width-constraint (b e) n (other c) (other-code (b e) n (other c) (some e)) in
+    (subst (λ (t : List ℕ). constraintBody ≤ length t) (sym (o c .body .ensures)) (body-room (b e) (s e) (at e) constraintBody w (room e)), st e .pre .1, st e .pre .2, st e .pre .3)
 
 returns-5 : tie.Need-returns-5
 returns-5 c =
-    let y = c .before in let d = y .before in let o = d .before in let e3 = o .before in let e = e3 .before in
+    let y = c .before in let e = o y .before .before in
     c .constraint-refusal .ensures
-    ∙ ap (λ (t : List ℕ). B.refusal (st e .args .n) (k e) (B.constraint (B.readConstraint (kindOf (b e)) t))) (o .body .ensures)
-    ∙ ap (B.refusal (st e .args .n) (k e)) (sym (read-constraint (b e) (drop (at e + 1) (s e)) (e3 .if3 .left) (sym (d .is-division .ensures) ∙ y .if4 .left))) ∙ sym (refuses e)
+    ∙ ap₂ (λ (m : ℕ) (t : List ℕ). B.refusal (st e .args .n) (k e) (B.readRule (b e) m t)) (y .before .before .head .ensures .0) (o y .body .ensures)
+    ∙ ap (B.refusal (st e .args .n) (k e)) (sym (read-rule (b e) (drop (at e + 1) (s e)) (o y .before .if3 .left) (other y))) ∙ sym (refuses e)
 
 pub head-refusal-spec : {M : Type 1} → statement M
 head-refusal-spec =
@@ -115,8 +123,8 @@ head-refusal-spec =
     opens-refusal-requires
     returns-3
     body-requires
-    is-division-requires
     head-requires
+    is-division-requires
     division-refusal-requires
     returns-4
     constraint-refusal-requires
