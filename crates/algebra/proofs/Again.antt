@@ -1,15 +1,16 @@
 -- A result that is not refused is itself a set within all ranges: its bytes decode, to valid basic sets, at most 32 of them.
 use mathlib.Core.Path.{_≡_, subst}
-use mathlib.Core.Bool.{Bool}
+use mathlib.Core.Bool.{Bool, true, false, cond}
 use mathlib.Core.List.{List, [], _∷_, _++_}
 use Prim.Native.Nat.{ℕ, zero, suc, _/_, _≤_, _<_}
 use native.Mathlib.Nat.{mod-lt}
 use native.Mathlib.Omega.{arith}
+use lib.Dec.{eqb}
 use lib.IntN.{ℤ}
 use lib.ListN.{length}
 use Rattle.model.specs.Lists.{concatMap}
 use Rattle.model.specs.Sets.{Kind, equality, inequality, Set}
-use Rattle.codec.specs.Bytes.{Answer, gives, bytesOf, unsigned, signedBytes, Command, opens, division, constraint, opcode, encodeCommand, commands, encode, decode}
+use Rattle.codec.specs.Bytes.{Answer, gives, bytesOf, unsigned, signedBytes, Command, opens, misnumbered, division, constraint, opcode, numberedOpcode, ruleHead, encodeCommand, commands, encode, decode}
 use Rattle.codec.proofs.Decoded.{Bytes, no-way}
 use Rattle.codec.proofs.Valid.{All, Valid, decode-valid}
 use Rattle.algebra.specs.Operations.{unionBytes, intersectionBytes, differenceBytes, complementBytes}
@@ -35,20 +36,22 @@ bytes-list = bytes-concat (signedBytes 2) (λ z. bytes-number 2 (unsigned 2 z))
 
 bytes-command : (c : Command) → Bytes (encodeCommand c)
 bytes-command opens = (omega arith, tt)
+bytes-command misnumbered = (omega arith, tt)
 bytes-command (division e) = (
   omega arith,
   bytes-app (bytesOf 2 (e .divisor) ++ signedBytes 4 (e .constant)) (concatMap (signedBytes 2) (e .axes))
       (bytes-app (bytesOf 2 (e .divisor)) (signedBytes 4 (e .constant)) (bytes-number 2 (e .divisor)) (bytes-number 4 (unsigned 4 (e .constant)))) (bytes-list (e .axes)),
 )
-bytes-command (constraint r) = (
-  code (r .kind),
-  bytes-app (signedBytes 4 (r .constant) ++ concatMap (signedBytes 2) (r .axes)) (concatMap (signedBytes 2) (r .divisions))
-      (bytes-app (signedBytes 4 (r .constant)) (concatMap (signedBytes 2) (r .axes)) (bytes-number 4 (unsigned 4 (r .constant))) (bytes-list (r .axes))) (bytes-list (r .divisions)),
-)
+bytes-command (constraint r) =
+    bytes-app (ruleHead (r .kind) (r .number)) (signedBytes 4 (r .constant) ++ concatMap (signedBytes 2) (r .axes) ++ concatMap (signedBytes 2) (r .divisions)) (head (r .kind) (eqb (r .number) 0))
+    (bytes-app (signedBytes 4 (r .constant) ++ concatMap (signedBytes 2) (r .axes)) (concatMap (signedBytes 2) (r .divisions))
+    (bytes-app (signedBytes 4 (r .constant)) (concatMap (signedBytes 2) (r .axes)) (bytes-number 4 (unsigned 4 (r .constant))) (bytes-list (r .axes))) (bytes-list (r .divisions)))
   where
-    code : (k : Kind) → opcode k < 256
-    code equality = omega arith
-    code inequality = omega arith
+    head : (k : Kind) (x : Bool) → Bytes (cond x (opcode k ∷ []) (numberedOpcode k ∷ bytesOf 2 (r .number)))
+    head equality true = (omega arith, tt)
+    head inequality true = (omega arith, tt)
+    head equality false = (omega arith, bytes-number 2 (r .number))
+    head inequality false = (omega arith, bytes-number 2 (r .number))
 
 pub encode-bytes : (s : Set) → Bytes (encode s)
 unfolding encode

@@ -75,7 +75,7 @@ module _ (x : List ℤ) where
 -- ---- the exception: 2x − 1 = 0 has the point ½, is void, and leaves nothing of an intersection or a cut, whatever the test keeps
 
 pub half : BasicSet
-half = record { divisions = []; constraints = record { kind = equality; constant = negsuc 0; axes = pos 2 ∷ replicate 7 (pos 0); divisions = replicate 8 (pos 0) } ∷ [] }
+half = record { divisions = []; constraints = record { kind = equality; number = 0; constant = negsuc 0; axes = pos 2 ∷ replicate 7 (pos 0); divisions = replicate 8 (pos 0) } ∷ [] }
 
 pub half-point : T (meetsBasic (record { denominator = 2; positive = lit< tt; x = pos 1 ∷ []; q = [] }) half)
 unfolding half

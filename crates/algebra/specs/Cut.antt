@@ -14,14 +14,15 @@ use Rattle.algebra.specs.Tighten.{void, tight, solvable}
 use Rattle.feasibility.specs.Tableau.{Verdict, point, dropped, long, wide, test}
 
 -- ---- opposites: "The opposite of e ≥ 0 is −e − 1 ≥ 0. An equality e = 0 has two opposites, first e − 1 ≥ 0, then −e − 1 ≥ 0."
+-- "Opposites and tightened rules keep their number" (document 02, request 6); so does a rule whose coefficients move.
 
 -- e − 1 ≥ 0
 abbrev pub above : Constraint → Constraint
-above r = record { kind = inequality; constant = r .constant -ℤ pos 1; axes = r .axes; divisions = r .divisions }
+above r = record { kind = inequality; number = r .number; constant = r .constant -ℤ pos 1; axes = r .axes; divisions = r .divisions }
 
 -- −e − 1 ≥ 0
 abbrev pub below : Constraint → Constraint
-below r = record { kind = inequality; constant = negℤ (r .constant) -ℤ pos 1; axes = map negℤ (r .axes); divisions = map negℤ (r .divisions) }
+below r = record { kind = inequality; number = r .number; constant = negℤ (r .constant) -ℤ pos 1; axes = map negℤ (r .axes); divisions = map negℤ (r .divisions) }
 
 abbrev pub oppositesAt : Kind → Constraint → List Constraint
 oppositesAt equality r = above r ∷ below r ∷ []
@@ -84,7 +85,7 @@ move (i ∷ is) [] = replicate mostDivisions (pos 0)
 move (i ∷ is) (c ∷ cs) = addAt i c (move is cs)
 
 abbrev pub moveConstraint : List ℕ → Constraint → Constraint
-moveConstraint is r = record { kind = r .kind; constant = r .constant; axes = r .axes; divisions = move is (r .divisions) }
+moveConstraint is r = record { kind = r .kind; number = r .number; constant = r .constant; axes = r .axes; divisions = move is (r .divisions) }
 
 -- ---- the operations, with no limits
 

@@ -28,7 +28,7 @@ void r = cond (divisible r) (undivided (r .kind) (content r) (r .constant)) fals
 
 -- coefficients divided, which comes out even where g divides them; the constant rounded down
 abbrev pub dividedDown : ℕ → Constraint → Constraint
-dividedDown g r = record { kind = r .kind; constant = floorDiv (r .constant) g; axes = map (λ (z : ℤ). floorDiv z g) (r .axes); divisions = map (λ (z : ℤ). floorDiv z g) (r .divisions) }
+dividedDown g r = record { kind = r .kind; number = r .number; constant = floorDiv (r .constant) g; axes = map (λ (z : ℤ). floorDiv z g) (r .axes); divisions = map (λ (z : ℤ). floorDiv z g) (r .divisions) }
 
 -- "Rules with all coefficients 0 remain": their g is 0. What a void rule would be is used nowhere
 abbrev pub tight : Constraint → Constraint

@@ -12,9 +12,9 @@ use lib.Seq.{getD-drop, drop-drop}
 use Rattle.model.specs.Lists.{all}
 use Rattle.model.specs.Sets.{Division, Constraint}
 use Rattle.model.proofs.Count.{and-left, and-right}
-use Rattle.codec.specs.Bytes.{Command, opens, division, constraint, isDivision, isConstraint, goesOn, divisionBody, axesIn, constantFits, coefficient, Counts, testsOf, counted, Built, build, within}
+use Rattle.codec.specs.Bytes.{Command, opens, misnumbered, division, constraint, isDivision, isConstraint, goesOn, divisionBody, axesIn, constantFits, coefficient, Counts, testsOf, counted, Built, build, within}
 use Rattle.codec.specs.Places.{commandsOf, built, basicAt, bodyAt, divisionAt, constraintAt, nextOf, Whole, Checked, opened, Opened}
-use Rattle.codec.proofs.Parsing.{all-passed}
+use Rattle.codec.proofs.Parsing.{all-passed, no-misnumbered}
 use Rattle.codec.proofs.Decoded.{Unrefused}
 use Rattle.codec.proofs.Walking.{checked-unrefused}
 use Rattle.codec.proofs.Standing.{division-at, constraint-at, goes-on-at, ended-at}
@@ -44,6 +44,7 @@ small-axes l t = all-mono (omega arith) (within-all 32766 l t)
 small-build : (n : ℕ) (k : Counts) (cs : List Command) → Unrefused n k cs → Small (map divisionAxes (build cs .divisions)) × Small (map constraintAxes (build cs .constraints))
 small-build n k [] u = (small-nil, small-nil)
 small-build n k (opens ∷ cs) u = (small-nil, small-nil)
+small-build n k (misnumbered ∷ cs) u = absurd (no-misnumbered n k (u .0))
 small-build n k (division e ∷ cs) u =
     let b = small-build n (counted k (division e)) cs (u .1) in
     let t = all-passed (testsOf n k (division e)) tt (u .0) in
@@ -64,6 +65,7 @@ small-forms s at o =
 few-build : (n : ℕ) (k : Counts) (cs : List Command) → Unrefused n k cs → k .divisions ≤ 8 → k .constraints ≤ 48 → (k .divisions + length (build cs .divisions) ≤ 8) × (k .constraints + length (build cs .constraints) ≤ 48)
 few-build n k [] u d c = (omega arith, omega arith)
 few-build n k (opens ∷ cs) u d c = (omega arith, omega arith)
+few-build n k (misnumbered ∷ cs) u d c = absurd (no-misnumbered n k (u .0))
 few-build n k (division e ∷ cs) u d c =
     let l = ltb→lt (k .divisions) 8 (all-passed (testsOf n k (division e)) tt (u .0) .1 .1 .0) in
     let b = few-build n (counted k (division e)) cs (u .1) (omega arith) c in let x = b .0 in (omega arith, b .1)

@@ -20,7 +20,7 @@ use Rattle.candidates.specs.declared.survivors.Survivors.{Survivors}
 
 -- a constraint that no list has
 abbrev pub noRule : Constraint
-noRule = record { kind = inequality; constant = pos 0; axes = []; divisions = [] }
+noRule = record { kind = inequality; number = 0; constant = pos 0; axes = []; divisions = [] }
 
 -- the lent tables of the test for fractions have the sizes that it needs
 pub record Tables (rows : List (List ℤ)) (place kinds : List ℕ) : Type 0 where

@@ -27,7 +27,7 @@ first a = a ∷ replicate 7 (pos 0)
 
 -- c + a·x + b·q, that is = 0 or ≥ 0
 abbrev pub on : Kind → ℤ → ℤ → ℤ → Constraint
-on k c a b = record { kind = k; constant = c; axes = first a; divisions = first b }
+on k c a b = record { kind = k; number = 0; constant = c; axes = first a; divisions = first b }
 
 abbrev pub ge : ℤ → ℤ → Constraint
 ge c a = on inequality c a (pos 0)

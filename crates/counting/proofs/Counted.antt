@@ -238,7 +238,7 @@ module _ (n size : ℕ) (a : List ℕ) (ls hs : List ℤ) (axis limit : ℕ) (t 
 
 -- each point once, in however many basic sets it lies: x ≥ 1 and x ≥ 2 overlap, and from 0 to 4 there are four points
 abbrev atLeast : ℕ → BasicSet
-atLeast n = record { divisions = []; constraints = record { kind = inequality; constant = negℤ (pos n); axes = pos 1 ∷ []; divisions = [] } ∷ [] }
+atLeast n = record { divisions = []; constraints = record { kind = inequality; number = 0; constant = negℤ (pos n); axes = pos 1 ∷ []; divisions = [] } ∷ [] }
 
 pub overlap-once : countBox (atLeast 1 ∷ atLeast 2 ∷ []) (record { low = pos 0; high = pos 4 } ∷ []) (some 1) 5 ≡ record { count = counted 4 (0 ∷ 1 ∷ 1 ∷ 1 ∷ 1 ∷ []); tested = 5 }
 unfolding countBox members

@@ -19,7 +19,7 @@ use Rattle.extremes.specs.declared.Extent.the-variants.{Refused, Empty, 
 
 -- "one expression written as an inequality's numbers"
 abbrev pub expressionBy : ℤ → List ℤ → List ℤ → Constraint
-expressionBy z a d = record { kind = inequality; constant = z; axes = a; divisions = d }
+expressionBy z a d = record { kind = inequality; number = 0; constant = z; axes = a; divisions = d }
 
 abbrev pub expressionOf : Expression → Constraint
 expressionOf e = expressionBy (e .constant) (e .axes) (e .divisions)

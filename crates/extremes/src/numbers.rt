@@ -95,6 +95,7 @@ pub fn inequality_of(e: Expression) -> Constraint
     let divisions = narrowed(q);
     Constraint {
         equality: false,
+        number: 0,
         constant: z,
         axes: axes,
         divisions: divisions,

@@ -8,7 +8,7 @@ use Rattle.feasibility.specs.Tableau.{point, dropped, wide, bound, testA
 
 -- c + a·x ≥ 0
 abbrev ge : ℤ → ℤ → Constraint
-ge c a = record { kind = inequality; constant = c; axes = a ∷ []; divisions = [] }
+ge c a = record { kind = inequality; number = 0; constant = c; axes = a ∷ []; divisions = [] }
 
 abbrev pub over : List Constraint → BasicSet
 over rs = record { divisions = []; constraints = rs }
@@ -59,7 +59,7 @@ steep =
     )
   where
     rule : List ℤ → Constraint
-    rule axes = record { kind = inequality; constant = negsuc 0; axes = axes; divisions = [] }
+    rule axes = record { kind = inequality; number = 0; constant = negsuc 0; axes = axes; divisions = [] }
 
 pub far-wide-128 : (testAt 64 steep ≡ wide) × (test steep ≡ wide) × (pivotsMade steep ≡ 4)
 unfolding testEnds endsAt reach look exchange

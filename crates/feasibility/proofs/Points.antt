@@ -482,7 +482,7 @@ module _ (b : BasicSet) (s : Solution (sortOf (8 + length (b .divisions)) (condi
             subst T (sym (conditions-cleared n b (pos (natAbs (s .D))) x q over))
             (subst (λ (D : ℤ). T (all (holds D x q) (conditions b))) (sym denominator-is)
             (values (8 + k) (conditions b) (s .solves)
-            (λ i. subst (λ (o : Option Kind). T (not (violates o (s .w (8 + k + i))))) (kind-at (8 + k) (conditions b) (record { kind = equality; constant = pos 0; axes = []; divisions = [] }) i) (s .meets (8 + k + i)))));
+            (λ i. subst (λ (o : Option Kind). T (not (violates o (s .w (8 + k + i))))) (kind-at (8 + k) (conditions b) (record { kind = equality; number = 0; constant = pos 0; axes = []; divisions = [] }) i) (s .meets (8 + k + i)))));
       }
     where
       above : (z : ℤ) → pos 0 <ℤ z → 0 < natAbs z

@@ -15,7 +15,7 @@ use Rattle.model.specs.Lists.{all}
 use Rattle.model.specs.Sets.{Set}
 use Rattle.model.specs.Existential.{ExistsIn}
 use Rattle.model.proofs.Count.{and-left, and-right}
-use Rattle.codec.specs.Bytes.{Answer, refused, gives, decode, axesFit, build, Command, opens, division, constraint, Counts, counted, firstFailing, testsOf, refusal, widthOf, readCommand, headRefusal}
+use Rattle.codec.specs.Bytes.{Answer, refused, gives, decode, axesFit, build, Command, opens, misnumbered, division, constraint, Counts, counted, firstFailing, testsOf, refusal, widthOf, readCommand, headRefusal}
 use Rattle.codec.specs.Places.{commandsOf}
 use Rattle.codec.proofs.Decoded.{no-way}
 use Rattle.codec.proofs.Parsing.{start}
@@ -47,32 +47,33 @@ first-most m (t ∷ ts) h =
     at true p q = q
     at false p q = p
 
-refusal-most : (n : ℕ) (k : Counts) (c : Command) → refusal n k c ≤ 9
-refusal-most n k opens = first-most 9 (testsOf n k opens) tt
-refusal-most n k (division e) = first-most 9 (testsOf n k (division e)) tt
-refusal-most n k (constraint r) = first-most 9 (testsOf n k (constraint r)) tt
+refusal-most : (n : ℕ) (k : Counts) (c : Command) → refusal n k c ≤ 17
+refusal-most n k opens = first-most 17 (testsOf n k opens) tt
+refusal-most n k misnumbered = first-most 17 (testsOf n k misnumbered) tt
+refusal-most n k (division e) = first-most 17 (testsOf n k (division e)) tt
+refusal-most n k (constraint r) = first-most 17 (testsOf n k (constraint r)) tt
 
-head-most : (n : ℕ) (k : Counts) (b : ℕ) (s : List ℕ) → headRefusal n k b s ≤ 9
+head-most : (n : ℕ) (k : Counts) (b : ℕ) (s : List ℕ) → headRefusal n k b s ≤ 17
 unfolding headRefusal
 head-most n k b s = at (ltb 0 (widthOf b)) (leb (widthOf b) (suc (length s))) (refusal n k (readCommand b s)) (refusal-most n k (readCommand b s))
   where
-    at : (p q : Bool) (r : ℕ) → r ≤ 9 → firstFailing ((p, 2) ∷ (q, 3) ∷ (eqb r 0, r) ∷ []) ≤ 9
+    at : (p q : Bool) (r : ℕ) → r ≤ 17 → firstFailing ((p, 2) ∷ (q, 3) ∷ (eqb r 0, r) ∷ []) ≤ 17
     at false q r h = omega arith
     at true false r h = omega arith
     at true true r h = last (eqb r 0)
       where
-        last : (c : Bool) → cond c 0 r ≤ 9
+        last : (c : Bool) → cond c 0 r ≤ 17
         last true = omega arith
         last false = h
 
-refused-most : (n f : ℕ) (k : Counts) (s : List ℕ) → refusalOf n f k s ≤ 9
+refused-most : (n f : ℕ) (k : Counts) (s : List ℕ) → refusalOf n f k s ≤ 17
 unfolding refusalOf
 refused-most n zero k s = omega arith
 refused-most n (suc f) k [] = omega arith
 refused-most n (suc f) k (b ∷ s) = at (headRefusal n k b s) (head-most n k b s) (refused-most n f (counted k (readCommand b s)) (drop (widthOf b - 1) s))
   where
-    at : (m : ℕ) → m ≤ 9 → refusalOf n f (counted k (readCommand b s)) (drop (widthOf b - 1) s) ≤ 9
-        → elim m [ zero ↦ refusalOf n f (counted k (readCommand b s)) (drop (widthOf b - 1) s) | suc i ↦ suc i ] ≤ 9
+    at : (m : ℕ) → m ≤ 17 → refusalOf n f (counted k (readCommand b s)) (drop (widthOf b - 1) s) ≤ 17
+        → elim m [ zero ↦ refusalOf n f (counted k (readCommand b s)) (drop (widthOf b - 1) s) | suc i ↦ suc i ] ≤ 17
     at zero h r = r
     at (suc m) h r = h
 
@@ -80,7 +81,7 @@ decode-few : (n : ℕ) (s : List ℕ) → Few (decode n s)
 unfolding decode′
 decode-few n s = subst Few (sym (decode-split n s)) (at (build (commandsOf (length s) s) .rest) (axesFit n) (refusalOf n (length s) start s) (refused-most n (length s) start s))
   where
-    at : (u : Set) (c : Bool) (m : ℕ) → m ≤ 9 → Few (cond c (unless m u) (refused 1))
+    at : (u : Set) (c : Bool) (m : ℕ) → m ≤ 17 → Few (cond c (unless m u) (refused 1))
     at u true zero h = tt
     at u true (suc m) h = (zero-lt-suc m, omega arith)
     at u false m h = (zero-lt-suc 0, omega arith)

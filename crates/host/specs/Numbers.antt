@@ -105,7 +105,7 @@ saidNumber (RefusedBy k) = negℤ (pos k)
 
 -- a rule's numbers
 abbrev pub ruleBy : Bool → ℤ → List ℤ → List ℤ → Constraint
-ruleBy equality constant axes divisions = record { kind = kindIs equality; constant = constant; axes = axes; divisions = divisions }
+ruleBy equality constant axes divisions = record { kind = kindIs equality; number = 0; constant = constant; axes = axes; divisions = divisions }
 
 -- the contract of a call on a state that is `a`: the number r, and every word of the four tables after the call
 pub record StateHosted (a : Step) (r : ℤ) (tables : Memory) : Type 0 where

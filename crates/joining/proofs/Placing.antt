@@ -35,7 +35,7 @@ abbrev pub noDivision : Stored
 noDivision = record { divisor = 0; constant = pos 0; axes = [] }
 
 abbrev pub noConstraint : StoredConstraint
-noConstraint = record { equality = false; constant = pos 0; axes = []; divisions = [] }
+noConstraint = record { equality = false; number = 0; constant = pos 0; axes = []; divisions = [] }
 
 -- ---- every element
 

@@ -148,12 +148,14 @@ pub fn moved(c: Constraint, places: [usize; limit::DIVISIONS], n: usize) -> Cons
     ensures { λ r. ⌜ constraintOf r ≡ moveConstraint (take n places) (constraintOf c) ⌝ }
 {
     let equality = c.equality;
+    let number = c.number;
     let constant = c.constant;
     let axes = c.axes;
     let d = c.divisions;
     let divisions = at_places(d, places, n);
     Constraint {
         equality,
+        number,
         constant,
         axes,
         divisions,

@@ -34,11 +34,12 @@ fn negated(xs: [i16; limit::PLACES]) -> [i16; limit::PLACES]
     ]
 }
 
-// −e − 1 ≥ 0. The constant is −1 − c, which fits for every c of 32 bits.
+// −e − 1 ≥ 0, under the rule's number. The constant is −1 − c, which fits for every c of 32 bits.
 pub fn below(c: Constraint) -> Constraint
     requires { ⌜ Below (constraintOf c) ⌝ }
     ensures { λ r. ⌜ constraintOf r ≡ C.below (constraintOf c) ⌝ }
 {
+    let m = c.number;
     let k = c.constant;
     let a = c.axes;
     let d = c.divisions;
@@ -46,22 +47,25 @@ pub fn below(c: Constraint) -> Constraint
     let divisions = negated(d);
     Constraint {
         equality: false,
+        number: m,
         constant: -1 - k,
         axes,
         divisions,
     }
 }
 
-// e − 1 ≥ 0, of an equality.
+// e − 1 ≥ 0, of an equality, under its number.
 pub fn above(c: Constraint) -> Constraint
     requires { ⌜ Above (constraintOf c) ⌝ }
     ensures { λ r. ⌜ constraintOf r ≡ C.above (constraintOf c) ⌝ }
 {
+    let number = c.number;
     let k = c.constant;
     let axes = c.axes;
     let divisions = c.divisions;
     Constraint {
         equality: false,
+        number,
         constant: k - 1,
         axes,
         divisions,

@@ -124,6 +124,7 @@ fn divided_down(c: Constraint, g: u64) -> Constraint
     ensures { λ r. ⌜ constraintOf r ≡ T.dividedDown g (constraintOf c) ⌝ }
 {
     let equality = c.equality;
+    let number = c.number;
     let k = c.constant;
     let a = c.axes;
     let d = c.divisions;
@@ -131,6 +132,7 @@ fn divided_down(c: Constraint, g: u64) -> Constraint
     let divisions = quotients(d, g);
     Constraint {
         equality,
+        number,
         constant: integers::floor_div(k as i64, g as i64) as i32,
         axes,
         divisions,

@@ -13,7 +13,7 @@ abbrev least : ℤ
 least = pos 1
 
 abbrev rule : Kind → ℤ → List ℤ → Constraint
-rule k c a = record { kind = k; constant = c; axes = a; divisions = [] }
+rule k c a = record { kind = k; number = 0; constant = c; axes = a; divisions = [] }
 
 abbrev ge : ℤ → List ℤ → Constraint
 ge c a = rule inequality c a
@@ -86,7 +86,7 @@ unfolding extremeOf climb climbOn aim reach look exchange
 none-at-all = refl
 
 -- q = floor(x / 10) and 15 − x ≥ 0: with fractions q may be x / 10
-divided : extremeOf greatest (record { divisions = record { divisor = 10; constant = pos 0; axes = pos 1 ∷ [] } ∷ []; constraints = ge (pos 15) (negsuc 0 ∷ []) ∷ [] }) (record { kind = inequality; constant = pos 0; axes = []; divisions = pos 1 ∷ [] })
+divided : extremeOf greatest (record { divisions = record { divisor = 10; constant = pos 0; axes = pos 1 ∷ [] } ∷ []; constraints = ge (pos 15) (negsuc 0 ∷ []) ∷ [] }) (record { kind = inequality; number = 0; constant = pos 0; axes = []; divisions = pos 1 ∷ [] })
     ≡ attained (pos 3) 2
 unfolding extremeOf climb climbOn aim reach look exchange
 divided = refl

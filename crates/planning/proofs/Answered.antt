@@ -13,7 +13,7 @@ use Rattle.planning.specs.State.{State, begun, begunAt, rowAt, added, ad
 use Rattle.planning.specs.Desk.{Call, start, add, mark, back, words, wordsAt}
 
 abbrev ge : ℤ → List ℤ → Constraint
-ge c a = record { kind = inequality; constant = c; axes = a; divisions = [] }
+ge c a = record { kind = inequality; number = 0; constant = c; axes = a; divisions = [] }
 
 abbrev axis : ℤ → List ℤ
 axis z = z ∷ []
@@ -36,7 +36,7 @@ closure = refl
 
 -- q = floor(x / 10) and q = 218: then x ≥ 2180, so x ≤ 2179 is empty
 pub tens : words 1 (record { divisor = 10; constant = pos 0; axes = axis (pos 1) } ∷ [])
-    (add (record { kind = equality; constant = negsuc 217; axes = []; divisions = pos 1 ∷ [] }) ∷ mark 0 ∷ add (ge (pos 2179) (axis (negsuc 0))) ∷ back 0 ∷ add (ge (pos 2180) (axis (negsuc 0))) ∷ [])
+    (add (record { kind = equality; number = 0; constant = negsuc 217; axes = []; divisions = pos 1 ∷ [] }) ∷ mark 0 ∷ add (ge (pos 2179) (axis (negsuc 0))) ∷ back 0 ∷ add (ge (pos 2180) (axis (negsuc 0))) ∷ [])
     ≡ gives point ∷ gives point ∷ gives point ∷ gives dropped ∷ gives point ∷ gives point ∷ []
 unfolding begun added settledOn testEnds endsAt reach look exchange
 tens = refl

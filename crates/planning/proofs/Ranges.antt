@@ -156,4 +156,4 @@ reached-within {b} {d} h v =
     (conditions-within (d .now .axes) (b .now) nothing v (leb→le 1 2147483648 tt) tt tt (2 ^ 127 - 1) (leb→le 2147483648 (2 ^ 127 - 1) tt)) .0)
   where
     nothing : Constraint
-    nothing = record { kind = equality; constant = pos 0; axes = []; divisions = [] }
+    nothing = record { kind = equality; number = 0; constant = pos 0; axes = []; divisions = [] }

@@ -399,7 +399,7 @@ module _ (d : Desk State) (g : Kept d) (y : Memory) (h : Shows d y) (r : Constra
 -- a rule that is not refused has small numbers
 rule-within : (r : Constraint) → Within 2147483648 (r .constant) → T (all coefficient (r .axes)) → T (all coefficient (r .divisions)) → ConstraintWithin (2 ^ 127 - 1) r
 rule-within r c a b =
-    let w = conditions-within 8 (withoutRules []) (record { kind = r .kind; constant = pos 0; axes = r .axes; divisions = r .divisions }) (record { few-divisions = leb→le 0 8 tt; few-constraints = leb→le 0 48 tt; divisions = tt; constraints = tt }) (leb→le 1 2147483648 tt) a b (2 ^ 127 - 1) (leb→le 2147483648 (2 ^ 127 - 1) tt) in
+    let w = conditions-within 8 (withoutRules []) (record { kind = r .kind; number = 0; constant = pos 0; axes = r .axes; divisions = r .divisions }) (record { few-divisions = leb→le 0 8 tt; few-constraints = leb→le 0 48 tt; divisions = tt; constraints = tt }) (leb→le 1 2147483648 tt) a b (2 ^ 127 - 1) (leb→le 2147483648 (2 ^ 127 - 1) tt) in
     (within-mono (leb→le 2147483648 (2 ^ 127 - 1) tt) c, w .0 .1, w .0 .2)
 
 module _ (d : Desk State) (g : Kept d) (y : Memory) (h : Shows d y) (r : Constraint) (short : Within 2147483648 (r .constant)) where

@@ -93,7 +93,7 @@ start-valid : (n : ℕ) (ds : List Division) → All Eight ds → startRefusal n
 start-valid n ds a e = at (axesFit n) refl e
   where
     nothing : Constraint
-    nothing = record { kind = equality; constant = pos 0; axes = []; divisions = [] }
+    nothing = record { kind = equality; number = 0; constant = pos 0; axes = []; divisions = [] }
 
     at : (b : Bool) → axesFit n ≡ b → cond b (divisionsRefusal n 0 ds) 1 ≡ 0 → T (axesFit n) × (length ds ≤ 8) × All (ConstraintWithin (2 ^ 127 - 1)) (conditions (withoutRules ds))
     at true q e =

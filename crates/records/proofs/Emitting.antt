@@ -13,7 +13,7 @@ use mir.Syntax.{Width, w64}
 use mir.Val.{SFits, hbits, toZ, ofZ}
 use Rattle.integers.specs.Mach.{toZ-ofZ, ltZ-true, ltZ-false}
 use lib.ListN.{length, take, drop, getD, set, replicate, length-append, length-replicate, drop-of-length-le}
-use lib.Seq.{sets, sets-eq, length-sets, set-out, take-suc, length-take-le, take-all, drop-length}
+use lib.Seq.{sets, sets-eq, length-sets, set-out, take-suc, take-at, length-take-le, take-all, drop-length}
 use Rattle.integers.specs.Lin.{lin, lia-eq}
 use Rattle.model.specs.Lists.{concatMap}
 use Rattle.model.specs.Sets as S
@@ -114,6 +114,10 @@ pub put-fresh : (l o : List ℕ) → length o ≡ length l → put 0 l o ≡ l
 put-fresh l o e =
     let i : 0 + length l ≡ length o = omega arith in
     put-whole 0 l o (omega arith) ∙ ap (λ (j : ℕ). l ++ drop j o) i ∙ ap (λ (r : List ℕ). l ++ r) (drop-length o) ∙ append-nil l
+
+-- a table of its own that begins with it
+pub put-front : (l o : List ℕ) → length l ≤ length o → take (length l) (put 0 l o) ≡ l
+put-front l o h = ap (take (length l)) (put-whole 0 l o (omega arith)) ∙ take-at l (drop (0 + length l) o) (length l) refl
 
 -- ---- writers, one behind the other
 pub emitted-none : (o : List ℕ) (at : ℕ) → Emitted [] o at at o

@@ -2,6 +2,7 @@
 ghost use mathlib.Core.Path.{_≡_};
 ghost use Prim.Native.Nat.{_+_, _≤_, _<_};
 ghost use lib.ListN.{length, drop};
+ghost use Rattle.model.specs.Numbers.{numbered};
 ghost use Rattle.model.specs.Values.{divisionOf, constraintOf};
 ghost use Rattle.model.specs.Limits.{mostDivisions, mostConstraints, coefficientPlaces};
 ghost use Rattle.codec.specs.Bytes.{signedList, divisionBody, constraintBody, readDivision, readConstraint, kindOf};
@@ -16,6 +17,7 @@ use codec::division_at;
 use codec::head;
 use codec::is_equality;
 use codec::next;
+use codec::rule_number;
 use integers::i16_at;
 use integers::i32_at;
 use model::BasicSet;
@@ -53,16 +55,17 @@ fn read_division(d: u64, t: &[u8]) -> Division
     }
 }
 
-// The constraint whose command is b and whose body is t.
-fn read_constraint(b: u8, t: &[u8]) -> Constraint
+// The constraint whose command is b, whose number is m and whose body is t.
+fn read_constraint(b: u8, m: u16, t: &[u8]) -> Constraint
     requires { ⌜ constraintBody ≤ length (now t) ⌝ }
-    ensures { λ r. ⌜ constraintOf r ≡ readConstraint (kindOf b) (now (t .entry)) ⌝ }
+    ensures { λ r. ⌜ constraintOf r ≡ numbered m (readConstraint (kindOf b) (now (t .entry))) ⌝ }
 {
     let c = i32_at(t, CONSTANT_PLACE);
     let a = coefficients(t, AXES_PLACE);
     let e = coefficients(t, DIVISIONS_PLACE);
     Constraint {
         equality: is_equality(b),
+        number: m,
         constant: c,
         axes: a,
         divisions: e,
@@ -80,6 +83,7 @@ fn no_division() -> Division {
 fn no_constraint() -> Constraint {
     Constraint {
         equality: false,
+        number: 0,
         constant: 0,
         axes: [0i16; limit::AXES],
         divisions: [0i16; limit::DIVISIONS],
@@ -119,8 +123,9 @@ pub fn decode_basic(s: &[u8], start: usize) -> BasicSet
     let mut r = 0;
     while constraint_at(s, at) {
         let b = code(s, at);
+        let m = rule_number(s, at);
         let t = body(s, at);
-        rs[r] = read_constraint(b, t);
+        rs[r] = read_constraint(b, m, t);
         r += 1;
         at = next(s, at);
     }

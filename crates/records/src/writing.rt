@@ -5,14 +5,16 @@ ghost use Prim.Native.Nat.{_+_, _≤_, _<_, _^_};
 ghost use lib.ListN.{length};
 ghost use Rattle.model.specs.Lists.{concatMap};
 ghost use Rattle.model.specs.Values.{kindIs, divisionOf, constraintOf, basicSetOf};
-ghost use Rattle.codec.specs.Bytes.{bytesOf, signedBytes, unsigned, encodeCommand, encode, opens, division, constraint, opcode};
-ghost use Rattle.codec.specs.Places.{divisionWidth, constraintWidth, longestDivision, longestConstraint};
+ghost use Rattle.codec.specs.Bytes.{bytesOf, signedBytes, unsigned, encodeCommand, encode, opens, division, constraint, opcode, numberedOpcode, ruleHead};
+ghost use Rattle.codec.specs.Places.{divisionWidth, longestDivision, longestConstraint, longestBasic};
 ghost use Rattle.records.specs.Writing.{Emitted, Encodable, cleared};
 use codec::DIVISION;
 use codec::EQUALITY;
 use codec::INEQUALITY;
 use codec::LONGEST_CONSTRAINT;
 use codec::LONGEST_DIVISION;
+use codec::NUMBERED_EQUALITY;
+use codec::NUMBERED_INEQUALITY;
 use codec::OPENS;
 use model::BasicSet;
 use model::Constraint;
@@ -134,12 +136,34 @@ fn command(equality: bool) -> u8
     INEQUALITY
 }
 
+fn numbered_command(equality: bool) -> u8
+    ensures { λ r. ⌜ r ≡ numberedOpcode (kindIs equality) ⌝ }
+{
+    if equality {
+        return NUMBERED_EQUALITY;
+    }
+    NUMBERED_INEQUALITY
+}
+
+// What stands before the body of a constraint: the command, and its number where it has one.
+fn put_head(out: &mut [u8], at: usize, equality: bool, number: u16) -> usize
+    requires { ⌜ at + 3 ≤ length (now out) ⌝ }
+    ensures bytes { λ r. ⌜ Emitted (ruleHead (kindIs equality) number) (now (out .entry)) at r (now (out .exit)) ⌝ }
+    ensures size { λ r. ⌜ r ≤ at + 3 ⌝ }
+{
+    if number == 0 {
+        return put_8(out, at, command(equality));
+    }
+    let p = put_8(out, at, numbered_command(equality));
+    put_16(out, p, number as u64)
+}
+
 fn put_constraint(out: &mut [u8], at: usize, r: Constraint) -> usize
     requires { ⌜ at + longestConstraint ≤ length (now out) ⌝ }
     ensures bytes { λ v. ⌜ Emitted (encodeCommand (constraint (constraintOf r))) (now (out .entry)) at v (now (out .exit)) ⌝ }
-    ensures size { λ v. ⌜ v ≡ at + constraintWidth (constraintOf r) ⌝ }
+    ensures size { λ v. ⌜ v ≤ at + longestConstraint ⌝ }
 {
-    let p = put_8(out, at, command(r.equality));
+    let p = put_head(out, at, r.equality, r.number);
     let p = put_32(out, p, whole(r.constant));
     let a = r.axes;
     let p = put_coefficients(out, p, a);
@@ -159,7 +183,7 @@ fn emit_opening(out: &mut [u8], at: usize) -> usize
 }
 
 fn emit_division(out: &mut [u8], at: usize, e: Division) -> usize
-    requires { ⌜ at < 2 ^ 63 + 2000 ⌝ }
+    requires { ⌜ at < 2 ^ 63 + longestBasic ⌝ }
     ensures bytes { λ r. ⌜ Emitted (encodeCommand (division (divisionOf e))) (now (out .entry)) at r (now (out .exit)) ⌝ }
     ensures size { λ r. ⌜ r ≡ at + divisionWidth (divisionOf e) ⌝ }
 {
@@ -172,16 +196,16 @@ fn emit_division(out: &mut [u8], at: usize, e: Division) -> usize
 }
 
 fn emit_constraint(out: &mut [u8], at: usize, r: Constraint) -> usize
-    requires { ⌜ at < 2 ^ 63 + 2000 ⌝ }
+    requires { ⌜ at < 2 ^ 63 + longestBasic ⌝ }
     ensures bytes { λ v. ⌜ Emitted (encodeCommand (constraint (constraintOf r))) (now (out .entry)) at v (now (out .exit)) ⌝ }
-    ensures size { λ v. ⌜ v ≡ at + constraintWidth (constraintOf r) ⌝ }
+    ensures size { λ v. ⌜ v ≤ at + longestConstraint ⌝ }
 {
     if at + LONGEST_CONSTRAINT <= out.len() {
         return put_constraint(out, at, r);
     }
     let mut b = [0u8; LONGEST_CONSTRAINT];
-    put_constraint(&mut b, 0, r);
-    copy_bytes(&b, out, at)
+    let n = put_constraint(&mut b, 0, r);
+    copy_bytes(&b[..n], out, at)
 }
 
 // The bytes of a basic set, its `11` first; the result is the place behind them.

@@ -11,9 +11,10 @@ use lib.IntN.{pos}
 use lib.ListN.{length, getD, drop}
 use Rattle.model.specs.Lists.{concatMap}
 use Rattle.model.specs.Sets.{Division, Constraint}
-use Rattle.codec.specs.Bytes.{decode, Command, opens, division, constraint, Counts, testsOf, refusal, counted, isOpening, isDivision, headOf, bodyIn, widthOf, readCommand, readDivision, readConstraint, kindOf, Built, number, axesFit}
+use Rattle.model.specs.Numbers.{numbered}
+use Rattle.codec.specs.Bytes.{decode, Command, opens, misnumbered, division, constraint, Counts, testsOf, refusal, counted, isOpening, isDivision, headOf, bodyIn, widthOf, readCommand, readDivision, readConstraint, kindOf, Built, number, axesFit}
 use Rattle.codec.specs.Places.{built, setFrom, Checked}
-use Rattle.codec.proofs.Parsing.{all-passed, few-next, start, decode-bad, decode-good, read-opens, read-division, read-constraint}
+use Rattle.codec.proofs.Parsing.{all-passed, few-next, start, decode-bad, decode-good, read-opens, read-division, read-constraint, well-numbered}
 use Rattle.codec.proofs.Walking.{added, Head, head, built-end, ordered}
 use Rattle.codec.proofs.Boundaries.{boundary-start}
 use Rattle.listing.specs.Text.{line, divisionLine, constraintLine, basicsFrom, listing}
@@ -37,6 +38,7 @@ pub record Stands (n : ℕ) (s : List ℕ) (c : Cursor) : Type 0 where
 
 most-next : (n : ℕ) (k : Counts) (c : Command) → refusal n k c ≡ 0 → k .basics ≤ 32 → counted k c .basics ≤ 32
 most-next n k opens z h = let t = all-passed (testsOf n k opens) tt z in let l = ltb→lt (k .basics) 32 (t .0) in omega arith
+most-next n k misnumbered z h = h
 most-next n k (division e) z h = h
 most-next n k (constraint r) z h = h
 
@@ -106,8 +108,8 @@ module _ (n : ℕ) (s : List ℕ) (c : Cursor) (d : Stands n s c) (l : c .place 
                 };
           }
       by false e false f =
-          let r = read-constraint b t (eqb-false b _ e) f in
-          let x : Constraint = readConstraint (kindOf b) (bodyIn b t) in
+          let r = read-constraint b t (eqb-false b _ e) f (well-numbered n (d .k) b t (eqb-false b _ e) f (h .none)) in
+          let x : Constraint = numbered (headOf b t) (readConstraint (kindOf b) (bodyIn b t)) in
           let q : built (drop (c .place) s) ≡ added (constraint x) rest = h .builds ∙ ap (λ (z : Command). added z rest) r in
           let u : past c b ≡ record { set = c .set; place = c .place + widthOf b; basics = c .basics; divisions = c .divisions } = ap₂ (λ (x y : Bool). record { set = c .set; place = c .place + widthOf b; basics = cond x (c .basics + 1) (c .basics); divisions = cond x 0 (cond y (c .divisions + 1) (c .divisions)) }) e f in
           let p : 0 < counted (d .k) (readCommand b t) .constraints = omega (arith, ap (λ (z : Command). counted (d .k) z .constraints) r) in

@@ -326,7 +326,7 @@ module _ (b : BasicSet) (rows rows₂ : List (List ℤ)) (place place′ kinds k
       back₂ v u = omega arith
 
       noC : Constraint
-      noC = record { equality = false; constant = pos 0; axes = []; divisions = [] }
+      noC = record { equality = false; number = 0; constant = pos 0; axes = []; divisions = [] }
 
       kept : (c : ℕ) → c < b .cons → getD (map (λ (r : Constraint). some (constraintOf r .kind)) (b .constraints)) c none ≡ getD (kindsOf (map constraintOf (take (b .cons) (b .constraints)))) c none
       kept c h =

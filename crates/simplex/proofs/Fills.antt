@@ -172,10 +172,10 @@ unit-other (suc i) x (suc c) n = unit-other i x c (λ e. n (ap suc e))
 
 -- the row of a bound: the entry of its own division is stored last
 pub bound-row : (k i : ℕ) (z s x : ℤ) (a l : List ℤ) (kind : Kind) (axes : List ℤ) → k ≤ 8 → i < k → ((m : ℕ) → s *ℤ getD a m (pos 0) ≡ getD axes m (pos 0)) → Started k z s a l
-    → set l (i + 2) x ≡ startRow k (record { kind = kind; constant = z; axes = axes; divisions = unit i x })
+    → set l (i + 2) x ≡ startRow k (record { kind = kind; number = 0; constant = z; axes = axes; divisions = unit i x })
 bound-row k i z s x a l kind axes kin h same t =
     let len = t .long in
-    start-row k kin (record { kind = kind; constant = z; axes = axes; divisions = unit i x }) (set l (i + 2) x)
+    start-row k kin (record { kind = kind; number = 0; constant = z; axes = axes; divisions = unit i x }) (set l (i + 2) x)
     (length-set l (i + 2) x ∙ t .long)
     (getD-set-other l (i + 2) 0 x (pos 0) (omega arith) ∙ t .den)
     (getD-set-other l (i + 2) 1 x (pos 0) (omega arith) ∙ t .constant)
@@ -203,14 +203,14 @@ lower-is k i d z a l kin h t = bound-row k i z (pos 1) (negℤ (pos d)) a l ineq
 pub upper-is : (k i d : ℕ) (c : ℤ) (a l : List ℤ) → k ≤ 8 → i < k → Started k (pos d -ℤ pos 1 -ℤ c) (negsuc 0) a l → set l (i + 2) (pos d) ≡ startRow k (upper i (record { divisor = d; constant = c; axes = a }))
 upper-is k i d c a l kin h t = bound-row k i (pos d -ℤ pos 1 -ℤ c) (negsuc 0) (pos d) a l inequality (map negℤ a) kin h (opposed a) t
 
-pub constraint-is : (k : ℕ) (kind : Kind) (z : ℤ) (a q l l′ : List ℤ) → k ≤ 8 → Started k z (pos 1) a l → Copied 2 (pos 1) k q l l′ → l′ ≡ startRow k (record { kind = kind; constant = z; axes = a; divisions = q })
-constraint-is k kind z a q l l′ kin t c =
-    start-row k kin (record { kind = kind; constant = z; axes = a; divisions = q }) l′
+pub constraint-is : (k : ℕ) (r : S.Constraint) (l l′ : List ℤ) → k ≤ 8 → Started k (r .constant) (pos 1) (r .axes) l → Copied 2 (pos 1) k (r .divisions) l l′ → l′ ≡ startRow k r
+constraint-is k r l l′ kin t c =
+    start-row k kin r l′
     (c .long ∙ t .long)
     (c .low 0 (omega arith) ∙ t .den)
     (c .low 1 (omega arith) ∙ t .constant)
-    (λ i b. ap (λ n. getD l′ n (pos 0)) (native.Mathlib.Nat.add-comm i 2) ∙ c .inside i b ∙ once q i)
-    (λ i b. c .high (k + 2 + i) (omega arith) ∙ t .axes i b ∙ once a i)
+    (λ i b. ap (λ n. getD l′ n (pos 0)) (native.Mathlib.Nat.add-comm i 2) ∙ c .inside i b ∙ once (r .divisions) i)
+    (λ i b. c .high (k + 2 + i) (omega arith) ∙ t .axes i b ∙ once (r .axes) i)
     (λ i b. c .high i (omega arith) ∙ t .rest i b)
 
 -- ---- lists that grow by stores past their end

@@ -11,9 +11,9 @@ use Rattle.planning.specs.State.{ruleTests}
 use Rattle.states.specs.declared.Rule.{Rule}
 use Rattle.states.specs.declared.Quotient.{Quotient}
 
--- a rule "as given"
+-- a rule "as given"; a state has no use for its number
 abbrev pub ruleOf : Rule → Constraint
-ruleOf r = record { kind = kindIs (r .equality); constant = r .constant; axes = r .axes; divisions = r .divisions }
+ruleOf r = record { kind = kindIs (r .equality); number = 0; constant = r .constant; axes = r .axes; divisions = r .divisions }
 
 -- over n axes and k divisions, with so many rules; 0 for none
 abbrev pub ruleNumber : ℕ → ℕ → ℕ → Constraint → ℕ

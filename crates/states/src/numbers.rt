@@ -74,6 +74,7 @@ pub fn constraint_of(r: Rule) -> Constraint
     let divisions = narrowed(q);
     Constraint {
         equality: e,
+        number: 0,
         constant: z,
         axes: axes,
         divisions: divisions,

@@ -30,7 +30,7 @@ loop-holds c =
       omega arith,
       e .sheet,
       e .waits,
-      put-start r (s .args .place .now) (s .args .k) (sketchOf (c .bare .last .1 .0) (c .bare .last .1 .1 .0)) (toZ w32 (ofZ w32 (r .constant))) (e .is) (toZ-ofZ {w = w32} {z = r .constant} (record { sfits = o .struct-told .given .1 .0 .1 })),
+      put-start r (s .args .place .now) (s .args .k) (sketchOf (c .bare .last .1 .0) (c .bare .last .1 .1 .0)) (toZ w32 (ofZ w32 (r .constant))) (e .is) (toZ-ofZ {w = w32} {z = r .constant} (record { sfits = o .struct-told .given .1 .1 .0 .1 })),
     )
 
 add-loop : tie.Need-add-loop Inv-loop μ-loop

@@ -19,7 +19,7 @@ returns : tie.Need-returns
 returns c =
     let r = c .before .before .before .before .args .c in
     let f : SFits w32 (r .constant) = search needs in
-    λ i. record { kind = kindIs (r .equality); constant = toZ-ofZ f i; axes = r .axes; divisions = c .at-places .ensures i }
+    λ i. record { kind = kindIs (r .equality); number = r .number; constant = toZ-ofZ f i; axes = r .axes; divisions = c .at-places .ensures i }
 
 pub moved-spec : {M : Type 1} → statement M
 moved-spec = tie.close (tie.spec at-places-requires returns)

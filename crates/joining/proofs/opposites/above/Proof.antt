@@ -10,8 +10,8 @@ use Rattle.joining.proofs.Placing.{above-room}
 use Rattle.joining.proofs.opposites.above.Statement.{statement}
 use Rattle.joining.proofs.opposites.above.Tie as tie
 
-sub-t5 : tie.Need-sub-t5
-sub-t5 c =
+sub-t6 : tie.Need-sub-t6
+sub-t6 c =
     let r = c .before .before .before .args .c in
     let f : SFits w32 (r .constant) = search needs in
     rw (toZ-ofZ f) (above-room (r .constant) f (c .before .before .before .pre .constant))
@@ -20,8 +20,8 @@ returns : tie.Need-returns
 returns c =
     let r = c .before .before .before .args .c in
     let f : SFits w32 (r .constant) = search needs in
-    let k = toZ-ofZ (sub-t5 c) ∙ ap (λ (z : ℤ). z -ℤ pos 1) (toZ-ofZ f) in
-    λ i. record { kind = S.inequality; constant = k i; axes = r .axes; divisions = r .divisions }
+    let k = toZ-ofZ (sub-t6 c) ∙ ap (λ (z : ℤ). z -ℤ pos 1) (toZ-ofZ f) in
+    λ i. record { kind = S.inequality; number = r .number; constant = k i; axes = r .axes; divisions = r .divisions }
 
 pub above-spec : {M : Type 1} → statement M
-above-spec = tie.close (tie.spec sub-t5 returns)
+above-spec = tie.close (tie.spec sub-t6 returns)

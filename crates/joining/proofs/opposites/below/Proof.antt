@@ -16,8 +16,8 @@ negated-requires c κs = c .before .before .before .pre .axes
 negated-requires-2 : tie.Need-negated-requires-2
 negated-requires-2 c κs = c .before .before .before .before .pre .divisions
 
-sub-t7 : tie.Need-sub-t7
-sub-t7 c =
+sub-t8 : tie.Need-sub-t8
+sub-t8 c =
     let k = c .before .before .before .before .before .args .c .constant in
     let f : SFits w32 k = search needs in
     rw (toZ-ofZ f) (below-fits k f)
@@ -26,8 +26,8 @@ returns : tie.Need-returns
 returns c =
     let r = c .before .before .before .before .before .args .c in
     let f : SFits w32 (r .constant) = search needs in
-    let k = toZ-ofZ (sub-t7 c) ∙ ap (λ (z : ℤ). negsuc 0 -ℤ z) (toZ-ofZ f) ∙ below-is (r .constant) in
-    λ i. record { kind = S.inequality; constant = k i; axes = c .before .negated .ensures i; divisions = c .negated2 .ensures i }
+    let k = toZ-ofZ (sub-t8 c) ∙ ap (λ (z : ℤ). negsuc 0 -ℤ z) (toZ-ofZ f) ∙ below-is (r .constant) in
+    λ i. record { kind = S.inequality; number = r .number; constant = k i; axes = c .before .negated .ensures i; divisions = c .negated2 .ensures i }
 
 pub below-spec : {M : Type 1} → statement M
-below-spec = tie.close (tie.spec negated-requires negated-requires-2 sub-t7 returns)
+below-spec = tie.close (tie.spec negated-requires negated-requires-2 sub-t8 returns)

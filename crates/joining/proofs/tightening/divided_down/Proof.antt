@@ -42,16 +42,16 @@ value-is c =
     result-is w64 _ (c .floor-div .ok) ∙ c .floor-div .ensures
     ∙ ap₂ (λ (z : ℤ) (d : ℤ). floorDiv z (natAbs d)) (toZ-ofZ (cast-floor-div (c .before)) ∙ toZ-ofZ (constant-fits (c .before))) (divisor-is (c .before))
 
-cast-t12 : tie.Need-cast-t12
-cast-t12 c =
+cast-t13 : tie.Need-cast-t13
+cast-t13 c =
     let s = c .before .before .before .before .before .before in
     subst (SFits w32) (sym (value-is c)) (record { sfits = lt-of-le-of-lt (down-mag (s .args .g) (s .args .c .constant)) (constant-fits (c .before) .sfits) })
 
 returns : tie.Need-returns
 returns c =
     let s = c .before .before .before .before .before .before in
-    let k = toZ-ofZ (cast-t12 c) ∙ value-is c in
-    λ i. record { kind = kindIs (s .args .c .equality); constant = k i; axes = c .before .before .quotients .ensures i; divisions = c .before .quotients2 .ensures i }
+    let k = toZ-ofZ (cast-t13 c) ∙ value-is c in
+    λ i. record { kind = kindIs (s .args .c .equality); number = s .args .c .number; constant = k i; axes = c .before .before .quotients .ensures i; divisions = c .before .quotients2 .ensures i }
 
 pub divided-down-spec : {M : Type 1} → statement M
 divided-down-spec =
@@ -62,5 +62,5 @@ divided-down-spec =
     cast-floor-div
     cast-floor-div-2
     floor-div-requires
-    cast-t12
+    cast-t13
     returns)

@@ -5,9 +5,10 @@ use native.Mathlib.Omega.{arith}
 use Prim.Native.Nat.{ℕ, _+_, _-_, _≤_, _<_}
 use lib.ListN.{length, take, getD, length-set}
 use Rattle.model.specs.Sets as S
+use Rattle.model.specs.Numbers.{numbered}
 use Rattle.model.specs.Values.{divisionOf, constraintOf}
 use Rattle.codec.specs.Bytes.{isDivision, isConstraint, divisionBody, constraintBody, readDivision, readConstraint, kindOf}
-use Rattle.codec.specs.Places.{divisionAt, constraintAt}
+use Rattle.codec.specs.Places.{headAt, divisionAt, constraintAt}
 use Rattle.codec.proofs.Standing.{DivisionAt, ConstraintAt}
 use Rattle.records.proofs.Filling.{Filling, Settled, one-more, fill-start, fill-division, fill-constraint, division-here, constraint-here, settled, decoded, stored}
 use Rattle.records.proofs.decoding.decode_basic.Statement.{statement}
@@ -131,33 +132,37 @@ module _ (t : tie.Then2 Inv-loop μ-loop Inv-loop2 μ-loop2) where
 code-requires : tie.Need-code-requires Inv-loop μ-loop Inv-loop2 μ-loop2
 code-requires c κs = tt
 
+rule-number-requires : tie.Need-rule-number-requires Inv-loop μ-loop Inv-loop2 μ-loop2
+rule-number-requires c κs = (here2 (c .before) .whole, code2 (c .before))
+
 body-requires-2 : tie.Need-body-requires-2 Inv-loop μ-loop Inv-loop2 μ-loop2
-body-requires-2 c κs = here2 (c .before) .whole
+body-requires-2 c κs = here2 (c .before .before) .whole
 
 read-constraint-requires : tie.Need-read-constraint-requires Inv-loop μ-loop Inv-loop2 μ-loop2
-read-constraint-requires c κs = subst (λ (t : List ℕ). constraintBody ≤ length t) (sym (c .body2 .ensures)) (here2 (c .before .before) .body)
+read-constraint-requires c κs = subst (λ (t : List ℕ). constraintBody ≤ length t) (sym (c .body2 .ensures)) (here2 (c .before .before .before) .body)
 
 mul-rs : tie.Need-mul-rs Inv-loop μ-loop Inv-loop2 μ-loop2
-mul-rs c = let f = few2 (c .before .before .before) in omega arith
+mul-rs c = let f = few2 (c .before .before .before .before) in omega arith
 
 array-set-from-rs : tie.Need-array-set-from-rs Inv-loop μ-loop Inv-loop2 μ-loop2
-array-set-from-rs c = let t = c .before .before .before in let f = few2 t in let l = m2 t .loop2 .inv .2 in omega arith
+array-set-from-rs c = let t = c .before .before .before .before in let f = few2 t in let l = m2 t .loop2 .inv .2 in omega arith
 
 add-r : tie.Need-add-r Inv-loop μ-loop Inv-loop2 μ-loop2
-add-r c = let f = few2 (c .before .before .before) in omega arith
+add-r c = let f = few2 (c .before .before .before .before) in omega arith
 
 next-requires-2 : tie.Need-next-requires-2 Inv-loop μ-loop Inv-loop2 μ-loop2
-next-requires-2 c κs = here2 (c .before .before .before) .whole
+next-requires-2 c κs = here2 (c .before .before .before .before) .whole
 
 loop2-less : tie.Need-loop2-less Inv-loop μ-loop Inv-loop2 μ-loop2
-loop2-less c = let h = here2 (c .before .before .before .before) .whole in let r = h .room in let w = h .known in omega (arith, c .next2 .ensures)
+loop2-less c = let h = here2 (c .before .before .before .before .before) .whole in let r = h .room in let w = h .known in omega (arith, c .next2 .ensures)
 
 loop2-again : tie.Need-loop2-again Inv-loop μ-loop Inv-loop2 μ-loop2
 loop2-again c =
-    let v = c .before in let b = v .before in let e = b .before in let t = e .before in let l = m2 t .loop2 in let first = start (earlier (m2 t)) .args .start in
+    let v = c .before in let b = v .before in let u = b .before in let e = u .before in let t = e .before in let l = m2 t .loop2 in let first = start (earlier (m2 t)) .args .start in
     let f = few2 t in let n = l .inv .2 in let h : l .r < length (l .rs) = omega arith in
     let w = stored constraintOf (l .rs) (l .r) (v .read-constraint .result) (constraintAt (s2 t) (l .at)) h
-    (v .read-constraint .ensures ∙ ap₂ (λ (b : ℕ) (y : List ℕ). readConstraint (kindOf b) y) (e .code .ensures) (b .body2 .ensures)) in (
+    (v .read-constraint .ensures ∙ ap (λ (x : ℕ). numbered x (readConstraint (kindOf (e .code .result)) (b .body2 .result .now))) (u .rule-number .ensures)
+    ∙ ap₂ (λ (b : ℕ) (y : List ℕ). numbered (headAt (s2 t) (l .at)) (readConstraint (kindOf b) y)) (e .code .ensures) (b .body2 .ensures)) in (
       subst₂ (λ (p : ℕ) (X : List S.Constraint). Settled (s2 t) first p (E t) X) (sym (c .next2 .ensures)) (sym w) (fill-constraint (s2 t) first (l .at) (E t) (R t) (l .inv .0) (code2 t)),
       ap (λ (j : ℕ). j + 1) (l .inv .1) ∙ sym (one-more (R t) (constraintAt (s2 t) (l .at))) ∙ ap length (sym w),
       length-set (l .rs) (l .r) (v .read-constraint .result) ∙ n,
@@ -193,6 +198,7 @@ decode-basic-spec =
     loop2-holds
     constraint-at-requires
     code-requires
+    rule-number-requires
     body-requires-2
     read-constraint-requires
     mul-rs

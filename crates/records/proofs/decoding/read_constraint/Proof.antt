@@ -30,7 +30,7 @@ is-equality-requires : tie.Need-is-equality-requires
 is-equality-requires c κs = search needs
 
 returns : tie.Need-returns
-returns q = let c = q .before in let a = c .before in let s = a .before in let e = result-is w32 (s .i32-at .result) (s .i32-at .ok) ∙ s .i32-at .ensures in let k = ap kindIs (q .is-equality .ensures) ∙ kind-is (s .before .before .args .b) in λ i. record { kind = k i; constant = e i; axes = (a .coefficients .ensures) i; divisions = (c .coefficients2 .ensures) i }
+returns q = let c = q .before in let a = c .before in let s = a .before in let e = result-is w32 (s .i32-at .result) (s .i32-at .ok) ∙ s .i32-at .ensures in let g = s .before .before .args in let k = ap kindIs (q .is-equality .ensures) ∙ kind-is (g .b) in λ i. record { kind = k i; number = g .m; constant = e i; axes = (a .coefficients .ensures) i; divisions = (c .coefficients2 .ensures) i }
 
 pub read-constraint-spec : {M : Type 1} → statement M
 read-constraint-spec =

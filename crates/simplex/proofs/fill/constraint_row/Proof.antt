@@ -4,7 +4,7 @@ use mir.Syntax.{w32, w64}
 use mir.Val.{toZ, ofZ}
 use mir.Facts.{toZ-ofZ}
 use Rattle.simplex.proofs.Fills.{constraint-is}
-use Rattle.model.specs.Values.{kindIs}
+use Rattle.model.specs.Values.{constraintOf}
 use Rattle.simplex.specs.Table.{Started}
 use borrow.Author.Needs.{needs}
 use Rattle.simplex.proofs.fill.constraint_row.Statement.{statement}
@@ -30,9 +30,9 @@ returns c =
     let w = c .before .before .before .wide in
     let r = s .args .c in
     let z : toZ w64 (ofZ w64 (w .result)) ≡ r .constant =
-    toZ-ofZ (record { sfits = w .ok }) ∙ w .ensures ∙ toZ-ofZ {w = w32} {z = r .constant} (record { sfits = c .before .before .before .before .before .before .before .struct-told .given .1 .0 .1 }) in
+    toZ-ofZ (record { sfits = w .ok }) ∙ w .ensures ∙ toZ-ofZ {w = w32} {z = r .constant} (record { sfits = c .before .before .before .before .before .before .before .struct-told .given .1 .1 .0 .1 }) in
     let l = c .before .before .row-of .last .0 in
-    constraint-is (s .args .k) (kindIs (r .equality)) (r .constant) (r .axes) (r .divisions) l (c .copy .last .0) (s .pre)
+    constraint-is (s .args .k) (constraintOf r) l (c .copy .last .0) (s .pre)
     (subst (λ z. Started (s .args .k) z (pos 1) (r .axes) l) z (c .before .before .row-of .ensures)) (c .copy .ensures)
 
 pub constraint-row-spec : {M : Type 1} → statement M
