@@ -66,7 +66,7 @@ below-valid n k r v =
     record {
       axis-places = length-map (r .axes) negℤ ∙ v .axis-places;
       division-places = length-map (r .divisions) negℤ ∙ v .division-places;
-      number = v .number;
+      number = let m = v .number in omega arith;
       width = below-fits (r .constant) (v .width);
       constant = tt;
       axes = neg-coefficients (r .axes) (v .axes);
@@ -83,7 +83,7 @@ opposites-valid n k r v = at (r .kind) (v .constant)
       record {
         axis-places = v .axis-places;
         division-places = v .division-places;
-        number = v .number;
+        number = let m = v .number in omega arith;
         width = above-fits (r .constant) (v .width) t;
         constant = tt;
         axes = v .axes;
@@ -125,7 +125,7 @@ tight-valid n k r v = at (ltb 1 (content r))
         record {
           axis-places = length-map (r .axes) (λ (z : ℤ). floorDiv z g) ∙ v .axis-places;
           division-places = length-map (r .divisions) (λ (z : ℤ). floorDiv z g) ∙ v .division-places;
-          number = v .number;
+          number = let m = v .number in omega arith;
           width = down-width g (r .constant) (v .width);
           constant = down-constant g (r .kind) (r .constant) (v .constant);
           axes = down-coefficients g (r .axes) (v .axes);
@@ -319,7 +319,7 @@ module _ (n : ℕ) (a b : BasicSet) (va : Valid n a) (vb : Valid n b) (few : len
           record {
             axis-places = v .axis-places;
             division-places = c .1;
-            number = v .number;
+            number = let m = v .number in omega arith;
             width = v .width;
             constant = v .constant;
             axes = v .axes;

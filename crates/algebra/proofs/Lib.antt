@@ -8,3 +8,4 @@ pub mod Levels
 pub mod Results
 pub mod Again
 pub mod Dropped
+pub mod Numbers

@@ -285,7 +285,7 @@ tight-below r = ap (λ (n : ℕ). cond (ltb 1 n) (dividedDown n (below r)) (belo
         let c = floor-opposite (r .constant) g in
         let a = quotients-neg g p (r .axes) (content-axes r) in
         let d = quotients-neg g p (r .divisions) (content-divisions r) in
-        λ i. record { kind = inequality; number = r .number; constant = c i; axes = a i; divisions = d i }
+        λ i. record { kind = inequality; number = dividedDown g (below r) .number; constant = c i; axes = a i; divisions = d i }
     at false o = refl
 
 -- of an equality that is not void: ⌊(c − 1) / g⌋ is ⌊c / g⌋ − 1 only where g divides c
@@ -299,7 +299,7 @@ tight-above r k e = at (ltb 1 (content r)) (is-over (content r)) (sym (ap (λ (q
     at true (over h) e =
         let p : 0 < g = omega arith in
         let c = floor-less (r .constant) g p (divided-by g (r .constant) e) in
-        λ i. record { kind = inequality; number = r .number; constant = c i; axes = dividedDown g r .axes; divisions = dividedDown g r .divisions }
+        λ i. record { kind = inequality; number = dividedDown g (above r) .number; constant = c i; axes = dividedDown g r .axes; divisions = dividedDown g r .divisions }
     at false o e = refl
 
 -- so a piece can be made from the tightened rule

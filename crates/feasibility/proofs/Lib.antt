@@ -11,3 +11,4 @@ pub mod Verdicts
 pub mod Far
 pub mod Reached
 pub mod Sound
+pub mod Numbers

@@ -2,3 +2,4 @@ pub mod Lists
 pub mod Count
 pub mod Values
 pub mod Existential
+pub mod Numbers

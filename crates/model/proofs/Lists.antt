@@ -1,10 +1,12 @@
 -- Lists that are mapped, and lists that a loop changes from the front. Assumes nothing.
 use mathlib.Core.Path.{_≡_, refl, sym, ap, ap₂, _∙_}
+use mathlib.Core.Bool.{Bool, true, false, _&&_, _||_}
 use mathlib.Core.List.{List, [], _∷_, _++_, map}
 use Prim.Native.Nat.{ℕ, zero, suc, _+_, _≤_, _<_, zero-le, suc-le-suc}
 use native.Mathlib.Nat.{le-of-suc-le-suc, not-suc-le-zero}
 use native.Mathlib.Numerals.{add-one}
 use lib.ListN.{length, take, getD, set}
+use Rattle.model.specs.Lists.{all, any, concatMap, consIf, filter, isNil}
 
 -- ---- mapped
 
@@ -27,6 +29,38 @@ module _ {A B : Type 0} (f : A → B) where
   map-set [] i v = refl
   map-set (x ∷ l) zero v = refl
   map-set (x ∷ l) (suc i) v = ap (λ (r : List B). f x ∷ r) (map-set l i v)
+
+-- ---- tests and functions on the elements that a map changes: f′ says of g a what f says of a
+
+module _ {A B : Type 0} (g : A → B) (f : A → Bool) (f′ : B → Bool) (same : (a : A) → f′ (g a) ≡ f a) where
+  pub all-through : (l : List A) → all f′ (map g l) ≡ all f l
+  all-through [] = refl
+  all-through (a ∷ l) = ap₂ _&&_ (same a) (all-through l)
+
+  pub any-through : (l : List A) → any f′ (map g l) ≡ any f l
+  any-through [] = refl
+  any-through (a ∷ l) = ap₂ _||_ (same a) (any-through l)
+
+  pub filter-through : (l : List A) → filter f′ (map g l) ≡ map g (filter f l)
+  filter-through [] = refl
+  filter-through (a ∷ l) = ap₂ (λ (b : Bool) (r : List B). consIf b (g a) r) (same a) (filter-through l) ∙ out (f a)
+    where
+      out : (b : Bool) → consIf b (g a) (map g (filter f l)) ≡ map g (consIf b a (filter f l))
+      out true = refl
+      out false = refl
+
+module _ {A B C D : Type 0} (g : A → B) (h : C → D) where
+  pub map-through : (f : A → C) (f′ : B → D) → ((a : A) → f′ (g a) ≡ h (f a)) → (l : List A) → map f′ (map g l) ≡ map h (map f l)
+  map-through f f′ same [] = refl
+  map-through f f′ same (a ∷ l) = ap₂ _∷_ (same a) (map-through f f′ same l)
+
+  pub concat-through : (f : A → List C) (f′ : B → List D) → ((a : A) → f′ (g a) ≡ map h (f a)) → (l : List A) → concatMap f′ (map g l) ≡ map h (concatMap f l)
+  concat-through f f′ same [] = refl
+  concat-through f f′ same (a ∷ l) = ap₂ _++_ (same a) (concat-through f f′ same l) ∙ sym (map-append h (f a) (concatMap f l))
+
+pub nil-through : {A B : Type 0} (g : A → B) (l : List A) → isNil (map g l) ≡ isNil l
+nil-through g [] = refl
+nil-through g (a ∷ l) = refl
 
 -- ---- a loop that changes a list from the front: the first n numbers changed, each by the function of its place
 unfoldable pub upTo : {A : Type 0} → (ℕ → A → A) → ℕ → List A → List A
