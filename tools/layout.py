@@ -9,7 +9,7 @@ import re
 import sys
 
 # command bytes (also as decimals), widths with and without the first byte, the longest basic set and set
-LAYOUT = {"0x11", "0x12", "0x13", "0x14", "17", "18", "19", "20", "22", "23", "36", "37", "1961", "62752"}
+LAYOUT = {"0x11", "0x12", "0x13", "0x14", "0x16", "0x17", "17", "18", "19", "20", "22", "23", "36", "37", "38", "39", "2057", "65824"}
 # the documents' limits, and those ends of ranges that differ by 1; sizes that follow from them
 LIMITS = {"8", "15", "32", "48", "200", "8000", "32766", "32767", "1000000", "1048575", "1048576", "999999999", "1000000000"}
 LIMITS |= {"2097152", "274877906944", "343597383680", "549755813888"}
