@@ -3,7 +3,8 @@
 /^        self\.marks\.truncate(place + 1);/i\
         let count = before.map_or(0, |state| state.basic.rules.len());\
         if let Some(state) = self.now.as_mut().filter(|state| state.basic.rules.len() < count) {\
-            let rule = crate::model::Rule { kind: crate::model::Kind::Inequality, constant: 0, axes: [0; 8], divs: [0; 8] };\
+            let kind = crate::model::Kind::Inequality;\
+            let rule = crate::model::Rule { kind, number: 0, constant: 0, axes: [0; 8], divs: [0; 8] };\
             state.basic.rules.resize(count, rule);\
         }
 s/^        self\.now = Some(self\.marks\[place\]/        let before = self.now.take();\n&/

@@ -4,6 +4,7 @@
         let g = common_divisor(\&rule).max(1);\
         let divided = Rule {\
             kind: rule.kind,\
+            number: rule.number,\
             constant: rule.constant.div_euclid(g),\
             axes: rule.axes.map(|k| k / g),\
             divs: rule.divs.map(|k| k / g),\

@@ -193,7 +193,13 @@ fn asked(call: &str) -> Option<Asked> {
         aim: if *kind == "greatest" { Aim::Greatest } else { Aim::Least },
         set: parse(n.parse().ok()?, &unhex(set)?),
         k: k.parse().ok()?,
-        expression: Rule { kind: Kind::Inequality, constant: *numbers.first()?, axes: eight(1)?, divs: eight(9)? },
+        expression: Rule {
+            kind: Kind::Inequality,
+            number: 0,
+            constant: *numbers.first()?,
+            axes: eight(1)?,
+            divs: eight(9)?,
+        },
     })
 }
 

@@ -61,7 +61,7 @@ fn a_carried_value_is_one_at_the_larger_bound() {
         let (n, basic) = if rng.chance(50) { any(rng) } else { corners::steep_corner(rng) };
         let basic = read(n, &basic);
         let axes = std::array::from_fn(|axis| if axis < n { rng.range(-9, 9) } else { 0 });
-        let expression = Rule { kind: Kind::Inequality, constant: 0, axes, divs: [0; 8] };
+        let expression = Rule { kind: Kind::Inequality, number: 0, constant: 0, axes, divs: [0; 8] };
         let mut whole = ValueSearch::new(n, &basic, Aim::Greatest, &expression);
         let mut at_128 = ValueSearch::new(n, &basic, Aim::Greatest, &expression);
         at_128.steps = Steps::new(at_128.steps.tableau, Some(PIVOT_LIMIT), [BOUND_128; 2]);

@@ -64,6 +64,7 @@ fn read(n: usize, basic: &Basic) -> BasicSet {
 fn searching(n: usize, basic: &BasicSet, aim: Aim, expression: &Expression) -> ValueSearch {
     let rule = Rule {
         kind: Kind::Inequality,
+        number: 0,
         constant: i64::from(expression.constant),
         axes: expression.axes.map(i64::from),
         divs: expression.divisions.map(i64::from),

@@ -14,11 +14,12 @@ pub type Watch<'a> = dyn FnMut(&BasicSet, Outcome) + 'a;
 /// A watch for those who need none.
 pub fn unwatched(_: &BasicSet, _: Outcome) {}
 
-/// The opposites of a rule, in order. Constants stay within 32 bits, as an
-/// equality's is at least −2,147,483,647.
+/// The opposites of a rule, in order; they "keep their number" (request 6).
+/// Constants stay within 32 bits, as an equality's is at least −2,147,483,647.
 pub fn opposites(rule: &Rule) -> Vec<Rule> {
     let below = Rule {
         kind: Kind::Inequality,
+        number: rule.number,
         constant: -rule.constant - 1,
         axes: rule.axes.map(|k| -k),
         divs: rule.divs.map(|k| -k),
@@ -64,6 +65,7 @@ pub fn join(a: &BasicSet, b: &BasicSet) -> Result<(BasicSet, Vec<Rule>), u8> {
     Ok((joined, moved))
 }
 
+/// It is the same rule, so it keeps its number.
 fn move_rule(rule: &Rule, places: &[usize]) -> Rule {
     let mut moved = rule.clone();
     moved.divs = [0; MAX_DIVISIONS];
@@ -82,9 +84,9 @@ fn common_divisor(rule: &Rule) -> i64 {
     divisor as i64
 }
 
-/// A rule "divided by g with its constant rounded down", if g is over 1. None
-/// for a void equality: g does not divide its constant, and no integer point
-/// meets it.
+/// A rule "divided by g with its constant rounded down", if g is over 1; it
+/// keeps its number. None for a void equality: g does not divide its constant,
+/// and no integer point meets it.
 pub fn tightened(rule: &Rule) -> Option<Rule> {
     let g = common_divisor(rule);
     // "Rules with all coefficients 0 remain": their g is 0.
@@ -96,6 +98,7 @@ pub fn tightened(rule: &Rule) -> Option<Rule> {
     }
     Some(Rule {
         kind: rule.kind,
+        number: rule.number,
         // As g is positive, this rounds down and not towards 0.
         constant: rule.constant.div_euclid(g),
         axes: rule.axes.map(|k| k / g),

@@ -2,7 +2,7 @@
 
 use crate::algebra::{complement, difference, intersection, union, unwatched};
 use crate::ask::{holder, member, part, search, Sides, Table};
-use crate::bytes::{encode, parse, read_division, read_rule, split_command, DIVISION, EQUALITY, INEQUALITY};
+use crate::bytes::{encode, parse, read_division, read_rule, split_command, DIVISION};
 use crate::count::{count, counts, Count};
 use crate::extreme::{extreme, Aim, Extreme};
 use crate::fleet::fleet;
@@ -297,7 +297,8 @@ impl<'a> Fields<'a> {
     fn expression(&mut self) -> Option<Rule> {
         let constant = self.coordinate()?.into();
         let (axes, divs) = (self.point()?, self.point()?);
-        Some(Rule { kind: Kind::Inequality, constant, axes: axes.map(i64::from), divs: divs.map(i64::from) })
+        let (axes, divs) = (axes.map(i64::from), divs.map(i64::from));
+        Some(Rule { kind: Kind::Inequality, number: 0, constant, axes, divs })
     }
 
     fn bytes(&mut self) -> Option<Vec<u8>> {
@@ -317,16 +318,12 @@ impl<'a> Fields<'a> {
         Some(divisions)
     }
 
-    /// One rule command.
+    /// One rule command, which no state refuses with 17: a `16` or `17` with
+    /// number 0 is none.
     fn rule(&mut self) -> Option<Rule> {
         let bytes = self.bytes()?;
         let (command, body, after) = split_command(&bytes).ok()?;
-        let kind = match command {
-            EQUALITY => Kind::Equality,
-            INEQUALITY => Kind::Inequality,
-            _ => return None,
-        };
-        after.is_empty().then(|| read_rule(kind, body))
+        after.is_empty().then(|| read_rule(command, body).ok())?
     }
 }
 

@@ -102,6 +102,8 @@ fn read_rule(n: usize, basic: &BasicSet, kind: Kind, numbers: &[i64]) -> Option<
     }
     Some(Rule {
         kind,
+        // "Listings omit it."
+        number: 0,
         constant: numbers[0],
         axes: padded(&numbers[1..1 + n])?,
         divs: padded(&numbers[1 + n..])?,

@@ -30,6 +30,9 @@ pub enum Kind {
 #[derive(Clone, Debug, PartialEq, Eq, Hash)]
 pub struct Rule {
     pub kind: Kind,
+    /// Its own number "in the mine's rulebook" (request 6), 0 for none. No
+    /// answer depends on it but that the rule is written with it.
+    pub number: u16,
     pub constant: i64,
     pub axes: [i64; MAX_AXES],
     pub divs: [i64; MAX_DIVISIONS],

@@ -16,5 +16,6 @@ pub const LIMIT: u8 = 13;
 pub const SET_NUMBER: u8 = 14;
 pub const AXES_COMMAND_PLACE: u8 = 15;
 pub const FLEET_LIST: u8 = 16;
+pub const NO_NUMBER: u8 = 17;
 pub const STATE_NAME: u8 = 18;
 pub const CHOSEN_AXIS: u8 = 19;

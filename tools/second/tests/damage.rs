@@ -45,7 +45,7 @@ fn damaged_scripts_end_in_a_line() {
 #[test]
 fn random_bytes_and_lines() {
     let mut random = Random(88_172_645_463_325_252);
-    let commands = [0x00, 0x10, 0x11, 0x12, 0x14, 0x40, 0x41, 0x45, 0x46, 0x47, 1, 2, 255];
+    let commands = [0x00, 0x10, 0x11, 0x12, 0x14, 0x17, 0x40, 0x41, 0x45, 0x46, 0x47, 1, 2, 255];
     let words = ["member", "test", "union", "-", "11", "1", "0", "-1", "part", "x", "", "255"];
     for _ in 0..3000 {
         let script: Vec<u8> = (0..random.below(90))

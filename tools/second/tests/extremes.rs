@@ -18,7 +18,7 @@ fn least(n: u8, bytes: &[u8], constant: i32, axes: &[i32]) -> String {
 type Course = (Extreme, u32, u32, Option<u32>);
 
 fn inequality(constant: i64, axes: &[i64]) -> Rule {
-    let mut rule = Rule { kind: Kind::Inequality, constant, axes: [0; 8], divs: [0; 8] };
+    let mut rule = Rule { kind: Kind::Inequality, number: 0, constant, axes: [0; 8], divs: [0; 8] };
     rule.axes[..axes.len()].copy_from_slice(axes);
     rule
 }

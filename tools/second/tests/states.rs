@@ -18,7 +18,7 @@ fn last(count: usize, steps: &str) -> String {
 }
 
 fn inequality(constant: i64, axes: &[i64]) -> Rule {
-    let mut rule = Rule { kind: Kind::Inequality, constant, axes: [0; 8], divs: [0; 8] };
+    let mut rule = Rule { kind: Kind::Inequality, number: 0, constant, axes: [0; 8], divs: [0; 8] };
     rule.axes[..axes.len()].copy_from_slice(axes);
     rule
 }

@@ -6,10 +6,29 @@ use second::listing::{read_basic, read_set};
 use second::{encode, run_call, run_script, BasicSet, Set};
 
 /// The bytes of a set given as listing lines with `;` between them, each
-/// basic set opened by `basic`.
+/// basic set opened by `basic`. `rule M` before a rule's line, which no
+/// listing has, gives it the number M.
 pub fn set(n: usize, lines: &str) -> Vec<u8> {
-    let set = read_set(n, &lines.replace(';', "\n")).expect("listing lines");
+    let mut numbers = Vec::new();
+    let mut plain = String::new();
+    for line in lines.split(';').map(str::trim) {
+        let (number, line) = numbered(line);
+        if line.starts_with("ge") || line.starts_with("eq") {
+            numbers.push(number);
+        }
+        plain.push_str(&format!("{line}\n"));
+    }
+    let mut set = read_set(n, &plain).expect("listing lines");
+    let rules = set.basics.iter_mut().flat_map(|basic| &mut basic.rules);
+    rules.zip(numbers).for_each(|(rule, number)| rule.number = number);
     encode(&set)
+}
+
+/// A line with its number, 0 where it has none.
+fn numbered(line: &str) -> (u16, &str) {
+    let Some(given) = line.strip_prefix("rule ") else { return (0, line) };
+    let (number, line) = given.split_once(' ').expect("a number and a line");
+    (number.parse().expect("a number"), line)
 }
 
 pub fn set_hex(n: usize, lines: &str) -> String {
@@ -73,7 +92,8 @@ pub fn extreme(kind: &str, n: u8, bytes: &[u8], k: u64, expression: (i32, &[i32]
 }
 
 /// The line of a walk of named states: `start N` with division lines behind `/`, `add` with a rule's line, `mark K`,
-/// `back K`, with `;` between them. A rule is written over the axes and divisions of the last start with 1 to 8 axes.
+/// `back K`, with `;` between them. A rule is written over the axes and divisions of the last start with 1 to 8 axes;
+/// `rule M` may stand before it.
 pub fn walk_line(steps: &str) -> String {
     let (mut n, mut divisions) = (1, String::new());
     let basic = |n: usize, lines: &str| read_basic(n, lines).expect("listing lines");
@@ -88,7 +108,9 @@ pub fn walk_line(steps: &str) -> String {
             format!("start {axes} {}", commands(n, basic(n, &divisions)))
         }
         ("add", rule) => {
-            let rules = basic(n, &format!("{divisions}\n{rule}")).rules;
+            let (number, line) = numbered(rule);
+            let mut rules = basic(n, &format!("{divisions}\n{line}")).rules;
+            rules.iter_mut().for_each(|rule| rule.number = number);
             format!("add {}", commands(n, BasicSet { divisions: Vec::new(), rules }))
         }
         _ => step.trim().to_string(),
