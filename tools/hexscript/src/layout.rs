@@ -1,5 +1,6 @@
-//! Document 01's commands as tables, "Bytes of a set" and "The script program", with the words of their text: what is
-//! read, written or damaged here goes by them. Only `second` has lengths of its own.
+//! Document 01's commands as tables, "Bytes of a set" and "The script program", and those that document 02 has added,
+//! with the words of their text: what is read, written or damaged here goes by them. Only `second` has lengths of its
+//! own.
 
 /// A number's place in the bytes: little-endian, signed ones two's complement.
 #[derive(Clone, Copy, PartialEq)]
@@ -109,7 +110,7 @@ impl Command {
     }
 
     pub fn is_equality(&self) -> bool {
-        self.word == EQUALITY_WORD
+        self.word == EQUALITY_WORD || self.parts.contains(&Part::Word(EQUALITY_WORD))
     }
 }
 
@@ -118,6 +119,8 @@ pub const BASIC: u8 = 0x11;
 pub const DIVISION: u8 = 0x12;
 pub const EQUALITY: u8 = 0x13;
 pub const INEQUALITY: u8 = 0x14;
+pub const NUMBERED_EQUALITY: u8 = 0x16;
+pub const NUMBERED_INEQUALITY: u8 = 0x17;
 pub const LOAD: u8 = 0x40;
 pub const END: u8 = 0x00;
 
@@ -130,9 +133,13 @@ const fn unsigned(name: &'static str, width: usize) -> Part {
 }
 
 const EQUALITY_WORD: &str = "eq";
+const INEQUALITY_WORD: &str = "ge";
+/// Before these two, with the rule's own number.
+const NUMBERED_WORD: &str = "rule";
 
 const SET_NUMBER: Part = unsigned("set number", 1);
 pub const DIVISOR: Part = unsigned("divisor", 2);
+pub const RULE_NUMBER: Part = unsigned("rule number", 2);
 pub const CONSTANT: Part = Part::One(field("constant", 4, true));
 pub const OF_AXES: Part = Part::Axes(field("axis coefficient", 2, true));
 pub const OF_DIVISIONS: Part = Part::Divisions(field("division coefficient", 2, true));
@@ -163,8 +170,14 @@ pub const SET: &[Command] = &[
     command("basic", BASIC, &[Part::Ordinal]),
     command("div", DIVISION, &[DIVISOR, CONSTANT, OF_AXES]),
     command(EQUALITY_WORD, EQUALITY, &[CONSTANT, OF_AXES, OF_DIVISIONS]),
-    command("ge", INEQUALITY, &[CONSTANT, OF_AXES, OF_DIVISIONS]),
+    command(INEQUALITY_WORD, INEQUALITY, &[CONSTANT, OF_AXES, OF_DIVISIONS]),
+    command(NUMBERED_WORD, NUMBERED_EQUALITY, &numbered(EQUALITY_WORD)),
+    command(NUMBERED_WORD, NUMBERED_INEQUALITY, &numbered(INEQUALITY_WORD)),
 ];
+
+const fn numbered(word: &'static str) -> [Part; 5] {
+    [RULE_NUMBER, Part::Word(word), CONSTANT, OF_AXES, OF_DIVISIONS]
+}
 
 /// The length of a load's set.
 pub const SET_LENGTH: Field = field("length of a set", 2, false);
@@ -175,10 +188,10 @@ pub const MOST_DIVISIONS: usize = PLACES;
 pub const MOST_RULES: usize = 48;
 pub const MOST_BASIC_SETS: usize = 32;
 
-/// The most bytes of a division and of a rule, by the commands that document 02 adds: `15` (request 1) has a divisor of
-/// 4 bytes, `16` and `17` (request 6) have a number of 2 bytes before the constant.
+/// The most bytes of a division and of a rule: `15` of document 02 (request 1), which is to come, has a divisor of 4
+/// bytes, `16` and `17` have a number before the constant.
 pub const LONGEST_DIVISION: usize = 1 + 4 + CONSTANT.length() + OF_AXES.length();
-pub const LONGEST_RULE: usize = 1 + 2 + CONSTANT.length() + OF_AXES.length() + OF_DIVISIONS.length();
+pub const LONGEST_RULE: usize = 1 + RULE_NUMBER.length() + CONSTANT.length() + OF_AXES.length() + OF_DIVISIONS.length();
 
 /// The most bytes of a basic set, 2,073, and of a set, 66,336.
 pub const LONGEST_BASIC_SET: usize = 1 + MOST_DIVISIONS * LONGEST_DIVISION + MOST_RULES * LONGEST_RULE;

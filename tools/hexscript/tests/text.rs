@@ -42,11 +42,19 @@ fn a_file_of_calls_is_read() {
 
 #[test]
 fn described_scripts_read_back() {
-    let text = "10 02 40 01 { 11 12 u16:3 i32:-4 i16:1,2 zeros:12 13 i32:5 zeros:32 14 i32:6 i16:-7 zeros:30 99 } \
+    let text = "10 02 40 01 { 11 12 u16:3 i32:-4 i16:1,2 zeros:12 13 i32:5 zeros:32 14 i32:6 i16:-7 zeros:30 \
+                16 u16:65535 i32:5 zeros:32 17 u16:0 i32:6 i16:-7 zeros:30 99 } \
                 41 00 01 02 44 03 00 45 01 46 00 i32:1,2 zeros:24 47 01 u32:9 zeros:64 00 FF";
     let script = bytes(text, &Names::new()).expect("good tokens");
     let case = format!("case a\n{}\n---\nend\n", describe::script(&script));
     assert_eq!(cases(&case).expect("good text")[0].input, script);
+}
+
+#[test]
+fn a_numbered_rule_is_described_by_its_numbers() {
+    let rule = [&[0x17, 7, 1, 0xFE, 0xFF, 0xFF, 0xFF, 3, 0][..], &[0; 30]].concat();
+    assert_eq!(describe::set(&rule), "17 u16:263 i32:-2 i16:3,0,0,0,0,0,0,0 i16:0,0,0,0,0,0,0,0");
+    assert_eq!(describe::set(&rule[..3]), "17 07 01");
 }
 
 #[test]

@@ -51,6 +51,27 @@ fn find(commands: &'static [Command], word: &str) -> Option<&'static Command> {
     commands.iter().find(|command| command.word == word)
 }
 
+/// The first word of the text behind the command's own that is always the same, and its place.
+fn fixed_word(command: &Command) -> Option<(usize, &'static str)> {
+    command.parts.iter().enumerate().find_map(|(place, part)| match part {
+        Part::Word(word) => Some((place, *word)),
+        _ => None,
+    })
+}
+
+/// The command of a set that these words tell: where several begin with the same word, as `rule M ge` and `rule M eq`,
+/// that with the same fixed word too.
+fn find_in_set(word: &str, rest: &[&str]) -> Result<Option<&'static Command>, String> {
+    let named: Vec<&'static Command> = SET.iter().filter(|command| command.word == word).collect();
+    if named.len() <= 1 {
+        return Ok(named.first().copied());
+    }
+    let told = |command: &Command| fixed_word(command).is_some_and(|(place, fixed)| rest.get(place) == Some(&fixed));
+    let fixed: Vec<&str> = named.iter().filter_map(|command| fixed_word(command)).map(|(_, fixed)| fixed).collect();
+    let fault = || format!("'{word} M' stands before '{}'", fixed.join("' or '"));
+    named.into_iter().find(|command| told(command)).map(Some).ok_or_else(fault)
+}
+
 impl Reader {
     /// One line; `line` is its number.
     fn line(&mut self, line: usize, words: &[&str]) -> Result<(), String> {
@@ -74,14 +95,14 @@ impl Reader {
         let (word, rest) = words.split_first().unwrap_or((&"", &[]));
         let command = find(SCRIPT, word).or(find(SET, word));
         if !command.is_some_and(Command::is_padded) {
-            return Err(format!("'full' goes with div, ge, eq, member or search, not with '{word}'"));
+            return Err(format!("'full' goes with div, ge, eq, rule, member or search, not with '{word}'"));
         }
         self.command(word, rest, self.counts.full())
     }
 
     /// A command of the script, or of the open load's set.
     fn command(&mut self, word: &str, rest: &[&str], counts: Counts) -> Result<(), String> {
-        let (command, out) = match (find(SCRIPT, word), find(SET, word)) {
+        let (command, out) = match (find(SCRIPT, word), find_in_set(word, rest)?) {
             (Some(command), _) => (command, &mut self.script),
             (None, Some(command)) => (command, &mut self.open_load(word)?.set),
             (None, None) => return Err(format!("unknown word '{word}'")),

@@ -17,6 +17,11 @@ fn every_command_has_its_bytes() {
         ("load 1\ndiv 65535 -2147483648 -32768 32767", "40 01 { 12 u16:65535 i32:-2147483648 i16:-32768,32767 zeros:12 }"),
         ("load 1\ndiv 1 2 3 4\neq -1 5 6 7", "40 01 { 12 u16:1 i32:2 i16:3,4 zeros:12 13 i32:-1 i16:5,6 zeros:12 i16:7 zeros:14 }"),
         ("load 1\nge 2147483647 0 -1\nlist 1", "40 01 { 14 i32:2147483647 i16:0,-1 zeros:28 } 45 01"),
+        ("load 1\nrule 7 ge 2 0 -1", "40 01 { 17 u16:7 i32:2 i16:0,-1 zeros:28 }"),
+        ("load 1\nrule 65535 eq 2 0 -1", "40 01 { 16 u16:65535 i32:2 i16:0,-1 zeros:28 }"),
+        ("load 1\nrule 0 eq 2 0 -1", "40 01 { 16 00 00 i32:2 i16:0,-1 zeros:28 }"),
+        ("load 1\ndiv 1 2 3 4\nrule 1 ge -1 5 6 7", "40 01 { 12 u16:1 i32:2 i16:3,4 zeros:12 17 01 00 i32:-1 i16:5,6 zeros:12 i16:7 zeros:14 }"),
+        ("load 1\nfull rule 258 ge 0 1 2 3 4 5 6 7 8 9 10 11 12 13 14 15 16", "40 01 { 17 02 01 i32:0 i16:1,2,3,4,5,6,7,8,9,10,11,12,13,14,15,16 }"),
         ("load 1\nfull div 1 2 3 4 5 6 7 8 9 10", "40 01 { 12 u16:1 i32:2 i16:3,4,5,6,7,8,9,10 }"),
         ("load 1\nfull ge 0 1 2 3 4 5 6 7 8 9 10 11 12 13 14 15 16", "40 01 { 14 i32:0 i16:1,2,3,4,5,6,7,8,9,10,11,12,13,14,15,16 }"),
         ("load 1\nsetbytes 99 aF\nbytes 01 02\nbytes 03", "40 01 { 99 AF } 01 02 03"),
@@ -40,11 +45,12 @@ fn every_command_has_its_bytes() {
 fn bytes_become_these_lines() {
     let script = tokens(
         "10 01 40 00 { 11 12 u16:30 i32:-4 i16:1 zeros:14 14 i32:5 i16:-1 zeros:14 i16:2 zeros:14
-         11 13 i32:0 i16:0,5 zeros:28 15 } 46 00 i32:7 zeros:28 46 00 i32:7,1 zeros:24 47 01 u32:9 zeros:64 45 00 40 00 01",
+         11 13 i32:0 i16:0,5 zeros:28 17 u16:9 i32:1 i16:-1 zeros:30 16 u16:0 i32:1 i16:0,1 zeros:28 15 } 46 00 i32:7 zeros:28 46 00 i32:7,1 zeros:24 47 01 u32:9 zeros:64 45 00 40 00 01",
     );
     let text = "axes 1\nload 0\n  basic 1\n  div 30 -4 1\n  ge 5 -1 2\n  basic 2\n  full eq 0 0 5 0 0 0 0 0 0 0 0 0 0 0 0 0 0\n\
-                \x20 setbytes 15  # byte 105: unknown command\nmember 0 7\nfull member 0 7 1 0 0 0 0 0 0\n\
-                search 1 limit 9 from 0 to 0\nlist 0\nbytes 40 00 01  # byte 246: command cut off\n";
+                \x20 rule 9 ge 1 -1\n  full rule 0 eq 1 0 1 0 0 0 0 0 0 0 0 0 0 0 0 0 0\n\
+                \x20 setbytes 15  # byte 183: unknown command\nmember 0 7\nfull member 0 7 1 0 0 0 0 0 0\n\
+                search 1 limit 9 from 0 to 0\nlist 0\nbytes 40 00 01  # byte 324: command cut off\n";
     assert_eq!(write(&script), text);
     assert_eq!(write(&[0x00, 0x45]), "end\nbytes 45  # byte 1: after the end\n");
     assert_eq!(write(&[0x46; 34]), format!("full member 70{}\n", " 1179010630".repeat(8)));
@@ -81,6 +87,9 @@ fn every_refusal_can_be_said() {
         (14, "axes 1\nlist 4".to_string()),
         (15, "list 0".to_string()),
         (15, "axes 1\naxes 1".to_string()),
+        (17, "axes 1\nload 0\nbasic 1\nrule 0 ge 0 1".to_string()),
+        (17, "axes 1\nload 0\nbasic 1\nrule 0 eq 0 -32768".to_string()),
+        (7, "axes 1\nload 0\nbasic 1\nrule 1 eq 0 -32768".to_string()),
     ];
     for (number, text) in table {
         let output = second::run_script(&read(&text).expect("good text"));
@@ -98,6 +107,14 @@ fn faults_are_told_with_their_line() {
         ("axes 1\nload 0\ndiv -1 0 1", "line 3: -1 does not fit: divisor from 0 to 65535"),
         ("axes 1\nload 0\nge 2147483648 1", "line 3: 2147483648 does not fit: constant from -2147483648 to 2147483647"),
         ("axes 1\nmember 0 99999999999999999999", "line 2: 99999999999999999999 does not fit: coordinate from -2147483648 to 2147483647"),
+        ("axes 1\nload 0\nbasic 1\nrule 65536 ge 0 1", "line 4: 65536 does not fit: rule number from 0 to 65535"),
+        ("axes 1\nload 0\nrule -1 eq 0 1", "line 3: -1 does not fit: rule number from 0 to 65535"),
+        ("axes 1\nload 0\nrule 5", "line 3: 'rule M' stands before 'eq' or 'ge'"),
+        ("axes 1\nload 0\nrule 5 div 2 0 1", "line 3: 'rule M' stands before 'eq' or 'ge'"),
+        ("axes 1\nload 0\nrule ge 0 1", "line 3: 'rule M' stands before 'eq' or 'ge'"),
+        ("axes 1\nload 0\nrule 5 ge 0 1 2", "line 3: 'rule' takes rule number, 'ge', constant, 1 axis coefficient, 0 division coefficients: 4 words, 5 given"),
+        ("axes 1\nrule 5 ge 0 1", "line 2: 'rule' stands in no load"),
+        ("load 0\nrule 5 ge 0 1", "line 2: 'rule' before any 'axes': only 'full rule' can stand here"),
         ("axes 1\nlist 0x1", "line 2: '0x1' is no whole number"),
         ("axes 1\nlist +1", "line 2: '+1' is no whole number"),
         ("axes 2\nload 0\nbasic 1\ndiv 2 0 1 0\nge 0 1 0", "line 5: 'ge' takes constant, 2 axis coefficients, 1 division coefficient: 4 words, 3 given"),
@@ -112,8 +129,8 @@ fn faults_are_told_with_their_line() {
         ("axes 1\nload 0\nbasic 1\nset 0 has 1", "line 4: 'set M has K' comes first in a load, and once"),
         ("axes 1\nload 0\nset 0 with 1", "line 3: a listing opens with 'set M has K'"),
         ("axes 1\nset 0 has 1", "line 2: 'set' stands in no load"),
-        ("axes 1\nfull list 0", "line 2: 'full' goes with div, ge, eq, member or search, not with 'list'"),
-        ("axes 1\nfull", "line 2: 'full' goes with div, ge, eq, member or search, not with ''"),
+        ("axes 1\nfull list 0", "line 2: 'full' goes with div, ge, eq, rule, member or search, not with 'list'"),
+        ("axes 1\nfull", "line 2: 'full' goes with div, ge, eq, rule, member or search, not with ''"),
         ("bytes 9", "line 1: '9' is no byte of two hexadecimal digits"),
         ("bytes +9", "line 1: '+9' is no byte of two hexadecimal digits"),
         ("setbytes 99", "line 1: 'setbytes' stands in no load"),
