@@ -2,7 +2,8 @@
 # The engine's public calls, through the static libraries of the crates probe and host (the latter for the states), against the stored
 # calls and the second program, answer by answer, and by meaning; and what include/pitsets.h says of a state's buffer (host/walking.h).
 # CALLS (default 10000) scales the run; with a few hundred the tests may lack an answer at 128 bits, or rows built of some kind, the
-# searches a run of some kind, and the counts, the values or the walks a kind, which fails. The last line is 'N passed, M failed'.
+# searches a run of some kind, and the checks, the operations, the counts, the values or the walks a kind, which fails. The last line is
+# 'N passed, M failed'.
 cd "$(dirname "$0")/.." || exit 2
 calls=${CALLS:-10000}
 passed=0
@@ -35,6 +36,7 @@ held() {
 
 counted "stored calls" tools/target/release/hexscript calls target/tests/probe -- tests/calls/*.txt
 held 5 "$calls" check part
+counted "numbers of rules among these" tools/target/release/generate numbers "$calls" 5 check part
 held 6 $((2 * calls)) member holder
 held 11 $((2 * calls)) fleet
 counted "lists of points among these" tools/target/release/generate fleets $((2 * calls)) 11
@@ -49,6 +51,7 @@ counted "kinds of walks among these" tools/target/release/generate states "$call
 held 7 $((5 * calls)) test
 counted "wide at 64 bits and rows built among these" tools/target/release/generate tests $((5 * calls)) 7
 held 8 "$calls" union intersection difference complement
+counted "numbers of rules among these" tools/target/release/generate numbers "$calls" 8 union intersection difference complement
 counted "by meaning" tools/target/release/meaning $((calls / 10)) 9 target/tests/probe
 counted "counts by enumeration" tools/target/release/meaning counts $((6 * calls / 10)) 13 target/tests/probe
 counted "greatest and least by vertices" tools/target/release/meaning extremes "$calls" 15 target/tests/probe

@@ -6,6 +6,7 @@ use crate::extremes;
 use crate::fleets;
 use crate::hard;
 use crate::model::{encode, Set};
+use crate::numbers::{numbered, written};
 use crate::queries::{any_box, any_limit, any_point, widest_box};
 use crate::rng::Rng;
 use crate::runs;
@@ -20,12 +21,13 @@ pub const KINDS: [&str; 16] = [
     "union", "intersection", "difference", "complement",
 ];
 
-/// Bytes of the set, damaged for a part of the calls.
+/// Bytes of the set, some of its rules with numbers, damaged for a part of the calls.
 pub(crate) fn bytes(rng: &mut Rng, set: &Set, bad_percent: usize) -> String {
+    let set = numbered(set, rng);
     if rng.chance(bad_percent) {
-        hex(&damaged(rng, set))
+        hex(&damaged(rng, &set))
     } else {
-        hex(&encode(set))
+        hex(&encode(&set))
     }
 }
 
@@ -77,7 +79,7 @@ fn search_line(n: usize, set: &str, limit: u32, low: &[i32; 8], high: &[i32; 8])
 fn search(rng: &mut Rng, world: &World) -> String {
     if rng.chance(33) {
         let (n, set, sides, limit) = runs::search(rng);
-        return search_line(n, &hex(&encode(&set)), limit, &sides.low, &sides.high);
+        return search_line(n, &hex(&written(&set, rng)), limit, &sides.low, &sides.high);
     }
     let set = world.any(rng);
     let widest = rng.chance(5);

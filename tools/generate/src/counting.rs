@@ -7,7 +7,7 @@ use crate::queries::{any_box, any_limit, widest_box};
 use crate::rng::Rng;
 use crate::runs;
 use crate::sets::World;
-use crate::slots::unit;
+use crate::slots::{rule_of, unit};
 use hexscript::tokens::unhex;
 use second::algebra::tightened;
 use second::ask::{check_corners, check_limit, prefixes, Ending, Sides, LARGEST_LIMIT};
@@ -62,7 +62,7 @@ fn fractions_only(rng: &mut Rng, world: &World) -> Set {
     for basic in &mut set {
         let constant = 2 * rng.range(-6, 6) as i32 + 1;
         let axes = unit(axis).map(|k| 2 * k);
-        basic.rules.push(Rule { equality: true, constant, axes, divisions: [0; 8] });
+        basic.rules.push(Rule { equality: true, constant, ..rule_of(axes) });
     }
     set
 }

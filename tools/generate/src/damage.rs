@@ -1,11 +1,11 @@
-//! Faults in the bytes of a set, made on purpose so that each refusal from 2 to 9 is reached
+//! Faults in the bytes of a set, made on purpose so that each refusal from 2 to 9 and 17 is reached
 //! at any place of the set, and faults at random.
 
 use crate::model::{commands, Basic, Division};
 use crate::rng::Rng;
 use hexscript::layout::{
-    find, Command, Part, BASIC, CONSTANT, DIVISION, DIVISOR, EQUALITY, INEQUALITY, MOST_BASIC_SETS, MOST_DIVISIONS,
-    MOST_RULES, OF_AXES, SET,
+    find, Command, Part, BASIC, CONSTANT, DIVISION, DIVISOR, MOST_BASIC_SETS, MOST_DIVISIONS, MOST_RULES,
+    NUMBERED_EQUALITY, NUMBERED_INEQUALITY, OF_AXES, RULE_NUMBER, SET,
 };
 
 /// The places in the list of the whole commands that are so.
@@ -70,7 +70,8 @@ fn at_any_place(rng: &mut Rng, command: &mut [u8]) {
 
 /// A command too many (9): a basic set, a division or a rule repeated.
 fn too_many(rng: &mut Rng, list: &mut Vec<Vec<u8>>) {
-    let code = rng.pick(&[BASIC, DIVISION, EQUALITY, INEQUALITY]);
+    let codes: Vec<u8> = SET.iter().map(|command| command.code).collect();
+    let code = rng.pick(&codes);
     let places = places(list, |command| command.code == code);
     let Some(&place) = places.last() else { return };
     let most = match code {
@@ -83,6 +84,46 @@ fn too_many(rng: &mut Rng, list: &mut Vec<Vec<u8>>) {
     list.splice(place..place, std::iter::repeat_n(copy, most + 1 - short));
 }
 
+/// How many rules stand right before a place.
+fn rules_before(list: &[Vec<u8>], place: usize) -> usize {
+    let command = |bytes: &[u8]| find(SET, *bytes.first()?);
+    list[..place].iter().rev().take_while(|bytes| command(bytes).is_some_and(Command::is_rule)).count()
+}
+
+/// The same rule as a `16` or `17` with number 0.
+fn nameless(rule: &[u8]) -> Vec<u8> {
+    let (command, constant) = (layout(rule), place(rule, CONSTANT));
+    let code = if command.is_equality() { NUMBERED_EQUALITY } else { NUMBERED_INEQUALITY };
+    [&[code][..], &vec![0; RULE_NUMBER.length()], &rule[constant..]].concat()
+}
+
+/// A rule with number 0 (17), at times with a fault more: 7 or 8, which 17 comes before, or 3, 4 or 9, which come
+/// first.
+fn without_number(rng: &mut Rng, list: &mut Vec<Vec<u8>>) {
+    let Some(i) = one(rng, list, Command::is_rule) else { return };
+    let given = list[i].clone();
+    list[i] = nameless(&given);
+    match rng.below(9) {
+        0 => out_of_range(rng, &mut list[i]),
+        1 => at_any_place(rng, &mut list[i]),
+        2 => {
+            let numbers = place(&list[i], CONSTANT);
+            let keep = numbers + rng.below(list[i].len() - numbers);
+            list[i].truncate(keep);
+            list.truncate(i + 1);
+        }
+        3 => {
+            let rule = list.remove(i);
+            list.insert(0, rule);
+        }
+        4 => {
+            let before = rules_before(list, i);
+            list.splice(i..i, std::iter::repeat_n(given, MOST_RULES.saturating_sub(before)));
+        }
+        _ => {}
+    }
+}
+
 /// A byte that is no command of a set.
 fn unknown(rng: &mut Rng) -> u8 {
     let mut codes = vec![0x00, 0x10, 0x15, 0x40, 0x99, 0xFF];
@@ -93,7 +134,7 @@ fn unknown(rng: &mut Rng) -> u8 {
 /// One fault that aims at a refusal; none where the set has no place for it.
 fn aimed(rng: &mut Rng, list: &mut Vec<Vec<u8>>) {
     let at = rng.below(list.len());
-    match rng.below(9) {
+    match rng.below(10) {
         0 => list.insert(at, vec![unknown(rng)]),
         1 => {
             let keep = rng.below(list[at].len() + 1);
@@ -119,6 +160,7 @@ fn aimed(rng: &mut Rng, list: &mut Vec<Vec<u8>>) {
                 at_any_place(rng, &mut list[i]);
             }
         }
+        8 => without_number(rng, list),
         _ => too_many(rng, list),
     }
 }

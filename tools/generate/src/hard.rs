@@ -31,6 +31,7 @@ pub fn stored() -> Vec<(usize, Basic)> {
             "div" => basic.divisions.push(Division { d: v[0] as u16, c: v[1] as i32, axes: places(&v[2..]) }),
             word => basic.rules.push(Rule {
                 equality: word == "eq",
+                number: 0,
                 constant: v[0] as i32,
                 axes: places(&v[1..=*n]),
                 divisions: places(&v[*n + 1..]),

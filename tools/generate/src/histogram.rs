@@ -1,10 +1,11 @@
 //! What the generated scripts and calls reach, by `second`.
 
-use crate::{calls, counting, events, extremes, fleets, runs, scripts, states};
-use hexscript::layout::{cut, set_of, AXES, END, SCRIPT};
+use crate::{calls, counting, events, extremes, fleets, numbers, runs, scripts, states};
+use hexscript::layout::{cut, find, set_of, AXES, END, LOAD, SCRIPT};
 use hexscript::tokens::unhex;
 use second::algebra::{complement, difference, intersection, union, Watch};
 use second::ask::{check_corners, check_limit, Sides};
+use second::script::TABLE_BYTES;
 use second::test::test;
 use second::{parse, BasicSet, Outcome, Set};
 use std::collections::BTreeMap;
@@ -86,11 +87,12 @@ pub fn asked_only() -> impl Iterator<Item = &'static str> {
 
 /// Every name that has to occur.
 pub fn wanted() -> Vec<String> {
-    let refusals = (1..=15).map(|k| format!("refused {k}"));
+    let refusals = (1..=15).chain([17]).map(|k| format!("refused {k}"));
     let tests = ANSWERS.iter().map(|answer| format!("test {answer}"));
     let asking = ["search at", "search none", "search spent"].into_iter().chain(asked_only()).chain(SHUT);
     let carried = TESTING.iter().flat_map(|kind| ANSWERS.map(|answer| carried(kind, answer)));
-    let others = asking.chain(events::EVENTS).chain(runs::EVENTS).map(str::to_string);
+    let numbers = numbers::OF_SETS.into_iter().chain(numbers::OF_OPERATIONS);
+    let others = asking.chain(events::EVENTS).chain(runs::EVENTS).chain(numbers).map(str::to_string);
     refusals.chain(tests).chain(others).chain(carried).chain(built_names()).collect()
 }
 
@@ -189,8 +191,8 @@ fn asked(command: &[u8]) -> (u32, Sides) {
     (number(2) as u32, Sides { low: eight(6), high: eight(38) })
 }
 
-/// Counts the answers of the tests that a script's operations make, what they tighten, its shut windows, and the runs of
-/// its other searches.
+/// Counts the answers of the tests that a script's operations make, what they tighten, the numbers of its rules, its
+/// shut windows, and the runs of its other searches.
 /// Its output shows none of these.
 fn count_tests(script: &[u8], counts: &mut Counts) {
     let Some(&[0x10, n @ 1..=8]) = script.get(..2) else { return };
@@ -204,10 +206,15 @@ fn count_tests(script: &[u8], counts: &mut Counts) {
             let (limit, sides) = asked(command);
             count_search(&sets[target], limit, &sides, counts);
         }
+        if command[0] == LOAD {
+            numbers::of_set(n, set_of(command), counts);
+        }
         let kind = kind_of(command);
         let set = |i: usize| command.get(i).and_then(|&number| sets.get(usize::from(number)));
         if let (Some(a), Some(b)) = (set(2), set(command.len() - 1)) {
             count_events(kind, a, b, counts);
+            let word = find(SCRIPT, command[0]).map_or("", |command| command.word);
+            numbers::of_operation(word, a, b, TABLE_BYTES, counts);
         }
         let mut watch = |candidate: &BasicSet, outcome: Outcome| {
             bump(counts, &format!("test {}", outcome.answer.word()));
@@ -215,7 +222,7 @@ fn count_tests(script: &[u8], counts: &mut Counts) {
             count_built(candidate, outcome, counts);
         };
         if let Some(set) = result(n, command, &sets, &mut watch) {
-            if second::encode(&set).len() <= 8_000 {
+            if second::encode(&set).len() <= TABLE_BYTES {
                 sets[target] = set;
             }
         }
@@ -229,6 +236,27 @@ pub fn of_scripts(count: u64, seed: u64) -> Counts {
         count_output(&second::run_script(&script), &mut counts);
         count_tests(&script, &mut counts);
     }
+    counts
+}
+
+/// Counts what the numbers of rules reach in a call of the check, or in an operation on good sets.
+fn count_numbers(call: &str, counts: &mut Counts) {
+    let words: Vec<&str> = call.split(' ').collect();
+    let (Some(kind), Some(Ok(n))) = (words.first(), words.get(1).map(|n| n.parse())) else { return };
+    if let ("check", Some(bytes)) = (*kind, words.get(2).and_then(|word| unhex(word))) {
+        numbers::of_set(n, &bytes, counts);
+    }
+    let set = |word: &str| parse(n, &unhex(word)?).ok();
+    let [_, _, room, first, ..] = words[..] else { return };
+    if let (Ok(room), Some(a), Some(b)) = (room.parse(), set(first), set(words[words.len() - 1])) {
+        numbers::of_operation(kind, &a, &b, room, counts);
+    }
+}
+
+/// The same of so many calls of these kinds.
+pub fn of_numbers(count: u64, seed: u64, kinds: &[&str]) -> Counts {
+    let mut counts = Counts::new();
+    (0..count).for_each(|index| count_numbers(&calls::call(seed, index, kinds), &mut counts));
     counts
 }
 
@@ -325,6 +353,7 @@ pub fn of_calls(count: u64, seed: u64) -> Counts {
     let mut counts = Counts::new();
     for index in 0..count {
         let call = calls::call(seed, index, &calls::KINDS);
+        count_numbers(&call, &mut counts);
         count_operation(&call, &mut counts);
         count_tested(&call, &mut counts);
         count_searched(&call, &mut counts);

@@ -1,6 +1,7 @@
 //! Seeded scripts and calls that reach every refusal, test answer and search outcome, all that tightening does, every
 //! answer of tests that are carried into 128 bits, long runs of failing prefixes, counts and lists of points of every
-//! kind, every answer of greatest and least in either half, and walks of named states that say every word.
+//! kind, every answer of greatest and least in either half, walks of named states that say every word, and numbers of rules
+//! wherever a rule goes.
 
 mod additions;
 pub mod calls;
@@ -13,6 +14,7 @@ pub mod fleets;
 pub mod hard;
 pub mod histogram;
 pub mod model;
+pub mod numbers;
 pub mod plans;
 pub mod queries;
 pub mod rng;

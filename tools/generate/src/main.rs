@@ -11,15 +11,17 @@
 //!                                       either half, turns of the second one
 //! `generate states COUNT SEED`          what COUNT walks of named states reach: starts, additions by their row and their
 //!                                       pivots, marks, refusals
+//! `generate numbers COUNT SEED KIND..`  what the numbers of rules reach in COUNT calls of these kinds: `check` (and
+//!                                       `part`), or operations
 
 use generate::histogram::Counts;
-use generate::{calls, counting, extremes, fleets, histogram, runs, scripts, states};
+use generate::{calls, counting, extremes, fleets, histogram, numbers, runs, scripts, states};
 use hexscript::tokens::hex;
 use std::io::Write;
 use std::process::ExitCode;
 
 const USAGE: &str = "generate scripts COUNT SEED DIR|- | calls COUNT SEED [KIND..] | \
-                     histogram|tests|searches|counts|fleets|extremes|states COUNT SEED";
+                     histogram|tests|searches|counts|fleets|extremes|states COUNT SEED | numbers COUNT SEED KIND..";
 
 /// One test in so many has to be wide at 64 bits.
 const CARRIED_ONE_IN: u64 = 25;
@@ -128,6 +130,12 @@ fn print_states(count: u64, seed: u64) -> ExitCode {
     closing(&print_each(&histogram::of_states(count, seed), &states::EVENTS.map(str::to_string)))
 }
 
+fn print_numbers(count: u64, seed: u64, kinds: &[&str]) -> ExitCode {
+    let reached: &[&str] = if kinds.contains(&"check") { &numbers::OF_SETS } else { &numbers::OF_OPERATIONS };
+    let names: Vec<String> = reached.iter().map(|name| name.to_string()).collect();
+    closing(&print_each(&histogram::of_numbers(count, seed, kinds), &names))
+}
+
 fn closing(checks: &[bool]) -> ExitCode {
     let passed = checks.iter().filter(|&&good| good).count();
     let failed = checks.len() - passed;
@@ -147,6 +155,9 @@ fn run(words: &[&str]) -> Result<ExitCode, String> {
         ["fleets", count, seed] => Ok(print_fleets(number(count)?, number(seed)?)),
         ["extremes", count, seed] => Ok(print_extremes(number(count)?, number(seed)?)),
         ["states", count, seed] => Ok(print_states(number(count)?, number(seed)?)),
+        ["numbers", count, seed, kinds @ ..] if !kinds.is_empty() => {
+            Ok(print_numbers(number(count)?, number(seed)?, kinds))
+        }
         _ => Err(USAGE.to_string()),
     }
 }

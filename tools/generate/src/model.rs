@@ -1,6 +1,6 @@
 //! Sets as the generator writes them. Numbers may be out of range: that is how refusals are reached.
 
-use hexscript::layout::{BASIC, DIVISION, EQUALITY, INEQUALITY};
+use hexscript::layout::{BASIC, DIVISION, EQUALITY, INEQUALITY, NUMBERED_EQUALITY, NUMBERED_INEQUALITY};
 
 #[derive(Clone, Copy, PartialEq)]
 pub struct Division {
@@ -12,6 +12,8 @@ pub struct Division {
 #[derive(Clone, Copy, PartialEq)]
 pub struct Rule {
     pub equality: bool,
+    /// 0 for none; a rule is made without, `numbers` gives it one.
+    pub number: u16,
     pub constant: i32,
     pub axes: [i16; 8],
     pub divisions: [i16; 8],
@@ -41,7 +43,14 @@ impl Division {
 
 impl Rule {
     pub fn bytes(&self) -> Vec<u8> {
-        let mut out = vec![if self.equality { EQUALITY } else { INEQUALITY }];
+        let mut out = match (self.equality, self.number) {
+            (true, 0) => vec![EQUALITY],
+            (false, 0) => vec![INEQUALITY],
+            (equality, number) => {
+                let [low, high] = number.to_le_bytes();
+                vec![if equality { NUMBERED_EQUALITY } else { NUMBERED_INEQUALITY }, low, high]
+            }
+        };
         out.extend(self.constant.to_le_bytes());
         out.extend(numbers(&self.axes));
         out.extend(numbers(&self.divisions));

@@ -36,6 +36,7 @@ impl Plan {
         let size = if rng.chance(50) { 3 } else { self.size };
         let mut rule = Rule {
             equality: rng.chance(15),
+            number: 0,
             constant: rng.range(-9, 9) as i32,
             axes: coefficients(rng, self.n, size),
             divisions: coefficients(rng, self.divisions.len(), size),

@@ -18,6 +18,12 @@ impl Rng {
         z ^ (z >> 31)
     }
 
+    /// A stream of its own for these bytes, which leaves this one where it is.
+    pub fn aside(&self, bytes: &[u8]) -> Rng {
+        let fold = |sum: u64, &byte: &u8| (sum ^ u64::from(byte)).wrapping_mul(0x0100_0000_01B3);
+        Rng(self.0 ^ bytes.iter().fold(0xCBF2_9CE4_8422_2325, fold))
+    }
+
     /// From 0 to `count` - 1.
     pub fn below(&mut self, count: usize) -> usize {
         (self.next() % count as u64) as usize

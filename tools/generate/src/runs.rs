@@ -4,6 +4,7 @@ use crate::histogram::{bump, Counts};
 use crate::model::{encode, Basic, Division, Rule, Set};
 use crate::queries::any_limit;
 use crate::rng::Rng;
+use crate::slots::rule_of;
 use second::ask::{failing_rule, walk, Sides, LARGEST_LIMIT};
 use second::{BasicSet, Kind};
 
@@ -116,7 +117,7 @@ fn limit(rng: &mut Rng, set: &second::Set, sides: &Sides) -> u32 {
 
 /// A rule that fails for many values of the axis, from one end of its side or to the other.
 fn rule(rng: &mut Rng, axis: usize, divisions: &mut Vec<Division>) -> Rule {
-    let mut rule = Rule { equality: rng.chance(35), constant: 0, axes: [0; 8], divisions: [0; 8] };
+    let mut rule = Rule { equality: rng.chance(35), ..rule_of([0; 8]) };
     let target = rng.range(-100, 1_500);
     let mut value = 0;
     let (linear, count) = rng.pick(&[(true, 0), (true, 0), (false, 1), (false, 1), (false, 1), (false, 2), (true, 1)]);
@@ -147,7 +148,7 @@ fn basic(rng: &mut Rng, n: usize, axis: usize) -> Basic {
     if rng.chance(30) {
         let mut axes = [0; 8];
         axes[rng.below(n)] = rng.pick(&[-1, 1, 2]);
-        basic.rules.push(Rule { equality: false, constant: rng.range(-2, 5) as i32, axes, divisions: [0; 8] });
+        basic.rules.push(Rule { constant: rng.range(-2, 5) as i32, ..rule_of(axes) });
     }
     basic
 }

@@ -3,6 +3,7 @@
 use crate::damage::{blind, damaged};
 use crate::hard;
 use crate::model::{encode, Basic, Set};
+use crate::numbers::{all_numbered, numbered, written};
 use crate::queries::{any_box, any_limit, any_point, widest_box};
 use crate::rng::Rng;
 use crate::runs;
@@ -78,11 +79,11 @@ fn mixed(rng: &mut Rng) -> Vec<u8> {
     let mut script = Script::new(world.n);
     let number = |rng: &mut Rng| if rng.chance(2) { rng.pick(&[4, 5, 255]) } else { rng.below(4) };
     for target in 0..1 + rng.below(3) {
-        script.load(target, &encode(&world.any(rng)));
+        script.load(target, &written(&world.any(rng), rng));
     }
     for _ in 0..2 + rng.below(7) {
         match rng.below(10) {
-            0 => script.load(number(rng), &encode(&world.any(rng))),
+            0 => script.load(number(rng), &written(&world.any(rng), rng)),
             1..=4 => script.operation(rng.pick(&OPERATIONS), number(rng), number(rng), number(rng)),
             5 => script.complement(number(rng), number(rng)),
             6 | 7 => script.list(number(rng)),
@@ -98,9 +99,9 @@ fn mixed(rng: &mut Rng) -> Vec<u8> {
 fn chain(rng: &mut Rng) -> Vec<u8> {
     let world = World::new(rng);
     let mut script = Script::new(world.n);
-    script.load(0, &encode(&[world.boxed(rng), world.boxed(rng)]));
+    script.load(0, &written(&[world.boxed(rng), world.boxed(rng)], rng));
     for target in 1..4 {
-        script.load(target, &encode(&world.small(rng)));
+        script.load(target, &written(&world.small(rng), rng));
     }
     script.operation(0x42, 0, 0, 1);
     script.operation(0x43, 0, 0, 2);
@@ -119,9 +120,9 @@ fn pivots(rng: &mut Rng) -> Vec<u8> {
     let (n, basic) = hard::near(rng);
     let mut script = Script::new(n);
     let world = World::with_axes(rng, n);
-    script.load(0, &encode(&[basic]));
+    script.load(0, &written(&[basic], rng));
     let other: Set = if rng.chance(60) { vec![Basic::default()] } else { vec![world.boxed(rng)] };
-    script.load(1, &encode(&other));
+    script.load(1, &written(&other, rng));
     script.operation(rng.pick(&[0x42, 0x42, 0x43]), 2, 0, 1);
     script.list(2);
     script.end()
@@ -133,8 +134,8 @@ fn slots(rng: &mut Rng) -> Vec<u8> {
     let mut script = Script::new(world.n);
     let cut = rng.chance(50);
     let (first, second) = world.half_slots(rng, cut);
-    script.load(0, &encode(&first));
-    script.load(1, &encode(&second));
+    script.load(0, &written(&first, rng));
+    script.load(1, &written(&second, rng));
     for code in [0x42, 0x43] {
         script.operation(code, 2, 0, 1);
         script.list(2);
@@ -152,8 +153,8 @@ fn wider_numbers(rng: &mut Rng) -> Vec<u8> {
     let kind = rng.pick(&["intersection", "difference", "complement"]);
     let (n, first, second) = wider::operands(rng, kind);
     let mut script = Script::new(n);
-    script.load(0, &encode(&first));
-    script.load(1, &encode(&second));
+    script.load(0, &written(&first, rng));
+    script.load(1, &written(&second, rng));
     match kind {
         "intersection" => script.operation(0x42, 2, 0, 1),
         "difference" => script.operation(0x43, 2, 0, 1),
@@ -170,7 +171,7 @@ fn wider_numbers(rng: &mut Rng) -> Vec<u8> {
 fn long_runs(rng: &mut Rng) -> Vec<u8> {
     let (n, set, sides, limit) = runs::search(rng);
     let mut script = Script::new(n);
-    script.load(0, &encode(&set));
+    script.load(0, &written(&set, rng));
     script.search_in(0, limit, &sides.low, &sides.high);
     script.search_in(0, any_limit(rng), &sides.low, &sides.high);
     script.end()
@@ -180,9 +181,9 @@ fn long_runs(rng: &mut Rng) -> Vec<u8> {
 fn limits(rng: &mut Rng) -> Vec<u8> {
     let world = World::new(rng);
     let mut script = Script::new(world.n);
-    script.load(0, &encode(&world.near_limit(rng, true)));
+    script.load(0, &written(&world.near_limit(rng, true), rng));
     let second = if rng.chance(60) { world.near_limit(rng, true) } else { world.small(rng) };
-    script.load(1, &encode(&second));
+    script.load(1, &written(&second, rng));
     for _ in 0..1 + rng.below(3) {
         match rng.below(5) {
             0 => script.complement(2 + rng.below(2), rng.below(2)),
@@ -196,18 +197,40 @@ fn limits(rng: &mut Rng) -> Vec<u8> {
     script.end()
 }
 
+/// Five basic sets of 41 rules with numbers are 8,000 bytes, a table's; one basic set or one number less or more, and
+/// what the operations make of such sets.
+fn full_of_numbers(rng: &mut Rng) -> Vec<u8> {
+    let world = World::new(rng);
+    let mut script = Script::new(world.n);
+    let basic = Basic { divisions: Vec::new(), rules: (0..41).map(|_| world.side(rng)).collect() };
+    let mut set = all_numbered(&vec![basic; 5], rng);
+    match rng.below(5) {
+        0 => set.push(Basic::default()),
+        1 => set[rng.below(5)].rules[rng.below(41)].number = 0,
+        2 => drop(set.pop()),
+        _ => {}
+    }
+    script.load(0, &encode(&set));
+    script.load(1, &encode(&all_numbered(&world.small(rng), rng)));
+    script.operation(rng.pick(&[0x41, 0x43]), 2, 0, 3);
+    script.operation(rng.pick(&OPERATIONS), 3, rng.below(2), rng.below(2));
+    script.complement(rng.below(2), 1);
+    script.list(rng.below(4));
+    script.end()
+}
+
 /// Loads of damaged sets; the target's old content is listed after them.
 fn bad_sets(rng: &mut Rng) -> Vec<u8> {
     let world = World::new(rng);
     let mut script = Script::new(world.n);
-    script.load(0, &encode(&world.small(rng)));
+    script.load(0, &written(&world.small(rng), rng));
     for _ in 0..1 + rng.below(5) {
         let set = match rng.below(10) {
             0 => world.near_limit(rng, true),
             1 => vec![world.wide(rng)],
             _ => world.any(rng),
         };
-        let target = rng.below(2);
+        let (target, set) = (rng.below(2), numbered(&set, rng));
         script.load(target, &damaged(rng, &set));
     }
     script.list(0);
@@ -252,6 +275,7 @@ pub fn script(seed: u64, index: u64) -> Vec<u8> {
         56..=59 => wider_numbers(rng),
         60..=69 => limits(rng),
         70..=84 => bad_sets(rng),
+        85 | 86 => full_of_numbers(rng),
         _ => bad_script(rng),
     }
 }

@@ -2,7 +2,7 @@
 
 use crate::model::{Basic, Division, Rule, Set};
 use crate::rng::Rng;
-use crate::slots::{maybe_brought_down, maybe_multiplied};
+use crate::slots::{maybe_brought_down, maybe_multiplied, rule_of};
 
 /// What the sets of one script or call have in common: axes, and a pool of divisions,
 /// so that joins meet equal divisions often.
@@ -38,6 +38,7 @@ impl World {
     fn rule(&self, rng: &mut Rng, divisions: usize, size: i64, constant: i64) -> Rule {
         let rule = Rule {
             equality: rng.chance(25),
+            number: 0,
             constant: rng.range(-constant, constant) as i32,
             axes: coefficients(rng, self.n, size),
             divisions: coefficients(rng, divisions, size),
@@ -71,7 +72,7 @@ impl World {
             let low = rng.range(-4, 4) as i32;
             let mut axes = [0; 8];
             axes[axis] = 1;
-            let rule = Rule { equality: rng.chance(30), constant: -low, axes, divisions: [0; 8] };
+            let rule = Rule { equality: rng.chance(30), constant: -low, ..rule_of(axes) };
             rules.push(rule);
             if !rule.equality {
                 axes[axis] = -1;
@@ -103,17 +104,18 @@ impl World {
             let equality = rng.chance(25);
             let end = rng.pick(&[i32::MIN, i32::MIN + 1, i32::MAX, i32::MAX - 1, -65_537, 7]);
             let constant = if equality { end.max(-i32::MAX) } else { end };
-            let rule = Rule { equality, constant, axes: large(rng, self.n), divisions: large(rng, count) };
+            let (axes, divisions) = (large(rng, self.n), large(rng, count));
+            let rule = Rule { equality, number: 0, constant, axes, divisions };
             basic.rules.push(maybe_brought_down(rng, rule, 33));
         }
         basic
     }
 
     /// One side of one axis; many of these make many pieces without making many tests slow.
-    fn side(&self, rng: &mut Rng) -> Rule {
+    pub(crate) fn side(&self, rng: &mut Rng) -> Rule {
         let mut axes = [0; 8];
         axes[rng.below(self.n.min(2))] = rng.pick(&[-1, 1]);
-        Rule { equality: rng.chance(5), constant: rng.range(-20, 20) as i32, axes, divisions: [0; 8] }
+        Rule { equality: rng.chance(5), constant: rng.range(-20, 20) as i32, ..rule_of(axes) }
     }
 
     /// Close to 32 basic sets, to 8 divisions or to 48 rules; `over` allows one too many.

@@ -61,7 +61,7 @@ pub(crate) fn unit(axis: usize) -> [i16; 8] {
 
 /// An inequality with these coefficients and the constant 0.
 pub(crate) fn rule_of(axes: [i16; 8]) -> Rule {
-    Rule { equality: false, constant: 0, axes, divisions: [0; 8] }
+    Rule { equality: false, number: 0, constant: 0, axes, divisions: [0; 8] }
 }
 
 impl World {
@@ -79,7 +79,8 @@ impl World {
         let remainder = rng.range(1, i64::from(g) - 1);
         let constant = (i64::from(g) * rng.range(-3, 3) + remainder) as i32;
         let divisions = if rng.chance(50) { [0; 8] } else { coefficients(rng, divisions, 2) };
-        Rule { equality: true, constant, axes: axes.map(|k| k * g), divisions: divisions.map(|k| k * g) }
+        let (axes, divisions) = (axes.map(|k| k * g), divisions.map(|k| k * g));
+        Rule { equality: true, number: 0, constant, axes, divisions }
     }
 
     /// Every second or third slot of the first axis, told by a division (x - 2q - 1 = 0), by the last axis
@@ -88,7 +89,7 @@ impl World {
         let period = rng.pick(&[2i16, 3]);
         let slot = rng.range(0, i64::from(period) - 1) as i32;
         let mut basic = Basic::default();
-        let mut rule = Rule { equality: true, constant: -slot, axes: unit(0), divisions: [0; 8] };
+        let mut rule = Rule { equality: true, constant: -slot, ..rule_of(unit(0)) };
         match rng.below(3) {
             0 => {
                 basic.divisions.push(Division { d: period as u16, c: 0, axes: unit(0) });

@@ -1,6 +1,7 @@
 //! Calls of named states (document 02, request 8): walks of 60 calls with five names.
 
 use crate::model::{Division, Rule};
+use crate::numbers::maybe_numbered;
 use crate::plans::{aimed, hard_addition, ladder, many, pillars, rule_by_rule, small, steep_start, Plan};
 use crate::rng::Rng;
 use hexscript::tokens::hex;
@@ -85,7 +86,9 @@ impl<'a> Walker<'a> {
         self.take(format!("start {n} {}", hex(&bytes)));
     }
 
+    /// With a number now and then: a rule that is added again has another.
     fn add(&mut self, rule: &Rule) {
+        let rule = maybe_numbered(rule, self.rng);
         self.take(format!("add {}", hex(&rule.bytes())));
     }
 

@@ -45,7 +45,7 @@ fn tie(rng: &mut Rng, n: usize, divisions: usize) -> Rule {
         1 => rng.pick(&[-604_800, 604_800, -1_000_000_000, 1_000_000_000]),
         _ => rng.range(-1_000_000_000, 1_000_000_000) as i32,
     };
-    let mut rule = Rule { equality: rng.chance(25), constant, axes: [0; 8], divisions: [0; 8] };
+    let mut rule = Rule { equality: rng.chance(25), constant, ..rule_of([0; 8]) };
     rule.axes[..n].fill_with(|| coefficient(rng));
     rule.divisions[..divisions].fill_with(|| coefficient(rng));
     rule
@@ -114,7 +114,7 @@ fn far(rng: &mut Rng) -> (usize, Basic) {
     for _ in 0..2 + rng.below(5) {
         let near = rng.below(4) as i32;
         let constant = rng.pick(&[i32::MIN + near, i32::MIN + near, i32::MAX - near, near]);
-        let mut rule = Rule { equality: false, constant, axes: [0; 8], divisions: [0; 8] };
+        let mut rule = Rule { constant, ..rule_of([0; 8]) };
         rule.axes[..n].fill_with(|| coefficient(rng));
         rule.divisions[..divisions].fill_with(|| coefficient(rng));
         rule.equality = rng.chance(20) && constant != i32::MIN;

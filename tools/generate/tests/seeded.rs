@@ -69,7 +69,7 @@ fn a_multiplied_rule_stays_within_its_ranges() {
     for round in 0..400 {
         let k: i16 = rng.pick(&[5_461, -5_461, 5_462, 16_383, -16_384, 32_767, -32_767]);
         let constant = rng.pick(&[i32::MAX, -i32::MAX, 1 << 30, -1 << 30, 7]);
-        let rule = model::Rule { equality: round % 2 == 0, constant, axes: [k; 8], divisions: [-k; 8] };
+        let rule = model::Rule { equality: round % 2 == 0, number: 0, constant, axes: [k; 8], divisions: [-k; 8] };
         let new = slots::maybe_multiplied(rng, rule, 100);
         let basic = model::Basic { divisions: divisions.clone(), rules: vec![new] };
         assert!(second::parse(8, &model::encode(&[basic])).is_ok());
@@ -82,6 +82,6 @@ fn a_multiplied_rule_stays_within_its_ranges() {
 fn wanted_names_are_all_there() {
     assert_eq!(
         histogram::wanted().len(),
-        15 + 4 + 3 + 5 + 2 + 10 + 6 + 2 + events::EVENTS.len() + runs::EVENTS.len() + 4 * 4 + 8
+        16 + 4 + 3 + 5 + 2 + 10 + 6 + 2 + events::EVENTS.len() + runs::EVENTS.len() + 9 + 8 + 4 * 4 + 8
     );
 }

@@ -1,10 +1,12 @@
 //! A case: random small sets and a box, the calls to make, and how to judge each answer by meaning.
 
 use crate::fractions::has_point;
+use crate::numbers::Sources;
 use crate::sets::{holds, read, Basic, Set};
 use crate::tight::{is_tight, tightened};
 use crate::walk::Walk;
 use generate::model::{self, encode, Rule};
+use generate::numbers::{numbered, plain};
 use generate::rng::Rng;
 use generate::sets::World;
 use generate::wider;
@@ -41,7 +43,13 @@ pub fn verdict(good: bool, story: impl FnOnce() -> String) -> Verdict {
     if good { Verdict::Good } else { Verdict::Bad(story()) }
 }
 
+/// What a set means is what its copy without numbers of rules means (document 02, request 6).
 pub fn meaning(set: &[model::Basic]) -> Set {
+    as_written(&plain(set))
+}
+
+/// The set with its numbers, and where its basic sets lie in its bytes.
+fn as_written(set: &[model::Basic]) -> Set {
     read(&encode(set)).expect("the generator's own bytes")
 }
 
@@ -116,7 +124,7 @@ impl Case {
             2 | 3 => world.slots(rng),
             _ => world.small(rng),
         };
-        let (a, b) = (set(rng), set(rng));
+        let (a, b) = (numbered(&set(rng), rng), numbered(&set(rng), rng));
         let half = [12, 5, 3][n - 1];
         let (mut low, mut high) = ([0; 8], [0; 8]);
         for axis in 0..n {
@@ -157,6 +165,9 @@ impl Case {
         if let (true, Err(story)) = (tested, kept_have_points(self.n, &found)) {
             return Verdict::Bad(story);
         }
+        if let Err(story) = self.sources(kind).hold(&found) {
+            return Verdict::Bad(story);
+        }
         let wrong = self.points.iter().find(|p| {
             let (in_a, in_b) = (holds(&a, p), holds(&b, p));
             let right = match kind {
@@ -168,6 +179,12 @@ impl Case {
             holds(&found, p) != right
         });
         verdict(wrong.is_none(), || format!("wrong at point {wrong:?}"))
+    }
+
+    /// The rules that a result of the operation may have.
+    fn sources(&self, kind: &str) -> Sources {
+        let (a, b) = (as_written(&self.a), as_written(&self.b));
+        if kind == "complement" { Sources::of(kind, &[], &a) } else { Sources::of(kind, &a, &b) }
     }
 
     /// Pieces cut from one basic set by the first `cutters` basic sets of the second set: no point in two.
@@ -236,7 +253,7 @@ impl Case {
         if let Some(point) = self.points.iter().find(|p| found.is_empty() && holds(&given, p)) {
             return Verdict::Bad(format!("dropped, but holds {point:?}"));
         }
-        let Some(tight) = tightened(basic).map(|tight| meaning(&[tight])) else {
+        let Some(tight) = tightened(basic).map(|tight| as_written(&[tight])) else {
             return verdict(found.is_empty(), || "kept with a void equality".to_string());
         };
         match has_point(self.n, &tight[0]) {
@@ -272,7 +289,7 @@ impl Case {
         let words = point.map(|x| x.to_string()).join(" ");
         let call = format!("holder {} {} {} {words}", self.n, hex(&encode(&self.a)), hex(&encode(&self.b)));
         let find = |name: &str, set: &[model::Basic]| {
-            let set = meaning(set);
+            let set = as_written(set);
             set.iter().find(|b| b.holds(&point)).map(|b| format!("{name} {} {}", b.offset, b.length))
         };
         let found = find("first", &self.a).or_else(|| find("second", &self.b));
@@ -307,7 +324,7 @@ fn candidate(rng: &mut Rng, first: &model::Basic, cutter: &model::Basic) -> mode
     out.rules.extend(cutter.rules[..count].iter().map(moved));
     if let Some(rule) = cutter.rules.get(count).map(moved) {
         let (axes, divisions) = (rule.axes.map(|k| -k), rule.divisions.map(|k| -k));
-        out.rules.push(Rule { equality: false, constant: -rule.constant - 1, axes, divisions });
+        out.rules.push(Rule { equality: false, constant: -rule.constant - 1, axes, divisions, ..rule });
     }
     out
 }

@@ -5,6 +5,7 @@ use crate::cases::{meaning, points, verdict, Check, Verdict};
 use crate::sets::{holds, Basic};
 use crate::walk::Walk;
 use generate::model::{self, encode};
+use generate::numbers::numbered;
 use generate::rng::Rng;
 use generate::sets::World;
 use hexscript::tokens::hex;
@@ -92,7 +93,8 @@ pub fn check(seed: u64, index: u64) -> Check {
     let rng = &mut Rng::of(seed ^ 0xC047, index);
     let n = 1 + rng.below(WIDEST.len());
     let (world, axis) = (World::with_axes(rng, n), rng.below(n));
-    let (given, sides) = (any_set(rng, &world), Sides::new(rng, n, axis));
+    let given = numbered(&any_set(rng, &world), rng);
+    let sides = Sides::new(rng, n, axis);
     let chosen = rng.chance(75).then_some(axis);
     let set = meaning(&given);
     let tally = sides.tally(&set);

@@ -6,6 +6,7 @@ use crate::sets::Basic;
 use crate::vertices::{choices, greatest, Most};
 use generate::corners::{corner, slope};
 use generate::model::{self, encode};
+use generate::numbers::numbered;
 use generate::rng::Rng;
 use generate::sets::World;
 use generate::wider;
@@ -114,7 +115,7 @@ pub fn check(seed: u64, index: u64) -> Check {
     let (n, set) = loop {
         let (n, set) = any_set(rng);
         if meaning(&set).iter().all(|basic| is_small(n, basic)) {
-            break (n, set);
+            break (n, numbered(&set, rng));
         }
     };
     let least = rng.chance(50);

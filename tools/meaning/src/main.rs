@@ -8,6 +8,7 @@ mod cases;
 mod counting;
 mod extremes;
 mod fractions;
+mod numbers;
 mod sets;
 mod states;
 mod tight;

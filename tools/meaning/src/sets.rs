@@ -1,7 +1,7 @@
 //! Sets read from bytes and what they mean: its own reading and its own membership, so that no
 //! fault of `second` is shared. (document 01, "Points, rules, sets" and "Bytes of a set")
 
-use hexscript::layout::{cut, BASIC, CONSTANT, DIVISOR, OF_AXES, OF_DIVISIONS, SET};
+use hexscript::layout::{cut, BASIC, CONSTANT, DIVISOR, OF_AXES, OF_DIVISIONS, RULE_NUMBER, SET};
 
 #[derive(PartialEq)]
 pub struct Division {
@@ -13,6 +13,8 @@ pub struct Division {
 #[derive(PartialEq)]
 pub struct Rule {
     pub equality: bool,
+    /// The rule's own, 0 for none (document 02, request 6). No point and no rule is judged by it.
+    pub number: i128,
     pub constant: i128,
     /// Axes at 0 to 7, divisions at 8 to 15.
     pub places: Vec<i128>,
@@ -50,7 +52,8 @@ pub fn read(bytes: &[u8]) -> Option<Set> {
         }
         if command.is_rule() {
             let places = [numbers(OF_AXES)?, numbers(OF_DIVISIONS)?].concat();
-            basic.rules.push(Rule { equality: command.is_equality(), constant: numbers(CONSTANT)?[0], places });
+            let (number, constant) = (numbers(RULE_NUMBER).map_or(0, |number| number[0]), numbers(CONSTANT)?[0]);
+            basic.rules.push(Rule { equality: command.is_equality(), number, constant, places });
         }
         at += own.len();
     }

@@ -8,6 +8,7 @@ use crate::vertices::choices;
 use generate::plans::{small, Plan};
 use generate::rng::Rng;
 use generate::walks;
+use hexscript::layout::{find, CONSTANT, EQUALITY, INEQUALITY, SET};
 use hexscript::tokens::unhex;
 use second::test::{test_limited, Answer};
 use std::collections::HashMap;
@@ -20,7 +21,7 @@ const BOUND: f64 = 9_223_372_036_854_775_807.0;
 const PIVOTS: usize = 200;
 const LARGEST: i128 = 32_767;
 
-/// A start and the rules added since, in bytes: what a state says depends on nothing else.
+/// A start and the rules added since, in bytes, without their numbers: what a state says depends on nothing else.
 #[derive(Clone, PartialEq, Eq, Hash)]
 struct Path {
     n: usize,
@@ -99,8 +100,15 @@ impl Path {
     }
 
     fn with(&self, rule: &[u8]) -> Path {
-        Path { n: self.n, bytes: [&self.bytes, rule].concat(), rules: self.rules + 1 }
+        Path { n: self.n, bytes: [&self.bytes[..], &plain(rule)].concat(), rules: self.rules + 1 }
     }
+}
+
+/// The rule's command without its number.
+fn plain(rule: &[u8]) -> Vec<u8> {
+    let command = find(SET, rule[0]).expect("a rule");
+    let code = if command.is_equality() { EQUALITY } else { INEQUALITY };
+    [&[code], &rule[command.place(CONSTANT).expect("a rule")..]].concat()
 }
 
 fn out_of_range(coefficients: &[i128]) -> bool {

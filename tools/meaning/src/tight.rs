@@ -40,7 +40,7 @@ mod tests {
     fn rule(equality: bool, constant: i32, axis: i16, division: i16) -> Rule {
         let (mut axes, mut divisions) = ([0; 8], [0; 8]);
         (axes[0], divisions[7]) = (axis, division);
-        Rule { equality, constant, axes, divisions }
+        Rule { equality, number: 0, constant, axes, divisions }
     }
 
     #[test]

@@ -1,7 +1,9 @@
-//! Bytes to text and back, on generated and stored scripts; listings read back as the set they list.
+//! Bytes to text and back, on generated and stored scripts; listings read back as the set they list, without the
+//! numbers of its rules.
 
 use generate::damage::blind;
 use generate::model::{encode, Set};
+use generate::numbers::numbered;
 use generate::rng::Rng;
 use generate::scripts::script;
 use generate::sets::World;
@@ -22,10 +24,11 @@ fn output(script: &[u8]) -> String {
 
 #[test]
 fn generated_scripts() {
-    let mut clean = 0;
+    let (mut clean, mut numbers) = (0, 0);
     for index in 0..2_000 {
         let bytes = script(1, index);
         let text = round_trip(&bytes);
+        numbers += usize::from(text.contains("\n  rule "));
         // A script without a refusal needs no raw bytes and no absent places.
         if !output(&bytes).contains("refused") {
             clean += 1;
@@ -34,6 +37,7 @@ fn generated_scripts() {
         }
     }
     assert!(clean > 700, "{clean} scripts without a refusal");
+    assert!(numbers > 400, "{numbers} scripts with a numbered rule");
 }
 
 #[test]
@@ -95,19 +99,19 @@ fn listings_of_loaded_sets() {
     for index in 0..2_000 {
         let rng = &mut Rng::of(3, index);
         let world = World::new(rng);
-        let set = encode(&any_set(&world, rng));
-        let script = loads(world.n, &[&set]);
+        let set = any_set(&world, rng);
+        let script = loads(world.n, &[&encode(&numbered(&set, rng))]);
         let output = output(&[&script[..], &[0x45, 0, 0x00]].concat());
         // A set longer than its table is refused and not listed.
         if !output.contains("refused") {
-            assert_eq!(read_back(world.n, listing(&output)), script, "{output}");
+            assert_eq!(read_back(world.n, listing(&output)), loads(world.n, &[&encode(&set)]), "{output}");
             read += 1;
         }
     }
     assert!(read > 1_800, "{read} listings");
 }
 
-/// The library's result of one of the four operations, as bytes.
+/// The library's result of one of the four operations, as bytes without numbers.
 fn result(code: u8, n: usize, first: &[u8], second: &[u8]) -> Option<Vec<u8>> {
     let first = second::parse(n as u8, first).ok()?;
     let second = second::parse(n as u8, second).ok()?;
@@ -118,7 +122,10 @@ fn result(code: u8, n: usize, first: &[u8], second: &[u8]) -> Option<Vec<u8>> {
         0x43 => algebra::difference(&first, &second, watch),
         _ => algebra::complement(&first, watch),
     };
-    result.ok().map(|set| second::encode(&set))
+    result.ok().map(|mut set| {
+        set.basics.iter_mut().flat_map(|basic| &mut basic.rules).for_each(|rule| rule.number = 0);
+        second::encode(&set)
+    })
 }
 
 #[test]
@@ -127,7 +134,8 @@ fn listings_of_results() {
     for index in 0..2_000 {
         let rng = &mut Rng::of(4, index);
         let world = World::new(rng);
-        let (first, second) = (encode(&world.any(rng)), encode(&world.any(rng)));
+        let (first, second) = (world.any(rng), world.any(rng));
+        let (first, second) = (encode(&numbered(&first, rng)), encode(&numbered(&second, rng)));
         let code = rng.pick(&[0x41, 0x42, 0x43, 0x44]);
         let operation: &[u8] = if code == 0x44 { &[code, 2, 0] } else { &[code, 2, 0, 1] };
         let script = loads(world.n, &[&first, &second]);

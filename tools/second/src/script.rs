@@ -9,7 +9,7 @@ use crate::refusal;
 
 /// "Sets are 0 to 3, empty at first, 8,000 bytes each."
 const SETS: usize = 4;
-const TABLE_BYTES: usize = 8_000;
+pub const TABLE_BYTES: usize = 8_000;
 
 const END: u8 = 0x00;
 const AXES: u8 = 0x10;
