@@ -1,5 +1,5 @@
 /* May this truck run? A permit set, and which trucks of a fleet it lets run; a ramp closes, which is taken away, and
- * the fleet is asked again; then single trucks.
+ * the fleet is asked again; then single trucks. Rules have their numbers in the rulebook, which what is left keeps.
  * Axes: payload in tonnes, road, minute of the shift. Build and run: make -C host example && host/example */
 #include <inttypes.h>
 #include <stdio.h>
@@ -36,27 +36,48 @@ static int look(const char *when, const uint8_t *set, size_t length, const int32
     return 0;
 }
 
+/* the numbers of the rules of each basic set */
+static void print_numbers(const uint8_t *set, size_t length)
+{
+    int k = 0;
+    const uint8_t *end = set + length;
+    for (const command *c; (c = whole_command(set, end)); set += c->bytes) {
+        if (c->kind == OPENING) printf("%s  basic set %d, rules", k ? "\n" : "", k + 1);
+        else if (c->kind != DIVISION && head_number(c, set)) printf(" %" PRIu32, head_number(c, set));
+        k += c->kind == OPENING;
+    }
+    puts("");
+}
+
+/* 0 to 240 tonnes, which is rule 12, roads 1 to 9, which is rule 31 */
+static void write_permit(table *t)
+{
+    const int16_t tonnes[8] = {1}, less[8] = {-1}, road[8] = {0, 1}, no_road[8] = {0, -1};
+    basic_set(t);
+    at_least_0(t, 0, tonnes, 0);
+    rule(t, false, 12, 240, less, 0);
+    rule(t, false, 31, -1, road, 0);
+    rule(t, false, 31, 9, no_road, 0);
+}
+
+/* by rule 407 road 4 is closed in the half hours 6 to 8 of the shift */
+static void write_closure(table *t)
+{
+    const int16_t road[8] = {0, 1}, no_road[8] = {0, -1}, minute[8] = {0, 0, 1}, none[8] = {0};
+    basic_set(t);
+    division(t, 30, 0, minute);
+    rule(t, false, 407, -4, road, 0);
+    rule(t, false, 407, 4, no_road, 0);
+    rule(t, false, 407, -6, none, 1);
+    rule(t, false, 407, 8, none, -1);
+}
+
 int main(void)
 {
     static table permit, closure;
     static uint8_t allowed[LONGEST_SET];
-    const int16_t tonnes[8] = {1}, less[8] = {-1}, road[8] = {0, 1}, no_road[8] = {0, -1};
-    const int16_t minute[8] = {0, 0, 1}, none[8] = {0};
-
-    /* permit: 0 to 240 tonnes, roads 1 to 9 */
-    basic_set(&permit);
-    at_least_0(&permit, 0, tonnes, 0);
-    at_least_0(&permit, 240, less, 0);
-    at_least_0(&permit, -1, road, 0);
-    at_least_0(&permit, 9, no_road, 0);
-
-    /* closure: road 4 in the half hours 6 to 8 of the shift */
-    basic_set(&closure);
-    division(&closure, 30, 0, minute);
-    at_least_0(&closure, -4, road, 0);
-    at_least_0(&closure, 4, no_road, 0);
-    at_least_0(&closure, -6, none, 1);
-    at_least_0(&closure, 8, none, -1);
+    write_permit(&permit);
+    write_closure(&closure);
 
     /* five trucks, and a sixth whose minute is out of range */
     const int32_t fleet[] = {180, 4, 120, 180, 4, 200, 240, 7, 200, 241, 7, 200, 0, 1, 0, 180, 4, 2000000};
@@ -68,6 +89,7 @@ int main(void)
         return 1;
     }
     printf("allowed: %" PRId64 " bytes\n", length);
+    print_numbers(allowed, (size_t)length);
     failed |= look("road 4 closed in the half hours 6 to 8", allowed, (size_t)length, fleet, 5);
     look("with a truck at minute 2000000", allowed, (size_t)length, fleet, 6);
 

@@ -126,12 +126,14 @@ static void take_divisions(char **rest, step *s)
     free(bytes);
 }
 
+/* a rule's own number is no number of a state's call; 0 in a 16 or 17 is no rule */
 static void take_rule(char **rest, rule *r)
 {
     size_t length;
     uint8_t *p = word_bytes(rest, &length);
     const command *c = whole_command(p, p + length);
     if (!c || c->bytes != length || (c->kind != EQUALITY && c->kind != INEQUALITY)) broken("bad line");
+    if (c->constant > 1 && !head_number(c, p)) broken("bad line");
     r->equality = c->kind == EQUALITY;
     r->constant = (int32_t)little_endian(p + c->constant, 4);
     take_coefficients(p + axes_place(c), r->axes);

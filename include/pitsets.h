@@ -2,7 +2,10 @@
  * complement of sets, how many points of a box are in a set, the greatest and the least value of an expression, and
  * states of a plan, to which rules are added one by one and which a planner can go back to.
  *
- * A set is bytes in a table of yours (layout: document 01, "Bytes of a set"). n is the number of axes, 1 to 8.
+ * A set is bytes in a table of yours (layout: document 01, "Bytes of a set"). n is the number of axes, 1 to 8. A rule may
+ * have its own number, 1 to 65,535, as the rulebook has it (document 02, request 6): commands 16 and 17 are 13 and 14
+ * with the number in two bytes after the command byte, low byte first, 39 bytes in all; a rule of 13 or 14 has none.
+ * Numbers alter neither which points are in a set nor any other answer but the bytes of results.
  * Every function
  *   - is total: any n, any bytes, any lengths; malformed input is refused by its number;
  *   - returns minus the number of a refusal (enum pitsets_refusal), so a negative result is a refusal, or of a count
@@ -34,8 +37,8 @@ extern "C" {
 /* The most points of a fleet. */
 #define PITSETS_FLEET 64
 
-/* The numbers of document 01, "Refused", and of document 02. These functions give 1 to 13, 16, 18 and 19; 14 and 15 are
- * the script program's. */
+/* The numbers of document 01, "Refused", and of document 02. These functions give 1 to 13 and 16 to 19; 14 and 15 are the
+ * script program's. A set's own are 2 to 9 and 17: they are given for its bytes. */
 enum pitsets_refusal {
     PITSETS_AXES = 1,          /* n is not 1 to 8 */
     PITSETS_COMMAND = 2,       /* unknown command byte in a set */
@@ -51,6 +54,7 @@ enum pitsets_refusal {
     PITSETS_POINT = 12,        /* a coordinate of a point or a box out of range, or an absent axis that is not 0 */
     PITSETS_LIMIT = 13,        /* the limit of a count is not 1 to 1,000,000 */
     PITSETS_FLEET_LIST = 16,   /* more than 64 points, or no whole number of points */
+    PITSETS_NUMBER = 17,       /* a rule of command 16 or 17 with number 0 */
     PITSETS_NAME = 18,         /* the name of a mark is over 15 or, in going back, no mark has it */
     PITSETS_AXIS = 19          /* the chosen axis is not 1 to n, or its side has over 64 values */
 };
@@ -101,6 +105,7 @@ static inline const char *pitsets_reason(int64_t number)
     case PITSETS_POINT: return "coordinate out of range or absent axis not 0";
     case PITSETS_LIMIT: return "limit not 1 to 1000000";
     case PITSETS_FLEET_LIST: return "more than 64 points or no whole number of points";
+    case PITSETS_NUMBER: return "rule number 0 in a command 16 or 17";
     case PITSETS_NAME: return "name over 15 or no such mark";
     case PITSETS_AXIS: return "chosen axis not 1 to n, or over 64 values";
     case -PITSETS_SPENT: return "limit spent";
@@ -109,7 +114,7 @@ static inline const char *pitsets_reason(int64_t number)
 }
 
 /* 1 where the point (x1, .., xn) is in the set, 0 where it is not; coordinates −1,048,576 to 1,048,576, those over n are 0.
- * Refusals: 1, the set's 2 to 9, 12. */
+ * Refusals: 1, the set's own, 12. */
 int64_t pitsets_member(size_t n, const uint8_t *set, size_t set_length, int32_t x1, int32_t x2, int32_t x3, int32_t x4,
                        int32_t x5, int32_t x6, int32_t x7, int32_t x8);
 
@@ -118,17 +123,19 @@ int64_t pitsets_member(size_t n, const uint8_t *set, size_t set_length, int32_t 
  * Point i, from 1, has bit i - 1 of *mask, point 1 the lowest: 1 where pitsets_member gives 1 for it, 0 where it
  * gives 0. Bits past the last point are 0. Returns how many points are in the set, which is how many bits are 1;
  * without points 0, and mask 0. After a refusal *mask is 0. `points` and `mask` are aligned as int32_t and uint64_t
- * are; *mask is no part of the set or of the points. Refusals: 1, the set's 2 to 9, 16, 12 (one bad coordinate
+ * are; *mask is no part of the set or of the points. Refusals: 1, the set's own, 16, 12 (one bad coordinate
  * refuses the list). */
 int64_t pitsets_fleet(size_t n, const uint8_t *set, size_t set_length, const int32_t *points, size_t numbers,
                       uint64_t *mask);
 
 /* The operations write the result to `result` and return its length. Past the result the table is filled with 0; after a refusal it is
- * all 0. Refusals: 1, the first set's 2 to 9, the second set's 2 to 9, 10, 11.
+ * all 0. Refusals: 1, the first set's own, the second set's own, 10, 11.
  * Intersection, difference and complement write each rule divided by the common divisor of its coefficients where that is over 1, an
  * inequality's constant rounded down. A basic set with an equality whose constant that does not divide (2x - 1 = 0) holds no integer point: it
  * gives nothing in an intersection, and as a basic set of the first set nothing in a difference. Union, and a difference whose second set
- * has no basic sets, keep their rules as given. */
+ * has no basic sets, keep their rules as given.
+ * Every rule of a result has the number of the rule that it comes from, as it is, divided, or the opposite of it: each of the two opposites
+ * of an equality has that of the equality. A number takes two bytes, so a table may be too short (11) for a result that would fit without. */
 int64_t pitsets_union(size_t n, const uint8_t *first, size_t first_length, const uint8_t *second, size_t second_length,
                       uint8_t *result, size_t result_length);
 int64_t pitsets_intersection(size_t n, const uint8_t *first, size_t first_length, const uint8_t *second, size_t second_length,
@@ -136,21 +143,21 @@ int64_t pitsets_intersection(size_t n, const uint8_t *first, size_t first_length
 /* The points of the first set that are not in the second. */
 int64_t pitsets_difference(size_t n, const uint8_t *first, size_t first_length, const uint8_t *second, size_t second_length,
                            uint8_t *result, size_t result_length);
-/* All integer points that are not in the set. Refusals: 1, the set's 2 to 9, 10, 11. */
+/* All integer points that are not in the set. Refusals: 1, the set's own, 10, 11. */
 int64_t pitsets_complement(size_t n, const uint8_t *set, size_t set_length, uint8_t *result, size_t result_length);
 
 /* How many points of the box from (l1, .., ln) to (h1, .., hn) are in the set, each counted once, in however many basic
  * sets it lies; 0 where a low is over its high. Lows and highs are −1,048,576 to 1,048,576, those over n are 0.
  * The box is walked as document 01's search walks it, past each point to the end: `limit`, 1 to 1,000,000, is how many
  * prefixes of coordinates may be tested, and *tested gets how many were, 0 after a refusal. Where the limit is not enough
- * the result is PITSETS_SPENT. Refusals: 1, the set's 2 to 9, 12, 13. */
+ * the result is PITSETS_SPENT. Refusals: 1, the set's own, 12, 13. */
 int64_t pitsets_count(size_t n, const uint8_t *set, size_t set_length, int32_t l1, int32_t l2, int32_t l3, int32_t l4,
                       int32_t l5, int32_t l6, int32_t l7, int32_t l8, int32_t h1, int32_t h2, int32_t h3, int32_t h4,
                       int32_t h5, int32_t h6, int32_t h7, int32_t h8, uint32_t limit, uint32_t *tested);
 /* The same, and in `counts` how many of these points have each value of axis `axis`, 1 to n, from its low upward: they
  * add up to the result. Past them the table is filled with 0; after a refusal or PITSETS_SPENT it is all 0.
  * counts_length is in numbers, not in bytes; PITSETS_COUNTS are always enough.
- * Refusals: 1, the set's 2 to 9, 12, 19, 13, 11. */
+ * Refusals: 1, the set's own, 12, 19, 13, 11. */
 int64_t pitsets_counts(size_t n, const uint8_t *set, size_t set_length, int32_t l1, int32_t l2, int32_t l3, int32_t l4,
                        int32_t l5, int32_t l6, int32_t l7, int32_t l8, int32_t h1, int32_t h2, int32_t h3, int32_t h4,
                        int32_t h5, int32_t h6, int32_t h7, int32_t h8, size_t axis, uint32_t limit, uint32_t *counts,
@@ -162,7 +169,7 @@ int64_t pitsets_counts(size_t n, const uint8_t *set, size_t set_length, int32_t 
  * PITSETS_VALUE: *value is the fraction, in lowest terms and its denominator positive; 0 is 0/1. After any other result
  * all its numbers are 0. Where the set has no basic set k the result is PITSETS_EMPTY, whatever the expression is.
  * The constant is any number, coefficients are −32,767 to 32,767, those of absent axes and divisions 0. `axes` and
- * `divisions` are aligned as int32_t is, `value` as uint64_t. Refusals: 1, the set's 2 to 9, the expression's 7, 8. */
+ * `divisions` are aligned as int32_t is, `value` as uint64_t. Refusals: 1, the set's own, the expression's 7, 8. */
 int64_t pitsets_greatest(size_t n, const uint8_t *set, size_t set_length, size_t k, int32_t constant,
                          const int32_t axes[8], const int32_t divisions[8], pitsets_fraction *value);
 int64_t pitsets_least(size_t n, const uint8_t *set, size_t set_length, size_t k, int32_t constant,
@@ -199,7 +206,7 @@ static inline double pitsets_double(const pitsets_fraction *value)
  *
  * Every call says how the state stands then (enum pitsets_said). That is of points with fractions: of whatever fractions
  * x and q meet the rules and the bounds of the divisions q. Rules are taken as given and not tightened, so 2·x1 − 1 = 0
- * is point, by x1 = 1/2, though no whole x1 meets it.
+ * is point, by x1 = 1/2, though no whole x1 meets it. A state has no use for a rule's own number, and is given none.
  *   PITSETS_STATE_POINT   some such point meets all rules; a whole one need not.
  *   PITSETS_STATE_EMPTY   none does, and so no whole one.
  *   PITSETS_STATE_WIDE, PITSETS_STATE_LONG   not found out: the rules may leave a point or none.
