@@ -16,23 +16,21 @@ use lib.Seq.{drop-cons, drop-drop}
 use Rattle.integers.specs.Mach.{clash}
 use Rattle.model.specs.Lists.{all}
 use Rattle.model.specs.Sets.{absent, equality}
-use Rattle.codec.specs.Bytes.{valueOf, signed, signedList, coefficient, within, constantFits, Command, opens, misnumbered, division, constraint, isDivision, isNumbered, bodyOf, headOf, bodyIn, Counts, refusal, counted, widthOf, kindOf, readConstraint, isMisnumbered, readCommand, Built, parse, decode, number, axesFit}
+use Rattle.codec.specs.Bytes.{valueOf, signed, signedList, coefficient, within, constantFits, Command, opens, misnumbered, division, constraint, isDivision, isConstraint, bodyOf, headOf, bodyIn, constantIn, Counts, refusal, counted, widthOf, kindOf, isMisnumbered, readCommand, Built, parse, decode, number, axesFit}
 use Rattle.codec.specs.Places.{commandsOf, built, setFrom, bodyAt, divisionAt, constraintAt, Checked, opened}
-use Rattle.codec.specs.Accepting.{Over, Upto, InRange, DivisionThere, ConstraintThere, Leads, inBasic, Under, DivisionsTo, ConstraintsTo, Ends, Accepts}
+use Rattle.codec.specs.Accepting.{Over, Upto, InRange, DivisionThere, CommandThere, ConstraintThere, Leads, inBasic, Under, DivisionsTo, Joined, Further, ConstraintsTo, Ends, Accepts}
+use Rattle.codec.specs.declared.accepting.ConstraintRun.{ConstraintRun}
 use Rattle.codec.specs.declared.accepting.Quick.{Quick}
-use Rattle.codec.proofs.Parsing.{start, both, pos-ltb, equality-test, divisor-in, body-behind, read-opens, read-division, read-constraint, parse-nil, axes-in, decode-good}
+use Rattle.codec.proofs.Parsing.{start, both, pos-ltb, equality-test, divisor-in, body-behind, body-drop, constraint-code, width-constraint, read-opens, read-division, read-constraint, parse-nil, axes-in, decode-good}
 use Rattle.codec.proofs.Decoded.{Parsed, next}
 use Rattle.codec.proofs.Walking.{added, built-more, built-end, accepted-parsed, parsed-accepted}
 use Rattle.codec.proofs.Ranges.{le-true, coefficients-in, absents-in, under-same, under-more, range-more}
 
 -- ---- divisors and constants in range
-pub inequality-constant : (b : ℕ) (s : List ℕ) → b ≡ 0x14 → constantFits (kindOf b) (readConstraint (kindOf b) (bodyIn b s) .constant) ≡ true
-inequality-constant b s e = ap (λ (k : ℕ). constantFits (kindOf k) (signed 4 (valueOf (take 4 (bodyIn k s))))) e
-
-pub equality-constant : (b v : ℕ) (s : List ℕ) → b ≡ 0x13 → v ≡ valueOf (take 4 s) → v < 4294967296 → not (eqb v 2147483648) ≡ true → constantFits (kindOf b) (readConstraint (kindOf b) (bodyIn b s) .constant) ≡ true
-equality-constant b v s e q h z =
-    ap (λ (k : ℕ). constantFits (kindOf k) (signed 4 (valueOf (take 4 (bodyIn k s))))) e
-    ∙ ap (λ (w : ℕ). constantFits equality (signed 4 w)) (sym q) ∙ equality-test v h ∙ z
+pub equality-constant : (s : List ℕ) (p q v : ℕ) → p ≡ q → v ≡ valueOf (take 4 (drop p s)) → v < 4294967296 → not (eqb v 2147483648) ≡ true → constantFits equality (constantIn (drop q s)) ≡ true
+equality-constant s p q v i e h z =
+    ap (λ (j : ℕ). constantFits equality (signed 4 (valueOf (take 4 (drop j s))))) (sym i)
+    ∙ ap (λ (w : ℕ). constantFits equality (signed 4 w)) (sym e) ∙ equality-test v h ∙ z
 
 module _ (at : ℕ) (s : List ℕ) (c : getD s at 0 ≡ 0x12) where
   pub division-divisor : (d : ℕ) → d ≡ valueOf (take 2 (drop (at + 1) s)) → (d ≡ 0 → ⊥) → d ≤ 32767 → (ltb 0 (divisionAt s at .divisor) && leb (divisionAt s at .divisor) 32767) ≡ true
@@ -46,6 +44,25 @@ module _ (at : ℕ) (s : List ℕ) (c : getD s at 0 ≡ 0x12) where
       ap (λ (b : ℕ). within (negsuc 999999999) (pos 1000000000) (signed 4 (valueOf (take 4 (bodyIn b (drop (at + 1) s)))))) c
       ∙ ap (λ (t : List ℕ). within (negsuc 999999999) (pos 1000000000) (signed 4 (valueOf (take 4 t)))) (drop-drop 2 (at + 1) s ∙ ap (λ (j : ℕ). drop j s) i)
       ∙ ap (within (negsuc 999999999) (pos 1000000000)) (sym e) ∙ both (le-true (negsuc 999999999) z l) (le-true z (pos 1000000000) h)
+
+-- ---- a constraint, by its command
+module _ (s : List ℕ) (at : ℕ) where
+  there-at : (b p : ℕ) → getD s at 0 ≡ b → isConstraint b ≡ true → p ≡ at + bodyOf b → p + 36 ≤ length s → isMisnumbered b (headOf b (drop (at + 1) s)) ≡ false
+      → constantFits (kindOf b) (constantIn (drop p s)) ≡ true → ConstraintThere s at p
+  there-at b p e c q i m z =
+      record {
+        command = ap isConstraint e ∙ c;
+        body = q ∙ ap (λ (x : ℕ). at + bodyOf x) (sym e);
+        inside = i;
+        named = ap (λ (x : ℕ). isMisnumbered x (headOf x (drop (at + 1) s))) e ∙ m;
+        constant = ap (λ (x : ℕ). constantFits (kindOf x) (constantIn (drop p s))) e ∙ z;
+      }
+
+  pub bare-command : CommandThere s at 1 0x13 0x14 → ConstraintThere s at (at + 1)
+  bare-command t = ⊎-elim (λ e. there-at 0x14 (at + 1) e refl refl (t .inside) refl refl) (λ e. there-at 0x13 (at + 1) (e .0) refl refl (t .inside) refl (e .1)) (t .command)
+
+  pub numbered-command : CommandThere s at 3 0x16 0x17 → eqb (valueOf (take 2 (drop (at + 1) s))) 0 ≡ false → ConstraintThere s at (at + 3)
+  numbered-command t m = ⊎-elim (λ e. there-at 0x17 (at + 3) e refl refl (t .inside) m refl) (λ e. there-at 0x16 (at + 3) (e .0) refl refl (t .inside) m (e .1)) (t .command)
 
 -- ---- from place to place
 module _ (n : ℕ) (s : List ℕ) where
@@ -114,36 +131,28 @@ module _ (n : ℕ) (s : List ℕ) where
         let x₅ = inner (absent n) at 4 (at + 7) (omega arith) (absents-in n (at + 7) s low high m r o u) in
         leads-next at 23 (inBasic b d 0) (division (divisionAt s at)) (read-division (getD s at 0) (drop (at + 1) s) (ap isDivision (v .command))) (ap widthOf (v .command)) (omega arith) (v .inside) (simp (x₁, x₂, x₃, x₄, x₅))
 
-    pub leads-constraint : (c : ℕ) (below above : List ℤ) → d ≤ 8 → InRange d below above → ConstraintThere s at → c < 48 → Over low s (at + 5) → Upto high s (at + 5) → Over below s (at + 21) → Upto above s (at + 21)
-        → Leads n s at (inBasic b d c) (at + 37) (inBasic b d (c + 1))
-    leads-constraint c below above w a v f o u p q =
-        let i : bodyOf (getD s at 0) ≡ 1 = ⊎-elim (λ x. ap bodyOf x) (λ x. ap bodyOf x) (v .command) in
-        let x₁ = pos-ltb b (λ y. omega arith) in
+    pub leads-constraint : (c p : ℕ) (below above : List ℤ) → d ≤ 8 → InRange d below above → ConstraintThere s at p → c < 48 → Over low s (p + 4) → Upto high s (p + 4) → Over below s (p + 20) → Upto above s (p + 20)
+        → Leads n s at (inBasic b d c) (p + 36) (inBasic b d (c + 1))
+    leads-constraint c p below above w a v f o u x y =
+        let i = constraint-code (getD s at 0) (v .command) in
+        let q = v .body in
+        let l = v .inside in
+        let x₁ = pos-ltb b (λ z. omega arith) in
         let x₂ = lt-ltb c 48 f in
-        let x₃ = both (v .constant) (both (inner (all coefficient) at 4 (at + 5) (omega arith) (coefficients-in n (at + 5) s low high m r o u)) (inner (all coefficient) at 20 (at + 21) (omega arith) (coefficients-in d (at + 21) s below above w a p q))) in
-        let x₄ = both (inner (absent n) at 4 (at + 5) (omega arith) (absents-in n (at + 5) s low high m r o u)) (inner (absent d) at 20 (at + 21) (omega arith) (absents-in d (at + 21) s below above w a p q)) in
-        leads-next at 37 (inBasic b d c) (constraint (constraintAt s at)) (read-constraint (getD s at 0) (drop (at + 1) s) not-opens not-division named) wide (omega arith) (v .inside) (simp (x₁, x₂, x₃, x₄))
+        let x₃ = both constant (both (inner (all coefficient) at 4 (p + 4) (omega arith) (coefficients-in n (p + 4) s low high m r o u)) (inner (all coefficient) at 20 (p + 20) (omega arith) (coefficients-in d (p + 20) s below above w a x y))) in
+        let x₄ = both (inner (absent n) at 4 (p + 4) (omega arith) (absents-in n (p + 4) s low high m r o u)) (inner (absent d) at 20 (p + 20) (omega arith) (absents-in d (p + 20) s below above w a x y)) in
+        let end : at + (bodyOf (getD s at 0) + 36) ≡ p + 36 = omega arith in
+        subst (λ (e : ℕ). Leads n s at (inBasic b d c) e (inBasic b d (c + 1))) end
+        (leads-next at (bodyOf (getD s at 0) + 36) (inBasic b d c) (constraint (constraintAt s at)) (read-constraint (getD s at 0) (drop (at + 1) s) (i .not-opens) (i .not-division) (v .named))
+        (width-constraint (getD s at 0) (i .not-opens) (i .not-division) (v .command)) (omega arith) (omega arith) (simp (x₁, x₂, x₃, x₄)))
       where
-        not-opens : getD s at 0 ≡ 0x11 → ⊥
-        not-opens y = ⊎-elim (λ x. omega arith) (λ x. omega arith) (v .command)
-
-        not-division : isDivision (getD s at 0) ≡ false
-        not-division = ⊎-elim (λ x. ap isDivision x) (λ x. ap isDivision x) (v .command)
-
-        named : isMisnumbered (getD s at 0) (headOf (getD s at 0) (drop (at + 1) s)) ≡ false
-        named = ap (λ (x : Bool). x && eqb (headOf (getD s at 0) (drop (at + 1) s)) 0) (⊎-elim (λ x. ap isNumbered x) (λ x. ap isNumbered x) (v .command))
-
-        wide : widthOf (getD s at 0) ≡ 37
-        wide = ⊎-elim (λ x. ap widthOf x) (λ x. ap widthOf x) (v .command)
+        constant : constantFits (kindOf (getD s at 0)) (constantIn (bodyAt s at)) ≡ true
+        constant = ap (λ (t : List ℕ). constantFits (kindOf (getD s at 0)) (constantIn t)) (sym (ap (λ (j : ℕ). drop j s) (v .body) ∙ body-drop (getD s at 0) s at)) ∙ v .constant
 
 -- ---- a run of divisions, and of constraints
 module _ (s : List ℕ) (start : ℕ) where
   pub divisions-none : start ≤ length s → (low high : List ℤ) → DivisionsTo s start start 0 low high
   divisions-none h low high = record { place = omega arith; inside = h; leads = λ n b m g f r. leads-none n s start (opened b) }
-
-  pub constraints-none : start ≤ length s → (low high below above : List ℤ) → ConstraintsTo s start low high start low high below above
-  constraints-none h low high below above =
-      record { count = 0; place = omega arith; inside = h; lower = under-same low; higher = under-same high; leads = λ n d b m w g f r a. leads-none n s start (inBasic b d 0) }
 
   module _ (at : ℕ) (low high low′ high′ : List ℤ) (u : Under low′ low) (v : Under high high′) where
     pub divisions-next : (count : ℕ) → DivisionsTo s start at count low high → DivisionThere s at → Over low′ s (at + 7) → Upto high′ s (at + 7) → DivisionsTo s start (at + 23) (count + 1) low′ high′
@@ -158,35 +167,95 @@ module _ (s : List ℕ) (start : ℕ) where
               (leads-division n s at b count m g low′ high′ r y (omega arith) o p);
         }
 
-    pub constraints-next : (low₀ high₀ below above below′ above′ : List ℤ) → Under below′ below → Under above above′ → ConstraintsTo s start low₀ high₀ at low high below above → ConstraintThere s at
-        → Over low′ s (at + 5) → Upto high′ s (at + 5) → Over below′ s (at + 21) → Upto above′ s (at + 21) → ConstraintsTo s start low₀ high₀ (at + 37) low′ high′ below′ above′
-    constraints-next low₀ high₀ below above below′ above′ w z x y o p i j =
-        let q = x .place in
-        record {
-          count = x .count + 1;
-          place = omega arith;
-          inside = y .inside;
-          lower = under-more low′ low low₀ u (x .lower);
-          higher = under-more high₀ high high′ (x .higher) v;
-          leads = λ n d b m k g f r a.
-              leads-then n s start at (at + 37) (inBasic b d 0) (inBasic b d (x .count)) (inBasic b d (x .count + 1))
-              (x .leads n d b m k g (omega arith) (range-more n low high low′ high′ r u v) (range-more d below above below′ above′ a w z))
-              (leads-constraint n s at b d m g low′ high′ r (x .count) below′ above′ k a y (omega arith) o p i j);
-        }
+module _ (s : List ℕ) where
+  pub further-none : (c : ConstraintRun) → c .at ≤ length s → Further s c c
+  further-none c h =
+      record {
+        inside = h;
+        past = le-refl (c .at);
+        counted = le-refl (c .at + c .count);
+        more = le-refl (c .count);
+        low = under-same (c .low);
+        high = under-same (c .high);
+        below = under-same (c .below);
+        above = under-same (c .above);
+        leads = λ n d b m k g f r a. leads-none n s (c .at) (inBasic b d (c .count));
+      }
+
+  pub further-then : (a b c : ConstraintRun) → Further s a b → Further s b c → Further s a c
+  further-then a b c x y =
+      let i = x .past in let j = y .past in let p = x .counted in let q = y .counted in let u = x .more in let v = y .more in
+      record {
+        inside = y .inside;
+        past = omega arith;
+        counted = omega arith;
+        more = omega arith;
+        low = under-more (c .low) (b .low) (a .low) (y .low) (x .low);
+        high = under-more (a .high) (b .high) (c .high) (x .high) (y .high);
+        below = under-more (c .below) (b .below) (a .below) (y .below) (x .below);
+        above = under-more (a .above) (b .above) (c .above) (x .above) (y .above);
+        leads = λ n d e m k g f r t.
+            leads-then n s (a .at) (b .at) (c .at) (inBasic e d (a .count)) (inBasic e d (b .count)) (inBasic e d (c .count))
+            (x .leads n d e m k g (omega arith) (range-more n (b .low) (b .high) (c .low) (c .high) r (y .low) (y .high)) (range-more d (b .below) (b .above) (c .below) (c .above) t (y .below) (y .above)))
+            (y .leads n d e m k g f r t);
+      }
+
+  pub further-few : (c r : ConstraintRun) → Further s c r → c .count ≤ c .at → r .count ≤ r .at
+  further-few c r x h = let q = x .counted in omega arith
+
+  -- one more
+  pub further-next : (c r : ConstraintRun) (p : ℕ) → ConstraintThere s (c .at) p → Joined s c p r → Further s c r
+  further-next c r p t j =
+      let e = t .body in let l = t .inside in let i = j .at in let k = j .count in let o = body-behind (getD s (c .at) 0) in
+      record {
+        inside = omega arith;
+        past = omega arith;
+        counted = omega arith;
+        more = omega arith;
+        low = j .low .0;
+        high = j .high .0;
+        below = j .below .0;
+        above = j .above .0;
+        leads = λ n d b m q g f u a.
+            subst (λ (x : ℕ). Leads n s (c .at) (inBasic b d (c .count)) (r .at) (inBasic b d x)) (sym (j .count))
+            (subst (λ (x : ℕ). Leads n s (c .at) (inBasic b d (c .count)) x (inBasic b d (c .count + 1))) (sym (j .at))
+            (leads-constraint n s (c .at) b d m g (r .low) (r .high) u (c .count) p (r .below) (r .above) q a t (omega arith) (j .low .1) (j .high .1) (j .below .1) (j .above .1)));
+      }
+
+  -- a loop that goes on behind c: at the place `at`, with the run r
+  pub record Going (c r : ConstraintRun) (at : ℕ) : Type 0 where
+    pub run : Further s c r
+    pub here : at ≡ r .at
+
+  pub going-none : (c : ConstraintRun) → c .at ≤ length s → Going c c (c .at)
+  going-none c h = record { run = further-none c h; here = refl }
+
+  module _ (c r : ConstraintRun) (at p : ℕ) (g : Going c r at) (t : ConstraintThere s at p) where
+    pub going-few : c .count ≤ c .at → r .count < length s
+    going-few h = let q = further-few c r (g .run) h in let e = g .here in let i = t .inside in let b = t .body in omega arith
+
+    pub going-next : (d : ConstraintRun) → Joined s r p d → Going c d (d .at)
+    going-next d j = record { run = further-then c r d (g .run) (further-next r d p (subst (λ (x : ℕ). ConstraintThere s x p) (g .here) t) j); here = refl }
+
+    pub going-less : (d : ConstraintRun) → Joined s r p d → length s - d .at < length s - at
+    going-less d j = let e = j .at in let i = t .inside in let b = t .body in omega arith
 
 -- a basic set: its divisions, and then its constraints
-pub ends-of : (n : ℕ) (s : List ℕ) (start p d : ℕ) (low high : List ℤ) (end : ℕ) (low′ high′ below above : List ℤ) → n ≤ 8 → DivisionsTo s start p d low high → d ≤ 8
-    → ConstraintsTo s p low high end low′ high′ below above → end - p ≤ 1776 → InRange n low′ high′ → InRange d below above → Ends n s start end
-ends-of n s start p d low high end low′ high′ below above m x f y g r a =
-    let i = x .place in let j = y .place in
+pub ends-of : (n : ℕ) (s : List ℕ) (start p d : ℕ) (low high : List ℤ) (c : ConstraintRun) → n ≤ 8 → DivisionsTo s start p d low high → d ≤ 8
+    → ConstraintsTo s p low high c → c .count ≤ 48 → InRange n (c .low) (c .high) → InRange d (c .below) (c .above) → Ends n s start (c .at)
+ends-of n s start p d low high c m x f y g r a =
+    let i = x .place in let e = y .at in let o = y .run .past in let z = y .run .counted in
     record {
       divisions = d;
-      constraints = y .count;
+      constraints = c .count;
       past = omega arith;
-      inside = y .inside;
+      inside = y .run .inside;
       leads = λ b k.
-          leads-then n s start p end (opened b) (inBasic b d 0) (inBasic b d (y .count))
-          (x .leads n b m k f (range-more n low high low′ high′ r (y .lower) (y .higher))) (y .leads n d b m f k (omega arith) r a);
+          leads-then n s start p (c .at) (opened b) (inBasic b d 0) (inBasic b d (c .count))
+          (x .leads n b m k f (range-more n low high (c .low) (c .high) r
+          (subst (Under (c .low)) (y .low) (y .run .low)) (subst (λ (l : List ℤ). Under l (c .high)) (y .high) (y .run .high))))
+          (subst (λ (j : ℕ). Leads n s p (inBasic b d j) (c .at) (inBasic b d (c .count))) (y .count)
+          (subst (λ (j : ℕ). Leads n s j (inBasic b d (y .none .count)) (c .at) (inBasic b d (c .count))) (y .at) (y .run .leads n d b m f k g r a)));
     }
 
 -- ---- the whole set: at a place after so many basic sets

@@ -1,6 +1,6 @@
 -- Bytes accepted by the least and the greatest coefficient at each place of a basic set.
 use mathlib.Core.Path.{_≡_}
-use mathlib.Core.Bool.{true, _&&_}
+use mathlib.Core.Bool.{true, false, _&&_}
 use mathlib.Core.Logic.{_⊎_}
 use mathlib.Core.List.{List, _++_}
 use Prim.Native.Nat.{ℕ, _+_, _-_, _*_, _≤_, _<_}
@@ -9,8 +9,10 @@ use lib.Dec.{ltb, leb}
 use lib.Signed.{_≤ℤ_}
 use lib.ListN.{length, take, drop, getD, replicate}
 use Rattle.model.specs.Limits.{mostAxes, mostDivisions, mostConstraints, coefficientPlaces, mostCoefficient, mostDivisor}
-use Rattle.codec.specs.Bytes.{divisionByte, equalityByte, inequalityByte, valueOf, signed, divisionConstant, constantFits, kindOf, Counts, decode, number}
-use Rattle.codec.specs.Places.{setFrom, longestDivision, bareWidth, divisionAt, constraintAt, Checked, opened}
+use Rattle.model.specs.Sets as S
+use Rattle.codec.specs.Bytes.{divisionByte, isConstraint, bodyOf, constraintBody, axesPlace, divisionsPlace, constantIn, valueOf, signed, divisionConstant, constantFits, kindOf, isMisnumbered, Counts, decode, number}
+use Rattle.codec.specs.Places.{setFrom, longestDivision, headAt, divisionAt, Checked, opened}
+use Rattle.codec.specs.declared.accepting.ConstraintRun.{ConstraintRun}
 use Rattle.codec.specs.declared.accepting.Quick.{Quick}
 
 -- number i of those of 2 bytes from p on
@@ -44,11 +46,18 @@ pub record DivisionThere (s : List ℕ) (at : ℕ) : Type 0 where
   pub divisor : (ltb 0 (divisionAt s at .divisor) && leb (divisionAt s at .divisor) mostDivisor) ≡ true
   pub constant : divisionConstant (divisionAt s at .constant) ≡ true
 
--- a constraint at a place, with its constant in range
-pub record ConstraintThere (s : List ℕ) (at : ℕ) : Type 0 where
-  pub inside : at + bareWidth ≤ length s
-  pub command : (getD s at 0 ≡ equalityByte) ⊎ (getD s at 0 ≡ inequalityByte)
-  pub constant : constantFits (kindOf (getD s at 0)) (constraintAt s at .constant) ≡ true
+-- one of two commands at a place, an equality and an inequality with such a head, with its constant in range
+pub record CommandThere (s : List ℕ) (at head equality inequality : ℕ) : Type 0 where
+  pub inside : at + head + constraintBody ≤ length s
+  pub command : (getD s at 0 ≡ inequality) ⊎ ((getD s at 0 ≡ equality) × (constantFits S.equality (constantIn (drop (at + head) s)) ≡ true))
+
+-- a constraint at a place, its body at p, not misnumbered and with its constant in range
+pub record ConstraintThere (s : List ℕ) (at p : ℕ) : Type 0 where
+  pub command : isConstraint (getD s at 0) ≡ true
+  pub body : p ≡ at + bodyOf (getD s at 0)
+  pub inside : p + constraintBody ≤ length s
+  pub named : isMisnumbered (getD s at 0) (headAt s at) ≡ false
+  pub constant : constantFits (kindOf (getD s at 0)) (constantIn (drop p s)) ≡ true
 
 -- ---- from place to place
 
@@ -67,14 +76,35 @@ pub record DivisionsTo (s : List ℕ) (start at count : ℕ) (low high : List �
   pub inside : at ≤ length s
   pub leads : (n b : ℕ) → n ≤ mostAxes → 0 < b → count ≤ mostDivisions → InRange n low high → Leads n s start (opened b) at (inBasic b count 0)
 
--- constraints from a place on; low and high go on from those before them, below and above are those of the divisions
-pub record ConstraintsTo (s : List ℕ) (start : ℕ) (low₀ high₀ : List ℤ) (at : ℕ) (low high below above : List ℤ) : Type 0 where
-  pub count : ℕ
-  pub place : at ≡ start + bareWidth * count
-  pub inside : at ≤ length s
-  pub lower : Under low low₀
-  pub higher : Under high₀ high
-  pub leads : (n d b : ℕ) → n ≤ mostAxes → d ≤ mostDivisions → 0 < b → count ≤ mostConstraints → InRange n low high → InRange d below above → Leads n s start (inBasic b d 0) at (inBasic b d count)
+-- c, and the constraint whose body is at p
+pub record Joined (s : List ℕ) (c : ConstraintRun) (p : ℕ) (r : ConstraintRun) : Type 0 where
+  pub at : r .at ≡ p + constraintBody
+  pub count : r .count ≡ c .count + 1
+  pub low : Under (r .low) (c .low) × Over (r .low) s (p + axesPlace)
+  pub high : Under (c .high) (r .high) × Upto (r .high) s (p + axesPlace)
+  pub below : Under (r .below) (c .below) × Over (r .below) s (p + divisionsPlace)
+  pub above : Under (c .above) (r .above) × Upto (r .above) s (p + divisionsPlace)
+
+-- c, and constraints that follow, accepted where the coefficients of all are in range
+pub record Further (s : List ℕ) (c r : ConstraintRun) : Type 0 where
+  pub inside : r .at ≤ length s
+  pub past : c .at ≤ r .at
+  pub counted : c .at + r .count ≤ r .at + c .count
+  pub more : c .count ≤ r .count
+  pub low : Under (r .low) (c .low)
+  pub high : Under (c .high) (r .high)
+  pub below : Under (r .below) (c .below)
+  pub above : Under (c .above) (r .above)
+  pub leads : (n d b : ℕ) → n ≤ mostAxes → d ≤ mostDivisions → 0 < b → r .count ≤ mostConstraints → InRange n (r .low) (r .high) → InRange d (r .below) (r .above) → Leads n s (c .at) (inBasic b d (c .count)) (r .at) (inBasic b d (r .count))
+
+-- constraints from a place on, after divisions whose coefficients go from `least` to `greatest`
+pub record ConstraintsTo (s : List ℕ) (start : ℕ) (least greatest : List ℤ) (r : ConstraintRun) : Type 0 where
+  pub none : ConstraintRun
+  pub at : none .at ≡ start
+  pub count : none .count ≡ 0
+  pub low : none .low ≡ least
+  pub high : none .high ≡ greatest
+  pub run : Further s none r
 
 -- a basic set from a place on
 pub record Ends (n : ℕ) (s : List ℕ) (start end : ℕ) : Type 0 where

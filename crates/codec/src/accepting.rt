@@ -2,15 +2,16 @@
 // compiler does for eight places at once. What is not accepted here the scan decides.
 ghost use mathlib.Core.Path.{_≡_};
 ghost use mathlib.Core.Bool.{true, false};
-ghost use Prim.Native.Nat.{_+_, _≤_};
+ghost use Prim.Native.Nat.{_+_, _≤_, _<_};
 ghost use lib.Signed.{_≤ℤ_};
 ghost use lib.ListN.{length};
 ghost use Rattle.model.specs.Limits.{mostAxes, coefficientPlaces};
-ghost use Rattle.codec.specs.Accepting.{Under, Over, Upto, rangesAllowed, InRange, DivisionsTo, ConstraintsTo, Ends, Accepts, DivisionThere, ConstraintThere};
+ghost use Rattle.codec.specs.Bytes.{constraintBody};
+ghost use Rattle.codec.specs.Accepting.{Under, Over, Upto, rangesAllowed, InRange, DivisionsTo, ConstraintsTo, Ends, Accepts, DivisionThere, CommandThere, ConstraintThere, Joined, Further};
 use crate::layout::AXES_PLACE;
 use crate::layout::BARE_HEAD;
-use crate::layout::BARE_WIDTH;
 use crate::layout::CONSTANT_PLACE;
+use crate::layout::CONSTRAINT_BODY;
 use crate::layout::DIVISION;
 use crate::layout::DIVISION_HEAD;
 use crate::layout::DIVISION_WIDTH;
@@ -18,6 +19,9 @@ use crate::layout::DIVISIONS_PLACE;
 use crate::layout::EQUALITY;
 use crate::layout::HEAD_PLACE;
 use crate::layout::INEQUALITY;
+use crate::layout::NUMBERED_EQUALITY;
+use crate::layout::NUMBERED_HEAD;
+use crate::layout::NUMBERED_INEQUALITY;
 use crate::layout::OPENS;
 use integers::i16_at;
 use integers::i32_at;
@@ -25,19 +29,10 @@ use integers::u16_at;
 use integers::u32_at;
 use model::limit;
 
-// A `12`, and a `13` or `14`, read whole where they stand: the places of their numbers.
+// A `12`, read whole where it stands: the places of its numbers.
 const DIVISION_CONSTANT: usize = DIVISION_HEAD + CONSTANT_PLACE;
 
 const DIVISION_AXES: usize = DIVISION_HEAD + AXES_PLACE;
-
-const CONSTRAINT_CONSTANT: usize = BARE_HEAD + CONSTANT_PLACE;
-
-const CONSTRAINT_AXES: usize = BARE_HEAD + AXES_PLACE;
-
-const CONSTRAINT_DIVISIONS: usize = BARE_HEAD + DIVISIONS_PLACE;
-
-// The width of as many constraints as a basic set may have.
-const CONSTRAINTS_WIDTH: usize = limit::CONSTRAINTS * BARE_WIDTH;
 
 // The table of ranges: the least at each place, as many zeros, the greatest, as many zeros.
 const RANGES: usize = 4 * limit::PLACES;
@@ -61,6 +56,7 @@ pub struct DivisionRun {
 // Constraints in a row, with the coefficients of the axes, and those of the divisions from `below` to `above`.
 pub struct ConstraintRun {
     pub at: usize,
+    pub count: usize,
     pub low: [i16; limit::PLACES],
     pub high: [i16; limit::PLACES],
     pub below: [i16; limit::PLACES],
@@ -216,21 +212,41 @@ fn division_there(s: &[u8], at: usize) -> bool
     k <= limit::DIVISION_CONSTANT
 }
 
-// Whether a constraint is at `at`, with its constant in range. Most are inequalities, which may have any.
-fn constraint_there(s: &[u8], at: usize) -> bool
-    requires { ⌜ at ≤ length (now s) ⌝ }
-    ensures { λ r. ⌜ (r ≡ true → ConstraintThere (now (s .entry)) at) ⌝ }
+// Whether one of two commands with such a head is at `at`, with its constant in range. Most are inequalities, which may have
+// any.
+fn command_there(s: &[u8], at: usize, head: usize, equality: u8, inequality: u8) -> bool
+    requires { ⌜ (at ≤ length (now s)) × (head ≤ 3) ⌝ }
+    ensures { λ r. ⌜ (r ≡ true → CommandThere (now (s .entry)) at head equality inequality) ⌝ }
 {
-    if s.len() - at < BARE_WIDTH {
+    if s.len() - at < head + CONSTRAINT_BODY {
         return false;
     }
-    if s[at] == INEQUALITY {
+    if s[at] == inequality {
         return true;
     }
-    if s[at] != EQUALITY {
+    if s[at] != equality {
         return false;
     }
-    u32_at(s, at + CONSTRAINT_CONSTANT) != 2147483648
+    u32_at(s, at + head + CONSTANT_PLACE) != 2147483648
+}
+
+// A constraint without a number.
+fn bare_there(s: &[u8], at: usize) -> bool
+    requires { ⌜ at ≤ length (now s) ⌝ }
+    ensures { λ r. ⌜ (r ≡ true → ConstraintThere (now (s .entry)) at (at + 1)) ⌝ }
+{
+    command_there(s, at, BARE_HEAD, EQUALITY, INEQUALITY)
+}
+
+// A constraint with a number that is not 0.
+fn numbered_there(s: &[u8], at: usize) -> bool
+    requires { ⌜ at ≤ length (now s) ⌝ }
+    ensures { λ r. ⌜ (r ≡ true → ConstraintThere (now (s .entry)) at (at + 3)) ⌝ }
+{
+    if !command_there(s, at, NUMBERED_HEAD, NUMBERED_EQUALITY, NUMBERED_INEQUALITY) {
+        return false;
+    }
+    u16_at(s, at + HEAD_PLACE) != 0
 }
 
 fn divisions(s: &[u8], start: usize) -> DivisionRun
@@ -257,7 +273,61 @@ fn divisions(s: &[u8], start: usize) -> DivisionRun
     }
 }
 
-// The constraints from `start` on, after divisions whose coefficients go from `least` to `greatest`.
+// Behind c the constraint whose body is at p.
+fn joined(s: &[u8], c: ConstraintRun, p: usize) -> ConstraintRun
+    requires { ⌜ (p + constraintBody ≤ length (now s)) × (c .count < length (now s)) ⌝ }
+    ensures { λ r. ⌜ Joined (now (s .entry)) c p r ⌝ }
+{
+    let low = c.low;
+    let high = c.high;
+    let below = c.below;
+    let above = c.above;
+    let l = lowered(low, s, p + AXES_PLACE);
+    let h = raised(high, s, p + AXES_PLACE);
+    let b = lowered(below, s, p + DIVISIONS_PLACE);
+    let a = raised(above, s, p + DIVISIONS_PLACE);
+    ConstraintRun {
+        at: p + CONSTRAINT_BODY,
+        count: c.count + 1,
+        low: l,
+        high: h,
+        below: b,
+        above: a,
+    }
+}
+
+// Behind c the constraints without a number that follow.
+fn bare(s: &[u8], c: ConstraintRun) -> ConstraintRun
+    requires { ⌜ (c .at ≤ length (now s)) × (c .count ≤ c .at) ⌝ }
+    ensures { λ r. ⌜ Further (now (s .entry)) c r ⌝ }
+{
+    let mut r = c;
+    let mut at = r.at;
+    while bare_there(s, at) {
+        let d = joined(s, r, at + BARE_HEAD);
+        r = d;
+        at = r.at;
+    }
+    r
+}
+
+// Those with a number.
+fn numbered(s: &[u8], c: ConstraintRun) -> ConstraintRun
+    requires { ⌜ (c .at ≤ length (now s)) × (c .count ≤ c .at) ⌝ }
+    ensures { λ r. ⌜ Further (now (s .entry)) c r ⌝ }
+{
+    let mut r = c;
+    let mut at = r.at;
+    while numbered_there(s, at) {
+        let d = joined(s, r, at + NUMBERED_HEAD);
+        r = d;
+        at = r.at;
+    }
+    r
+}
+
+// The constraints from `start` on, after divisions whose coefficients go from `least` to `greatest`: in turns those without
+// and those with a number, each in a loop of its own, where the place of the next waits for nothing.
 fn constraints(
     s: &[u8],
     start: usize,
@@ -265,30 +335,24 @@ fn constraints(
     greatest: [i16; limit::PLACES],
 ) -> ConstraintRun
     requires { ⌜ start ≤ length (now s) ⌝ }
-    ensures { λ r. ⌜ ConstraintsTo (now (s .entry)) start least greatest (r .at) (r .low) (r .high) (r .below) (r .above) ⌝ }
+    ensures { λ r. ⌜ ConstraintsTo (now (s .entry)) start least greatest r ⌝ }
 {
-    let mut at = start;
-    let mut low = least;
-    let mut high = greatest;
-    let mut below = [0i16; limit::PLACES];
-    let mut above = [0i16; limit::PLACES];
-    while constraint_there(s, at) {
-        let l = lowered(low, s, at + CONSTRAINT_AXES);
-        low = l;
-        let h = raised(high, s, at + CONSTRAINT_AXES);
-        high = h;
-        let b = lowered(below, s, at + CONSTRAINT_DIVISIONS);
-        below = b;
-        let a = raised(above, s, at + CONSTRAINT_DIVISIONS);
-        above = a;
-        at += BARE_WIDTH;
-    }
-    ConstraintRun {
-        at,
-        low,
-        high,
-        below,
-        above,
+    let none = ConstraintRun {
+        at: start,
+        count: 0,
+        low: least,
+        high: greatest,
+        below: [0i16; limit::PLACES],
+        above: [0i16; limit::PLACES],
+    };
+    let mut c = none;
+    loop {
+        let d = bare(s, c);
+        let e = numbered(s, d);
+        if e.at == d.at {
+            return e;
+        }
+        c = e;
     }
 }
 
@@ -305,7 +369,7 @@ fn accepted_end(n: usize, s: &[u8], start: usize, ranges: &[i16]) -> usize
     let least = d.low;
     let greatest = d.high;
     let c = constraints(s, d.at, least, greatest);
-    if CONSTRAINTS_WIDTH < c.at - d.at {
+    if limit::CONSTRAINTS < c.count {
         return 0;
     }
     let low = c.low;

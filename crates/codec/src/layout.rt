@@ -42,11 +42,11 @@ pub const NUMBERED_HEAD: usize = 3;
 // How long a body is, and a command.
 const DIVISION_BODY: usize = AXES_PLACE + 2 * limit::AXES;
 
-const CONSTRAINT_BODY: usize = DIVISIONS_PLACE + 2 * limit::DIVISIONS;
+pub const CONSTRAINT_BODY: usize = DIVISIONS_PLACE + 2 * limit::DIVISIONS;
 
 pub const DIVISION_WIDTH: usize = DIVISION_HEAD + DIVISION_BODY;
 
-pub const BARE_WIDTH: usize = BARE_HEAD + CONSTRAINT_BODY;
+const BARE_WIDTH: usize = BARE_HEAD + CONSTRAINT_BODY;
 
 const NUMBERED_WIDTH: usize = NUMBERED_HEAD + CONSTRAINT_BODY;
 
@@ -161,6 +161,13 @@ pub fn constraint_at(s: &[u8], at: usize) -> bool
     ensures { λ r. ⌜ r ≡ isConstraint (getD (now (s .entry)) at 0) ⌝ }
 {
     is_constraint(code(s, at))
+}
+
+// A constraint without a number.
+pub fn bare_at(s: &[u8], at: usize) -> bool
+    ensures { λ r. ⌜ r ≡ isBare (getD (now (s .entry)) at 0) ⌝ }
+{
+    is_bare(code(s, at))
 }
 
 pub fn goes_on(s: &[u8], at: usize) -> bool

@@ -3,6 +3,7 @@ use mathlib.Core.Path.{_≡_, refl, sym, ap, ap₂, _∙_, subst}
 use mathlib.Core.Bool.{Bool, true, false, _&&_, cond}
 use mathlib.Core.List.{List, [], _∷_, _++_, append-assoc, append-nil}
 use Prim.Native.Nat.{ℕ, suc, _+_, _≤_, _<_}
+use native.Mathlib.Nat.{le-refl}
 use native.Mathlib.Numerals.{add-one}
 use native.Mathlib.Omega.{arith}
 use lib.IntN.{ℤ, pos}
@@ -17,7 +18,7 @@ use Rattle.codec.specs.declared.layout.Passed.{Passed}
 use Rattle.codec.proofs.Boundaries.{boundary-start, boundary-end, boundary-next, boundary-set}
 use Rattle.query.specs.declared.membership.Span.{Span}
 use Rattle.query.specs.Holder.{firstHolding}
-use Rattle.query.specs.Holding.{AllWithin, Divided, Judged, Spanned}
+use Rattle.query.specs.Holding.{AllWithin, Divided, Judging, Judged, Spanned}
 use Rattle.bounds.proofs.Reading.{set-within}
 use Rattle.codec.proofs.Standing.{DivisionAt, division-at, ConstraintAt, constraint-at, no-division, no-constraint, end-here}
 
@@ -77,11 +78,6 @@ module _ (s : List ℕ) (start : ℕ) (x : List ℤ) (at d : ℕ) (q : List ℤ)
       }
 
 -- ---- the constraints
-pub record Judging (s : List ℕ) (start : ℕ) (ok : Constraint → Bool) (at : ℕ) (so : Bool) : Type 0 where
-  pub tail : Tail s at
-  pub is : (so && all ok (built (drop at s) .constraints)) ≡ all ok (built (drop start s) .constraints)
-  pub end : endOf s at ≡ endOf s start
-
 and-assoc : (a b c : Bool) → ((a && b) && c) ≡ (a && (b && c))
 and-assoc true b c = refl
 and-assoc false b c = refl
@@ -90,31 +86,37 @@ and-true : (a : Bool) → (a && true) ≡ a
 and-true true = refl
 and-true false = refl
 
-module _ (s : List ℕ) (start : ℕ) (ok : Constraint → Bool) where
-  pub judging-start : Tail s start → Judging s start ok start true
-  judging-start t = record { tail = t; is = refl; end = refl }
+module _ (s : List ℕ) (start : ℕ) (ok : Constraint → Bool) (before : Bool) where
+  pub judging-start : Tail s start → Judging s start ok before start before
+  judging-start t = record { tail = t; past = le-refl start; is = refl; end = refl }
 
-  pub judging-at : (at : ℕ) (so : Bool) (g : Judging s start ok at so) → isConstraint (getD s at 0) ≡ true → ConstraintAt (g .tail .n) s at (g .tail .k)
-  judging-at at so g e = constraint-at (g .tail .n) s at (g .tail .k) (g .tail .here) e
+  pub judging-then : (a b : ℕ) (x y : Bool) → Judging s start ok before a x → Judging s a ok x b y → Judging s start ok before b y
+  judging-then a b x y f g = let p = f .past in let q = g .past in record { tail = g .tail; past = omega arith; is = g .is ∙ f .is; end = g .end ∙ f .end }
 
-  pub judging-next : (at : ℕ) (so : Bool) (g : Judging s start ok at so) → isConstraint (getD s at 0) ≡ true → (r : Bool)
-      → r ≡ (so && ok (constraintAt s at)) → Judging s start ok (nextOf s at) r
-  judging-next at so g e r p =
-      let h = judging-at at so g e in
+-- the constraint at a place
+module _ (s : List ℕ) (at : ℕ) (ok : Constraint → Bool) (t : Tail s at) (e : isConstraint (getD s at 0) ≡ true) where
+  pub judging-at : ConstraintAt (t .n) s at (t .k)
+  judging-at = constraint-at (t .n) s at (t .k) (t .here) e
+
+  pub judging-next : (so r : Bool) → r ≡ (so && ok (constraintAt s at)) → Judging s at ok so (nextOf s at) r
+  judging-next so r p =
+      let h = judging-at in
       let c : Constraint = constraintAt s at in
+      let w = h .whole .known in
       record {
-        tail = record { n = g .tail .n; k = counted (g .tail .k) (constraint c); here = h .there; none = h .later };
+        tail = record { n = t .n; k = counted (t .k) (constraint c); here = h .there; none = h .later };
+        past = omega arith;
         is =
             ap (λ (b : Bool). b && all ok (built (drop (nextOf s at) s) .constraints)) p
             ∙ and-assoc so (ok c) (all ok (built (drop (nextOf s at) s) .constraints))
-            ∙ ap (λ (u : Built). so && all ok (u .constraints)) (sym (h .builds)) ∙ g .is;
-        end = h .end ∙ g .end;
+            ∙ ap (λ (u : Built). so && all ok (u .constraints)) (sym (h .builds));
+        end = h .end;
       }
 
-  pub judging-end : (at : ℕ) (so : Bool) → Judging s start ok at so → isConstraint (getD s at 0) ≡ false → Judged s start ok (record { holds = so; next = at })
-  judging-end at so g e =
-      let z = no-constraint (g .tail .n) s at (g .tail .k) (g .tail .here) (g .tail .none) e in
-      record { is = sym (and-true so) ∙ ap (λ (l : List Constraint). so && all ok l) (sym z) ∙ g .is; next = sym (end-here s at (g .tail .none) z) ∙ g .end }
+pub judging-end : (s : List ℕ) (start : ℕ) (ok : Constraint → Bool) (at : ℕ) (so : Bool) → Judging s start ok true at so → isConstraint (getD s at 0) ≡ false → Judged s start ok (record { holds = so; next = at })
+judging-end s start ok at so g e =
+    let z = no-constraint (g .tail .n) s at (g .tail .k) (g .tail .here) (g .tail .none) e in
+    record { is = sym (and-true so) ∙ ap (λ (l : List Constraint). so && all ok l) (sym z) ∙ g .is; next = sym (end-here s at (g .tail .none) z) ∙ g .end }
 
 -- ---- one basic set
 pub spanned-is : (s : List ℕ) (start : ℕ) (x q : List ℤ) (p : Passed) (r : Span) → Divided s start x q p → Judged s (p .next) (holds (pos 1) x (take (p .count) q)) r → Spanned s start (inBasic x) r

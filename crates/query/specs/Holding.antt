@@ -11,7 +11,7 @@ use Rattle.model.specs.Lists.{all}
 use Rattle.model.specs.Sets.{Constraint, BasicSet, isZero, quotients}
 use Rattle.query.specs.Member.{coordinate}
 use Rattle.codec.specs.Bytes.{Answer, refused, gives}
-use Rattle.codec.specs.Places.{built, basicAt, endOf, Past}
+use Rattle.codec.specs.Places.{built, basicAt, endOf, Tail, Past}
 use Rattle.codec.specs.declared.layout.Passed.{Passed}
 use Rattle.bounds.specs.Sizes.{mostQuotient}
 pub use Rattle.bounds.specs.Ends.{AllWithin}
@@ -35,6 +35,13 @@ pub record Divided (s : List ℕ) (start : ℕ) (x q : List ℤ) (r : Passed) : 
   pub is : take (r .count) q ≡ quotients (built (drop start s) .divisions) x
   pub values : AllWithin mostQuotient q
   pub past : Past s start (r .next)
+
+-- on the way from a place, behind constraints that pass a test or not: `so` says it at the place `at` of those up to there too
+pub record Judging (s : List ℕ) (start : ℕ) (ok : Constraint → Bool) (before : Bool) (at : ℕ) (so : Bool) : Type 0 where
+  pub tail : Tail s at
+  pub past : start ≤ at
+  pub is : (so && all ok (built (drop at s) .constraints)) ≡ (before && all ok (built (drop start s) .constraints))
+  pub end : endOf s at ≡ endOf s start
 
 -- whether the constraints from a place on pass a test, and the place after them
 pub record Judged (s : List ℕ) (start : ℕ) (ok : Constraint → Bool) (r : Span) : Type 0 where

@@ -1,17 +1,17 @@
 // Membership of a point in the checked bytes of a set.
 ghost use mathlib.Core.Path.{_≡_};
-ghost use mathlib.Core.Bool.{_&&_};
+ghost use mathlib.Core.Bool.{true, _&&_};
 ghost use Prim.Native.Nat.{_+_, _*_, _≤_, _<_};
 ghost use lib.IntN.{pos};
-ghost use lib.ListN.{length};
+ghost use lib.ListN.{length, getD};
 ghost use Rattle.model.specs.Sets as M;
 ghost use Rattle.model.specs.Limits.{mostAxes, mostDivisions};
-ghost use Rattle.codec.specs.Bytes.{constraintBody, readConstraint, kindOf};
+ghost use Rattle.codec.specs.Bytes.{isConstraint, constraintBody, readConstraint, kindOf};
 ghost use Rattle.codec.specs.Places.{Opened, Accepted, Tail, setFrom};
 ghost use Rattle.bounds.specs.Sizes.{mostQuotient};
 ghost use Rattle.query.specs.Member.{memberBytes, pointFits};
 ghost use Rattle.query.specs.Holder.{firstHolding};
-ghost use Rattle.query.specs.Holding.{AllWithin, Point, Values, Divided, Judged, Spanned, memberIs, coordinateFits};
+ghost use Rattle.query.specs.Holding.{AllWithin, Point, Values, Divided, Judging, Judged, Spanned, memberIs, coordinateFits};
 use crate::values::holds_at;
 use crate::values::quotient_at;
 use codec::Passed;
@@ -62,6 +62,37 @@ fn still(before: bool, b: u8, t: &[u8], x: &[i64], q: &[i64]) -> bool
     false
 }
 
+// The constraint at a place, behind those that hold or not.
+fn one_judged(s: &[u8], at: usize, so: bool, x: &[i64], q: &[i64]) -> Span
+    requires { ⌜ Tail (now s) at × (isConstraint (getD (now s) at 0) ≡ true) × Point (now x) × Values (now q) ⌝ }
+    ensures past { λ r. ⌜ at < r .next ⌝ }
+    ensures judged { λ r. ⌜ Judging (now (s .entry)) at (M.holds (pos 1) (now (x .entry)) (now (q .entry))) so (r .next) (r .holds) ⌝ }
+{
+    let b = codec::code(s, at);
+    let t = codec::body(s, at);
+    let holds = still(so, b, t, x, q);
+    let next = codec::next(s, at);
+    Span { holds, next }
+}
+
+// The constraints without a number that follow: in a loop of their own the compiler knows their width.
+fn bare_judged(s: &[u8], start: usize, so: bool, x: &[i64], q: &[i64]) -> Span
+    requires { ⌜ Tail (now s) start × Point (now x) × Values (now q) ⌝ }
+    ensures { λ r. ⌜ Judging (now (s .entry)) start (M.holds (pos 1) (now (x .entry)) (now (q .entry))) so (r .next) (r .holds) ⌝ }
+{
+    let mut at = start;
+    let mut holds = so;
+    while codec::bare_at(s, at) {
+        let r = one_judged(s, at, holds, x, q);
+        holds = r.holds;
+        at = r.next;
+    }
+    Span {
+        holds: holds,
+        next: at,
+    }
+}
+
 // Whether the constraints from `start` on hold, and the place after them.
 fn judged(s: &[u8], start: usize, x: &[i64], q: &[i64]) -> Span
     requires { ⌜ Tail (now s) start × Point (now x) × Values (now q) ⌝ }
@@ -70,10 +101,10 @@ fn judged(s: &[u8], start: usize, x: &[i64], q: &[i64]) -> Span
     let mut at = start;
     let mut holds = true;
     while codec::constraint_at(s, at) {
-        let b = codec::code(s, at);
-        let t = codec::body(s, at);
-        holds = still(holds, b, t, x, q);
-        at = codec::next(s, at);
+        let t = one_judged(s, at, holds, x, q);
+        let r = bare_judged(s, t.next, t.holds, x, q);
+        holds = r.holds;
+        at = r.next;
     }
     Span {
         holds: holds,

@@ -30,14 +30,23 @@ fn constraints_run(
 {
     let mut i = ql.len();
     let mut at = first;
-    while codec::constraint_at(s, at) {
+    loop {
+        while codec::bare_at(s, at) {
+            if !bounds::can_stand(s, k, low, high, r, ql, qh, at, i) {
+                return constraint_run(s, k, low, high, r, ql, qh, at, i, most);
+            }
+            at = codec::next(s, at);
+            i += 1;
+        }
+        if !codec::constraint_at(s, at) {
+            return 0;
+        }
         if !bounds::can_stand(s, k, low, high, r, ql, qh, at, i) {
             return constraint_run(s, k, low, high, r, ql, qh, at, i, most);
         }
         at = codec::next(s, at);
         i += 1;
     }
-    0
 }
 
 // 0 where the basic set of row r can hold over the box from low to high; otherwise for how many values of axis k, at

@@ -15,9 +15,6 @@ returns c = λ z. absurd (z refl)
 constraints-requires : tie.Need-constraints-requires
 constraints-requires c κs = c .before .before .before .divisions .ensures .inside
 
-sub-if2 : tie.Need-sub-if2
-sub-if2 c = let p = c .before .before .constraints .ensures .place in omega arith
-
 returns-2 : tie.Need-returns-2
 returns-2 c = λ z. absurd (z refl)
 
@@ -36,8 +33,8 @@ returns-4 c = λ z. absurd (z refl)
 returns-5 : tie.Need-returns-5
 returns-5 c =
     let j = c .before in let e3 = j .before .before .before in let i = e3 .before in let e2 = i .before .before .before in
-    let k = e2 .before .before .before in let e1 = k .before .before .before in let d = e1 .before in let st = d .before .before in
-    λ z. ends-of _ _ _ _ _ _ _ _ _ _ _ _ (st .pre .0) (d .divisions .ensures) (e1 .if1 .left) (k .constraints .ensures) (e2 .if2 .left) (i .in-range .ensures (not-false _ (e3 .if3 .left))) (j .in-range2 .ensures (not-false _ (c .if4 .left)))
+    let k = e2 .before .before in let e1 = k .before .before .before in let d = e1 .before in let st = d .before .before in
+    λ z. ends-of _ _ _ _ _ _ _ (k .constraints .result) (st .pre .0) (d .divisions .ensures) (e1 .if1 .left) (k .constraints .ensures) (e2 .if2 .left) (i .in-range .ensures (not-false _ (e3 .if3 .left))) (j .in-range2 .ensures (not-false _ (c .if4 .left)))
 
 pub accepted-end-spec : {M : Type 1} → statement M
 accepted-end-spec =
@@ -46,7 +43,6 @@ accepted-end-spec =
     divisions-requires
     returns
     constraints-requires
-    sub-if2
     returns-2
     in-range-requires
     returns-3

@@ -1,70 +1,44 @@
-use mathlib.Core.Path.{_≡_, sym, ap₂, _∙_, subst}
-use mathlib.Core.Bool.{Bool, true, _&&_}
-use mathlib.Core.List.{List}
+use mathlib.Core.Path.{sym, _∙_}
+use mathlib.Core.Bool.{true}
 use native.Mathlib.Omega.{arith}
 use borrow.Author.Needs.{needs}
-use Prim.Native.Nat.{ℕ, _-_, _≤_}
+use Prim.Native.Nat.{_-_}
 use lib.IntN.{pos}
-use lib.ListN.{length, getD}
+use lib.ListN.{length}
 use Rattle.model.specs.Sets as M
-use Rattle.codec.specs.Bytes.{isConstraint, constraintBody, readConstraint, kindOf}
-use Rattle.codec.proofs.Standing.{ConstraintAt}
-use Rattle.query.proofs.Holding.{Judging, judging-start, judging-at, judging-next, judging-end}
+use Rattle.query.specs.Holding.{Judging}
+use Rattle.query.proofs.Holding.{judging-start, judging-then, judging-end}
 use Rattle.query.proofs.membership.judged.Statement.{statement}
 use Rattle.query.proofs.membership.judged.Tie as tie
 
 abbrev Inv-loop : tie.InvT-loop
-Inv-loop s start x q at₀ holds₀ at holds = Judging s start (M.holds (pos 1) x q) at holds
+Inv-loop s start x q at₀ holds₀ at holds = Judging s start (M.holds (pos 1) x q) true at holds
 
 abbrev μ-loop : tie.MeasureT-loop
 μ-loop s start x q at₀ holds₀ at holds = length s - at
 
 loop-holds : tie.Need-loop-holds Inv-loop μ-loop
-loop-holds c = let st = c .before in judging-start (st .args .s .now) (st .args .start) (M.holds (pos 1) (st .args .x .now) (st .args .q .now)) (st .pre .0)
-
--- a turn: its start, its test, the constraint at its place
-module _ (t : tie.Then1 Inv-loop μ-loop) where
-  abbrev m : tie.At-loop Inv-loop μ-loop
-  m = t .before .before
-
-  abbrev st : tie.Start Inv-loop μ-loop
-  st = m .before .before
-
-  abbrev ok : M.Constraint → Bool
-  ok = M.holds (pos 1) (st .args .x .now) (st .args .q .now)
-
-  code : isConstraint (getD (st .args .s .now) (m .loop .at) 0) ≡ true
-  code = sym (t .before .constraint-at .ensures) ∙ t .if1 .taken
-
-  here : ConstraintAt (m .loop .inv .tail .n) (st .args .s .now) (m .loop .at) (m .loop .inv .tail .k)
-  here = judging-at (st .args .s .now) (st .args .start) ok (m .loop .at) (m .loop .holds) (m .loop .inv) code
+loop-holds c = let st = c .before in judging-start (st .args .s .now) (st .args .start) (M.holds (pos 1) (st .args .x .now) (st .args .q .now)) true (st .pre .0)
 
 constraint-at-requires : tie.Need-constraint-at-requires Inv-loop μ-loop
 constraint-at-requires c κs = search needs
 
-code-requires : tie.Need-code-requires Inv-loop μ-loop
-code-requires c κs = search needs
+one-judged-requires : tie.Need-one-judged-requires Inv-loop μ-loop
+one-judged-requires c κs =
+    let t = c .before in let m = t .before in let st = m .before .before in
+    (m .loop .inv .tail, sym (t .constraint-at .ensures) ∙ c .if1 .taken, st .pre .1, st .pre .2)
 
-body-requires : tie.Need-body-requires Inv-loop μ-loop
-body-requires c κs = here (c .before) .whole
-
-still-requires : tie.Need-still-requires Inv-loop μ-loop
-still-requires c κs =
-    let t = c .before .before in
-    (subst (λ (t : List ℕ). constraintBody ≤ length t) (sym (c .body .ensures)) (here t .body), st t .pre .1, st t .pre .2)
-
-next-requires : tie.Need-next-requires Inv-loop μ-loop
-next-requires c κs = here (c .before .before .before) .whole
+bare-judged-requires : tie.Need-bare-judged-requires Inv-loop μ-loop
+bare-judged-requires c κs = let st = c .before .before .before .before .before in (c .one-judged .ensures .1 .tail, st .pre .1, st .pre .2)
 
 loop-less : tie.Need-loop-less Inv-loop μ-loop
-loop-less c = let h = here (c .before .before .before .before) .whole in let r = h .room in let w = h .known in omega (arith, c .next .ensures)
+loop-less c = let p = c .before .one-judged .ensures .0 in let r = c .bare-judged .ensures .past in let i = c .bare-judged .ensures .tail .here .inside in omega arith
 
 loop-again : tie.Need-loop-again Inv-loop μ-loop
 loop-again c =
-    let v = c .before in let b = v .before in let e = b .before in let t = e .before in let a = st t .args in let l = m t .loop in
-    subst (λ (p : ℕ). Judging (a .s .now) (a .start) (ok t) p (v .still .result)) (sym (c .next .ensures))
-    (judging-next (a .s .now) (a .start) (ok t) (l .at) (l .holds) (l .inv) (code t) (v .still .result)
-    (v .still .ensures ∙ ap₂ (λ (b : ℕ) (u : List ℕ). l .holds && ok t (readConstraint (kindOf b) u)) (e .code .ensures) (b .body .ensures)))
+    let o = c .before in let m = o .before .before .before in let st = m .before .before in
+    let s = st .args .s .now in let ok = M.holds (pos 1) (st .args .x .now) (st .args .q .now) in
+    judging-then s (st .args .start) ok true _ _ _ _ (judging-then s (st .args .start) ok true _ _ _ _ (m .loop .inv) (o .one-judged .ensures .1)) (c .bare-judged .ensures)
 
 returns : tie.Need-returns Inv-loop μ-loop
 returns c =
@@ -79,10 +53,8 @@ judged-spec =
     μ-loop
     loop-holds
     constraint-at-requires
-    code-requires
-    body-requires
-    still-requires
-    next-requires
+    one-judged-requires
+    bare-judged-requires
     loop-less
     loop-again
     returns)
