@@ -17,7 +17,8 @@ use mir.Facts.{toZ-ofZ, toZ-pos}
 use Rattle.integers.specs.Z.{Within}
 use Rattle.integers.specs.Gcd.{gcd, gcd-is, gcd-zero, gcd-step, gcd-comm}
 use Rattle.integers.specs.Order.{mul-pos-pos}
-use Rattle.integers.specs.Size.{within-neg, within-mono, within-fits, products}
+use Rattle.integers.specs.Ring.{quote, ring}
+use Rattle.integers.specs.Size.{within-neg, within-mono, within-fits, within-add, within-sub, products}
 use Rattle.model.specs.Sets.{isZero}
 use Rattle.model.specs.Lists.{filter, consIf}
 unfoldable pub use Rattle.model.proofs.Lists.{upTo, each, but}
@@ -156,6 +157,33 @@ pub record Sound (n b : ℕ) (r : List ℤ) : Type 0 where
   pub small : Small b r
   pub den : pos 0 <ℤ getD r 0 (pos 0)
 
+-- ---- rows with denominator 1
+
+-- the numbers from place 18 on are none
+pub whole-line : {n : ℕ} {l : List ℤ} → Line n l → Line 18 l
+whole-line {n} {l} f = record { fit = le-refl 18; long = f .long; blank = λ k a. f .blank k (le-trans (f .fit) a) }
+
+-- they are in lowest terms
+pub one-lowest : (r : List ℤ) → getD r 0 (pos 0) ≡ pos 1 → reduceRow r ≡ r
+unfolding reduceRow divideRow divisorFrom
+one-lowest [] e = absurd (subst T (ap isZero e) tt)
+one-lowest (x ∷ l) e =
+    ap (λ n. map (λ z. quotZ z (pos n)) (x ∷ l)) (ap (λ g. divisorFrom g l) (ap (λ z. gcd (natAbs z) 0) e ∙ gcd-zero 1) ∙ divisor-one l)
+    ∙ map-quot-one (x ∷ l)
+
+-- sums and differences as steps of a combination
+pub plus-step : (x y : ℤ) → x +ℤ y ≡ x *ℤ pos 1 -ℤ negℤ (pos 1) *ℤ y
+plus-step x y = ring (x ∷ y ∷ []) (search quote depth 30) tt
+
+pub minus-step : (x y : ℤ) → x -ℤ y ≡ x *ℤ pos 1 -ℤ pos 1 *ℤ y
+minus-step x y = ring (x ∷ y ∷ []) (search quote depth 30) tt
+
+pub sum-fits : {x y : ℤ} → Within (bound 64) x → Within (bound 64) y → SFits w64 (x +ℤ y)
+sum-fits h k = within-fits (omega arith) (within-add h k)
+
+pub difference-fits : {x y : ℤ} → Within (bound 64) x → Within (bound 64) y → SFits w64 (x -ℤ y)
+difference-fits h k = within-fits (omega arith) (within-sub h k)
+
 -- ---- stores
 pub set-small : (b : ℕ) (l : List ℤ) (i : ℕ) (v : ℤ) → Within b v → Small b l → Small b (set l i v)
 set-small b [] i v hv hl k = hl k
@@ -254,6 +282,15 @@ module _ (n : ℕ) (m b : ℤ) (l q : List ℤ) (hl : Line n l) (hq : Line n q) 
       subst (λ x. pos 0 <ℤ x)
       (sym (combine-at m b l q 0 same-long ∙ ap (λ y. getD l 0 (pos 0) *ℤ m -ℤ b *ℤ y) z ∙ ap (λ x. getD l 0 (pos 0) *ℤ m -ℤ x) (*ℤ-zero b) ∙ +ℤ-idr (getD l 0 (pos 0) *ℤ m)))
       (mul-pos-pos pl hm)
+
+  -- of two rows with denominator 1
+  pub combine-one : m ≡ pos 1 → getD l 0 (pos 0) ≡ pos 1 → getD q 0 (pos 0) ≡ pos 0 → getD (combineRows m b l q) 0 (pos 0) ≡ pos 1
+  combine-one em el eq =
+      combine-at m b l q 0 same-long
+      ∙ ap (λ y. getD l 0 (pos 0) *ℤ m -ℤ b *ℤ y) eq
+      ∙ ap (λ x. getD l 0 (pos 0) *ℤ m -ℤ x) (*ℤ-zero b)
+      ∙ +ℤ-idr (getD l 0 (pos 0) *ℤ m)
+      ∙ ap₂ _*ℤ_ el em
 
 -- ---- rows in lowest terms
 natAbs-pos-neg : (n : ℕ) → natAbs (negℤ (pos n)) ≡ n

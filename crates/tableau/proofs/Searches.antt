@@ -6,12 +6,13 @@ use Prim.Native.Nat.{ℕ, zero, suc, _+_, _-_, _^_, _≤_, _<_, zero-le, suc-le-
 use native.Mathlib.Nat.{not-suc-le-zero, le-of-suc-le-suc}
 use native.Mathlib.Numerals.{add-one}
 use native.Mathlib.Omega.{arith}
-use borrow.Author.Tests.{ltb-true, ltb-false, le-leb, lt-leb, leb-true, ne-eqb}
+use borrow.Author.Tests.{ltb-true, ltb-false, le-leb, lt-leb, leb-true, leb-false, ne-eqb}
 use lib.Dec.{leb, ltb, eqb, T}
 use lib.ListN.{length, getD, set, drop, drop-of-length-le, length-set, length-map}
 use lib.Seq.{drop-cons, getD-drop}
 use lib.IntN.{ℤ, pos, negsuc, natAbs, _-ℤ_}
-use lib.Signed.{ltZ, leZ, _<ℤ_}
+use lib.Signed.{ltZ, _<ℤ_}
+use lib.Bits.{bitOr, or-lt, or-add-and, and-le-l, and-le-r}
 use mir.Syntax.{w64}
 use mir.Val.{SFits, ofZ}
 use Rattle.integers.specs.Size.{bound}
@@ -44,14 +45,22 @@ bits-test (pos zero) h = refl
 bits-test (pos (suc n)) h = refl
 bits-test (negsuc n) h = let k : n < 9223372036854775808 = h .sfits in ne-eqb (18446744073709551616 - suc n) 0 (λ e. omega arith)
 
--- ---- the number test of one number
-pub small-low : (x : ℤ) → ltZ x (negsuc 2147483646) ≡ true → false ≡ leb (natAbs x) (bound 64)
-small-low (pos n) h = absurd (subst T (sym h) tt)
-small-low (negsuc n) h = let k = ltb-true 2147483646 n h in sym (lt-leb (suc n) (bound 64) (omega arith))
+-- ---- the number test of two numbers at once, by their bits
+or-left : (a b : ℕ) → a ≤ bitOr a b
+or-left a b = omega (arith, or-add-and a b, and-le-r a b)
 
-pub small-high : (x : ℤ) → ltZ x (negsuc 2147483646) ≡ false → leZ x (pos (bound 64)) ≡ leb (natAbs x) (bound 64)
-small-high (pos n) h = refl
-small-high (negsuc n) h = let k = ltb-false 2147483646 n h in sym (le-leb (suc n) (bound 64) (omega arith))
+or-right : (a b : ℕ) → b ≤ bitOr a b
+or-right a b = omega (arith, or-add-and a b, and-le-l a b)
+
+pub or-small : (a b : ℕ) → leb (bitOr a b) (bound 64) ≡ cond (leb a (bound 64)) (leb b (bound 64)) false
+or-small a b = both (leb a (bound 64)) (leb b (bound 64)) refl refl
+  where
+    both : (p q : Bool) → leb a (bound 64) ≡ p → leb b (bound 64) ≡ q → leb (bitOr a b) (bound 64) ≡ cond p q false
+    both true true e f =
+        let h = leb-true a (bound 64) e in let k = leb-true b (bound 64) f in
+        let l : bitOr a b < 2 ^ 31 = or-lt 31 a b (omega arith) (omega arith) in le-leb (bitOr a b) (bound 64) (omega arith)
+    both true false e f = let k = leb-false b (bound 64) f in lt-leb (bitOr a b) (bound 64) (omega (arith, or-right a b))
+    both false q e f = let h = leb-false a (bound 64) e in lt-leb (bitOr a b) (bound 64) (omega (arith, or-left a b))
 
 -- ---- of a row, and of the rows with an entry in a column
 module _ (m : ℕ) where
@@ -66,6 +75,21 @@ module _ (m : ℕ) where
   pub narrow-end : (j : ℕ) (t : List (List ℤ)) (k : ℕ) → length t ≤ k → true ≡ narrowRowsAt m j (drop k t)
   unfolding narrowRowsAt
   narrow-end j t k h = sym (ap (narrowRowsAt m j) (drop-of-length-le t {i = k} h))
+
+-- a number more, with those before it as their bits
+pub small-more : (l : List ℤ) (i a : ℕ) → i < length l → cond (leb (bitOr a (natAbs (getD l i (pos 0)))) (bound 64)) (smallAt (bound 64) (drop (i + 1) l)) false ≡ cond (leb a (bound 64)) (smallAt (bound 64) (drop i l)) false
+small-more l i a h =
+    ap (λ b. cond b (smallAt (bound 64) (drop (i + 1) l)) false) (or-small a (natAbs (getD l i (pos 0))))
+    ∙ nested (leb a (bound 64)) (leb (natAbs (getD l i (pos 0))) (bound 64)) (smallAt (bound 64) (drop (i + 1) l))
+    ∙ ap (λ b. cond (leb a (bound 64)) b false) (sym (small-step (bound 64) l i (leb (natAbs (getD l i (pos 0))) (bound 64)) h refl))
+  where
+    nested : (p q s : Bool) → cond (cond p q false) s false ≡ cond p (cond q s false) false
+    nested true q s = refl
+    nested false q s = refl
+
+pub cond-self : (b : Bool) → b ≡ cond b true false
+cond-self true = refl
+cond-self false = refl
 
 -- what the number test tells
 cond-true : (b : Bool) (c : Bool) → cond b c false ≡ true → (b ≡ true) × (c ≡ true)

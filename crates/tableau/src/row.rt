@@ -5,7 +5,8 @@ ghost use Prim.Native.Nat.{_+_, _<_};
 ghost use lib.ListN.{getD};
 ghost use mathlib.Core.List.{map};
 ghost use lib.Signed.{quotZ, _<ℤ_};
-ghost use lib.IntN.{pos, natAbs};
+ghost use mathlib.Core.Bool.{true};
+ghost use lib.IntN.{pos, negsuc, natAbs, _-ℤ_};
 ghost use Rattle.integers.specs.Z.{Within};
 ghost use Rattle.integers.specs.Gcd.{gcd as gcdOf};
 ghost use Rattle.integers.specs.Size.{bound};
@@ -106,6 +107,59 @@ fn reduce(r: &mut [i64; 18], n: usize)
     reduce_by(r, n, g);
 }
 
+// x + y, place by place. All 18 places, so that the compiler adds them two at a time.
+fn plus(r: &mut [i64; 18], q: &[i64; 18])
+    requires { ⌜ Line 18 (now r) × Line 18 (now q) × Small (bound 64) (now r) × Small (bound 64) (now q) ⌝ }
+    ensures { λ _. ⌜ now (r .exit) ≡ combineRows (pos 1) (negsuc 0) (now (r .entry)) (now (q .entry)) ⌝ }
+{
+    let mut i: usize = 0;
+    while i < 18 {
+        let x = r[i];
+        let y = q[i];
+        r[i] = x + y;
+        i += 1;
+    }
+}
+
+// x − y, place by place.
+fn minus(r: &mut [i64; 18], q: &[i64; 18])
+    requires { ⌜ Line 18 (now r) × Line 18 (now q) × Small (bound 64) (now r) × Small (bound 64) (now q) ⌝ }
+    ensures { λ _. ⌜ now (r .exit) ≡ combineRows (pos 1) (pos 1) (now (r .entry)) (now (q .entry)) ⌝ }
+{
+    let mut i: usize = 0;
+    while i < 18 {
+        let x = r[i];
+        let y = q[i];
+        r[i] = x - y;
+        i += 1;
+    }
+}
+
+// x + b · y, place by place, where the row's denominator is 1 and stays so: it is in lowest terms.
+fn add(r: &mut [i64; 18], n: usize, b: i64, q: &[i64; 18])
+    requires { ⌜ Line n (now r) × Line n (now q) × Small (bound 64) (now r) × Small (bound 64) (now q) × Within (bound 64) b ⌝ }
+    ensures { λ _. ⌜ now (r .exit) ≡ combineRows (pos 1) (pos 0 -ℤ b) (now (r .entry)) (now (q .entry)) ⌝ }
+{
+    if b == 1 {
+        plus(r, q);
+        return;
+    }
+    if b == -1 {
+        minus(r, q);
+        return;
+    }
+    combine(r, n, 1, 0 - b, q);
+}
+
+fn both_one(m: i64, d: i64) -> bool
+    ensures { λ b. ⌜ (b ≡ true → (m ≡ pos 1) × (d ≡ pos 1)) ⌝ }
+{
+    if m != 1 {
+        return false;
+    }
+    d == 1
+}
+
 // The row with the variable of column j replaced by a row, given as its denominator m and its other numbers q.
 pub fn replace(r: &mut [i64; 18], n: usize, j: usize, m: i64, q: &[i64; 18])
     requires { ⌜ j < 16 ⌝ }
@@ -120,7 +174,12 @@ pub fn replace(r: &mut [i64; 18], n: usize, j: usize, m: i64, q: &[i64; 18])
     ensures { λ _. ⌜ now (r .exit) ≡ replaceRow (now (r .entry)) j m (now (q .entry)) ⌝ }
 {
     let b = r[j + 2];
+    let d = r[0];
     r[j + 2] = 0;
+    if both_one(m, d) {
+        add(r, n, b, q);
+        return;
+    }
     let g = combine(r, n, m, 0 - b, q);
     reduce_by(r, n, g);
 }

@@ -3,9 +3,6 @@ ghost use mathlib.Core.Path.{_≡_};
 ghost use Prim.Native.Nat.{ℕ, _+_, _-_, _<_};
 ghost use mathlib.Core.List.{[]};
 ghost use lib.ListN.{length, getD};
-ghost use lib.Dec.{leb};
-ghost use lib.IntN.{natAbs};
-ghost use Rattle.integers.specs.Size.{bound};
 ghost use Rattle.tableau.specs.Rows.{violatedBy, violatedAt, violated as violatedOf, helpsBy, helpsAt, helping as helpingOf, small as smallOf, narrowRows, narrowRow, Line};
 use integers::bound;
 
@@ -36,31 +33,22 @@ fn is_helping(kind: u8, c: i64, e: i64) -> bool
     false
 }
 
-const LEAST: i64 = -bound::AT_64;
+// The bound of the definition `bound 64`, for magnitudes.
+const MOST: u64 = bound::AT_64 as u64;
 
-// The number test of one number; the bound of the definition `bound 64`.
-fn is_small(x: i64) -> bool
-    ensures { λ b. ⌜ b ≡ leb (natAbs x) (bound 64) ⌝ }
-{
-    if x < LEAST {
-        return false;
-    }
-    x <= bound::AT_64
-}
-
+// The bits of all magnitudes together, at all 18 places, so that the compiler takes them two at a time.
 pub fn small(r: &[i64; 18], n: usize) -> bool
     requires { ⌜ Line n (now r) ⌝ }
     ensures { λ b. ⌜ b ≡ smallOf (now (r .entry)) ⌝ }
 {
+    let mut bits: u64 = 0;
     let mut i: usize = 0;
-    while i < n {
+    while i < 18 {
         let x = r[i];
-        if !is_small(x) {
-            return false;
-        }
+        bits = bits | integers::magnitude(x);
         i += 1;
     }
-    true
+    bits <= MOST
 }
 
 fn row_narrow(r: &[i64; 18], n: usize, j: usize) -> bool

@@ -1,28 +1,28 @@
-use lib.Dec.{leb}
-use mathlib.Core.Path.{_≡_, refl, sym, ap, _∙_}
-use mathlib.Core.Bool.{true, false}
-use Prim.Native.Nat.{_-_, _≤_}
+use mathlib.Core.Path.{_≡_, refl, ap, _∙_}
+use mathlib.Core.Bool.{false, cond}
+use Prim.Native.Nat.{_+_, _-_, _≤_}
 use borrow.Author.Needs.{needs}
-use borrow.Author.Tests.{not-true, not-false}
 use native.Mathlib.Omega.{arith}
+use lib.Dec.{leb}
+use lib.Bits.{bitOr}
 use lib.ListN.{getD, drop}
 use lib.IntN.{pos, natAbs}
 use mir.Syntax.{w64}
 use mir.Facts.{toZ-ofZ}
 use Rattle.integers.specs.Size.{bound}
+use Rattle.integers.proofs.magnitude.Reads as magnitude-reads
 use Rattle.tableau.specs.Rows.{small as smallOf}
-use Rattle.tableau.proofs.Searches.{small-step, small-end}
+use Rattle.tableau.proofs.Searches.{small-more, small-end, cond-self}
 use Rattle.tableau.proofs.search.small.Statement.{statement}
 use Rattle.tableau.proofs.search.small.Tie as tie
 use Rattle.tableau.proofs.search.small.Reads as reads
 use Rattle.tableau.proofs.search.small.Lts as lts
-use Rattle.tableau.proofs.search.is_small.Reads as is-small-reads
 
 abbrev Inv-loop : tie.InvT-loop
-Inv-loop r n i₀ i = (i ≤ n) × (smallOf (drop i r) ≡ smallOf r)
+Inv-loop r n b₀ i₀ b i = (i ≤ 18) × (cond (leb b (bound 64)) (smallOf (drop i r)) false ≡ smallOf r)
 
 abbrev μ-loop : tie.MeasureT-loop
-μ-loop r n i₀ i = n - i
+μ-loop r n b₀ i₀ b i = 18 - i
 
 loop-holds : tie.Need-loop-holds Inv-loop μ-loop
 loop-holds c = (omega arith, refl)
@@ -33,16 +33,8 @@ mul-x c = search needs
 element-copy-out-x : tie.Need-element-copy-out-x Inv-loop μ-loop
 element-copy-out-x c = search needs
 
-is-small-requires : tie.Need-is-small-requires Inv-loop μ-loop
-is-small-requires c κs = search needs
-
-returns : tie.Need-returns Inv-loop μ-loop
-returns c =
-    let s = c .before .before .before .before .before in
-    let l = c .before .before .before .before .loop in
-    let z = getD (s .args .r .now) (l .i) (pos 0) in
-    let e = c .before .is-small .ensures ∙ ap (λ x. leb (natAbs x) (bound 64)) (toZ-ofZ {w = w64} {z = z} (record { sfits = c .before .before .x .given })) in
-    sym (small-step (bound 64) (s .args .r .now) (l .i) false (omega (arith, s .pre .fit, s .pre .long)) (sym e ∙ not-true _ (c .if1 .taken))) ∙ l .inv .1
+magnitude-requires : tie.Need-magnitude-requires Inv-loop μ-loop
+magnitude-requires c κs = search needs
 
 add-i : tie.Need-add-i Inv-loop μ-loop
 add-i c = search needs
@@ -52,17 +44,24 @@ loop-less c = search needs
 
 loop-again : tie.Need-loop-again Inv-loop μ-loop
 loop-again c =
-    let s = c .before .before .before .before .before in
-    let l = c .before .before .before .before .loop in
-    let z = getD (s .args .r .now) (l .i) (pos 0) in
-    let e = c .before .is-small .ensures ∙ ap (λ x. leb (natAbs x) (bound 64)) (toZ-ofZ {w = w64} {z = z} (record { sfits = c .before .before .x .given })) in
-    (omega arith, sym (small-step (bound 64) (s .args .r .now) (l .i) true (omega (arith, s .pre .fit, s .pre .long)) (sym e ∙ not-false _ (c .if1 .left))) ∙ l .inv .1)
+    let s = c .before .before .before .before in
+    let l = c .before .before .before .loop in
+    let r = s .args .r .now in
+    let x = toZ-ofZ {w = w64} {z = getD r (l .i) (pos 0)} (record { sfits = c .before .x .given }) in
+    let e = c .magnitude .ensures ∙ ap natAbs x in (
+      omega arith,
+      ap (λ n. cond (leb (bitOr (l .bits) n) (bound 64)) (smallOf (drop (l .i + 1) r)) false) e
+          ∙ small-more r (l .i) (l .bits) (omega (arith, s .pre .long))
+          ∙ l .inv .1,
+    )
 
-returns-2 : tie.Need-returns-2 Inv-loop μ-loop
-returns-2 c =
+returns : tie.Need-returns Inv-loop μ-loop
+returns c =
     let s = c .before .before in
     let l = c .before .loop in
-    small-end (bound 64) (s .args .n) (l .i) (s .args .r .now) (s .pre) (omega arith) ∙ l .inv .1
+    cond-self (leb (l .bits) (bound 64))
+    ∙ ap (λ b. cond (leb (l .bits) (bound 64)) b false) (small-end (bound 64) (s .args .n) (l .i) (s .args .r .now) (s .pre) (omega (arith, s .pre .fit)))
+    ∙ l .inv .1
 
 pub small-spec : {M : Type 1} → statement M
 small-spec =
@@ -73,9 +72,8 @@ small-spec =
     loop-holds
     mul-x
     element-copy-out-x
-    is-small-requires
-    returns
+    magnitude-requires
     add-i
     loop-less
     loop-again
-    returns-2)
+    returns)
