@@ -1,40 +1,17 @@
--- A row carried over, number by number. Assumes nothing.
-use mathlib.Core.Path.{_≡_, refl, sym, ap, subst}
-use mathlib.Core.List.{List, [], _∷_}
-use Prim.Native.Nat.{ℕ, zero, suc, _+_, _≤_, _<_}
-use native.Mathlib.Nat.{not-suc-le-zero, le-of-suc-le-suc}
+-- A table carried over, row by row. Assumes nothing.
+use mathlib.Core.Path.{_≡_, refl, sym, subst}
+use mathlib.Core.List.{List, []}
+use Prim.Native.Nat.{ℕ, _+_, _<_}
+use native.Mathlib.Nat.{not-suc-le-zero}
 use native.Mathlib.Omega.{arith}
 use mathlib.Core.Bool.{Bool, true, false}
 use mathlib.Core.Logic.{⊎-elim}
 use borrow.Author.Tests.{eqb-true, eqb-false}
 use lib.Dec.{eqb}
-use lib.ListN.{length, getD, set, replicate}
+use lib.ListN.{length, getD, set}
 use lib.Seq.{getD-set-same, getD-set-other}
 use Rattle.integers.specs.Part.{lt-or-le}
-use Rattle.tableau.proofs.Lines.{upTo}
-use Rattle.wide_tableau.specs.Cells.{cells, words, Sheet}
-
-unfoldable pub fromList : {A : Type 0} → A → List A → ℕ → A → A
-fromList d s i x = getD s i d
-
-pub fromList-is : {A : Type 0} (d : A) (s : List A) (i : ℕ) (x : A) → fromList d s i x ≡ getD s i d
-unfolding fromList
-fromList-is d s i x = refl
-
-pub upTo-from : {A : Type 0} (d : A) (n : ℕ) (l s : List A) → length l ≤ n → length l ≡ length s → upTo (fromList d s) n l ≡ s
-unfolding upTo fromList
-upTo-from d zero [] [] h e = refl
-upTo-from d zero [] (y ∷ s) h e = absurd (omega arith)
-upTo-from d zero (x ∷ l) s h e = absurd (not-suc-le-zero h)
-upTo-from d (suc n) [] [] h e = refl
-upTo-from d (suc n) [] (y ∷ s) h e = absurd (omega arith)
-upTo-from d (suc n) (x ∷ l) [] h e = absurd (omega arith)
-upTo-from d (suc n) (x ∷ l) (y ∷ s) h e = ap (λ t. y ∷ t) (upTo-from d n l s (le-of-suc-le-suc h) (omega arith))
-
--- the row of zeros
-pub blank : Sheet (replicate 36 0)
-unfolding cells words
-blank = record { long = refl; plain = refl }
+use Rattle.wide_tableau.specs.Cells.{Sheet}
 
 -- the first k rows of a table are sheets
 pub record Done (k : ℕ) (t : List (List ℕ)) : Type 0 where

@@ -16,7 +16,7 @@ pub fn goal_row(c: Constraint, k: usize, goal: &mut [u64; 36])
 {
     let mut row = [0i64; 18];
     simplex::fill::constraint_row(&mut row, c, k);
-    carrying::carry::carry_row(&row, goal);
+    wide_tableau::row::carry_row(&row, goal);
 }
 
 pub fn conditions(b: BasicSet, t: &mut [[u64; 36]], place: &mut [usize], kinds: &mut [u8])

@@ -1,21 +1,23 @@
 -- The size of a number of two words from the bound of its value, and cells. Assumes nothing.
 use mathlib.Core.Path.{_≡_, sym, ap, ap₂, _∙_}
 use mathlib.Core.Bool.{Bool, true, false, cond}
-use Prim.Native.Nat.{ℕ, suc, _+_, _-_, _*_, _/_, _%_, _^_, _≤_, _<_, zero-le}
+use mathlib.Core.Logic.{⊎-elim}
+use Prim.Native.Nat.{ℕ, zero, suc, _+_, _-_, _*_, _/_, _%_, _^_, _≤_, _<_, zero-le}
 use native.Mathlib.Omega.{arith}
-use native.Mathlib.Nat.{le-trans, le-of-eq, mod-eq-sub-mod, mod-eq-of-lt, lt-of-mul-lt-mul-right, div-lt-iff-lt-mul, div-add-mod', two-pow-succ}
+use native.Mathlib.Nat.{eq-zero-or-pos, zero-div, le-trans, le-of-eq, mod-eq-sub-mod, mod-eq-of-lt, lt-of-mul-lt-mul-right, div-lt-iff-lt-mul, div-add-mod', two-pow-succ}
 use lib.IntN.{ℤ, pos, negsuc, negℤ, natAbs, _-ℤ_, _*ℤ_}
 use lib.Arith.{digits-lt, digits-div, digits-mod}
 use lib.Pow.{pow-pos}
 use lib.Dec.{leb}
 use lib.Signed.{ltZ}
 use borrow.Author.Tests.{le-leb, lt-leb, le-ltb}
+use Rattle.integers.specs.Part.{lt-or-le}
 use Rattle.integers.specs.Z.{Within}
 use Rattle.integers.specs.Size.{bound, products}
 use Rattle.wide.specs.declared.Wide.{Wide}
 use Rattle.wide.specs.Wide.{size, valueOf}
 use Rattle.wide.specs.Wide.{signed}
-use Rattle.wide.proofs.Signs.{natAbs-signed}
+use Rattle.wide.proofs.Signs.{natAbs-signed, signed-lt}
 
 pub size-within : (x : Wide) (z : ℤ) {n : ℕ} → valueOf x ≡ z → Within n z → size (x .magnitude) ≤ n
 size-within x z e h = le-trans (le-of-eq (sym (natAbs-signed (x .neg) (size (x .magnitude))) ∙ ap natAbs e)) (h .size)
@@ -73,3 +75,30 @@ module _ (H B : ℕ) (b : 0 < B) where
 
   pub low-digit : (h l : ℕ) → l < B → (h * B + l) % B ≡ l
   low-digit h l k = digits-mod h k
+
+  -- a cell has its number's words but for one: 0 with a sign
+  pub cell-low-word : (h l : ℕ) → l < B → natAbs (cellAt H B l h) % B ≡ l
+  cell-low-word h l k = ap (λ (n : ℕ). n % B) (natAbs-signed (leb H h) ((h % H) * B + l)) ∙ low-digit (h % H) l k
+
+  pub cell-high-word : (h l : ℕ) → l < B → h < H + H → (h ≡ H → l ≡ 0 → ⊥) → highAt (cellAt H B l h) ≡ h
+  cell-high-word h l k m z = ⊎-elim under over (lt-or-le h H)
+    where
+      under : h < H → highAt (cellAt H B l h) ≡ h
+      under u =
+          ap highAt (sym (cell-low H B l h u)) ∙ ap (λ (t : Bool). cond t ((h * B + l) / B + H) ((h * B + l) / B)) (le-ltb (h * B + l) 0 zero-le) ∙ high-digit h l k
+
+      some : (d : ℕ) → h ≡ d + H → 0 < d * B + l
+      some zero e = ⊎-elim (λ (q : l ≡ 0). absurd (z (omega arith) q)) (λ (q : 0 < l). omega arith) (eq-zero-or-pos l)
+      some (suc d) e = omega arith
+
+      over : H ≤ h → highAt (cellAt H B l h) ≡ h
+      over o =
+          let d : ℕ = h - H in let y : h ≡ d + H = omega arith in let n : ℕ = d * B + l in
+          ap highAt (sym (cell-high H B l h d (omega arith) (omega arith) o))
+          ∙ ap₂ (λ (t : Bool) (x : ℕ). cond t (x / B + H) (x / B)) (signed-lt true n (some d y)) (natAbs-signed true n) ∙ ap (λ (x : ℕ). x + H) (high-digit d l k) ∙ sym y
+
+  pub cell-minus-zero : 0 < H → highAt (cellAt H B 0 H) ≡ H → ⊥
+  cell-minus-zero h e =
+      let f = sym (ap highAt (cell-high H B 0 H 0 h (omega arith) (omega arith))) in
+      let g : highAt (signed true (0 * B + 0)) ≡ 0 / B = ap (λ (n : ℕ). highAt (signed true n)) (let y : 0 * B + 0 ≡ 0 = omega arith in y) in
+      let q : 0 / B ≡ 0 = zero-div B in let r = sym g ∙ sym f ∙ e in omega arith

@@ -44,6 +44,11 @@ valueOf x = signed (x .neg) (size (x .magnitude))
 abbrev pub Bounded : Wide → Type 0
 Bounded x = Within (bound 128) (valueOf x)
 
+-- half a word is enough
+pub record Short (x : Wide) : Type 0 where
+  pub high : x .magnitude .hi ≡ 0
+  pub low : x .magnitude .lo < 4294967296
+
 -- a cell of a row: the sign is the high word's top bit
 abbrev pub cell : ℕ → ℕ → ℤ
 cell hi lo = signed (leb 9223372036854775808 hi) (two (hi % 9223372036854775808) lo)

@@ -4,10 +4,13 @@ mod signed;
 mod words;
 
 pub use division::gcd;
+pub use signed::SIGN;
 pub use signed::determinant;
 pub use signed::high_of;
+pub use signed::is_narrow;
 pub use signed::is_negative;
 pub use signed::is_small;
+pub use signed::narrow;
 pub use signed::negate;
 pub use signed::quotient;
 pub use signed::unpack;

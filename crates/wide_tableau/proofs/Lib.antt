@@ -1,2 +1,4 @@
 pub mod Sheets
 pub mod Signs
+pub mod Carries
+pub mod Shorter

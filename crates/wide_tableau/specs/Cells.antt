@@ -5,7 +5,8 @@ use Prim.Native.Nat.{ℕ, _<_}
 use lib.ListN.{length, getD}
 use lib.IntN.{ℤ}
 use Rattle.wide.specs.Wide.{cell, highOf, lowOf}
-use Rattle.tableau.specs.Rows.{divisor}
+use Rattle.integers.specs.Size.{bound}
+use Rattle.tableau.specs.Rows.{divisor, Small}
 
 unfoldable pub cells : List ℕ → List ℤ
 cells [] = []
@@ -32,6 +33,11 @@ pub record Combined (r : List ℕ) (l : List ℤ) (g : ℕ) : Type 0 where
   pub is : cells r ≡ l
   pub sheet : Sheet r
   pub divisor-is : g ≡ divisor l
+
+-- the same numbers in words of one, each within the bound of 64 bits
+pub record Narrows (l s : List ℤ) : Type 0 where
+  pub is : s ≡ l
+  pub small : Small (bound 64) l
 
 -- ---- a table
 abbrev pub rowsOf : List (List ℕ) → List (List ℤ)

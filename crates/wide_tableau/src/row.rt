@@ -2,8 +2,9 @@
 use wide::Magnitude;
 use wide::Wide;
 ghost use mathlib.Core.Path.{_≡_};
-ghost use Prim.Native.Nat.{ℕ, _+_, _^_, _<_};
-ghost use lib.ListN.{getD, set};
+ghost use mathlib.Core.Bool.{true};
+ghost use Prim.Native.Nat.{_+_, _^_, _<_};
+ghost use lib.ListN.{length, getD, set};
 ghost use mathlib.Core.List.{map};
 ghost use lib.Signed.{quotZ, _<ℤ_};
 ghost use lib.IntN.{pos, natAbs};
@@ -12,7 +13,7 @@ ghost use Rattle.integers.specs.Gcd.{gcd as gcdOf};
 ghost use Rattle.integers.specs.Size.{bound};
 ghost use Rattle.wide.specs.Wide.{size, valueOf, Bounded};
 ghost use Rattle.tableau.specs.Rows.{divisor, combineRows, reduceRow, replaceRow, turnRow, solveRow, minusRow, den, entry, Small, Line};
-ghost use Rattle.wide_tableau.specs.Cells.{cells, Sheet, Becomes, Combined};
+ghost use Rattle.wide_tableau.specs.Cells.{cells, Sheet, Becomes, Combined, Narrows};
 
 // The number at place i.
 pub fn cell_at(r: &[u64; 36], i: usize) -> Wide
@@ -123,8 +124,8 @@ fn reduce(r: &mut [u64; 36], n: usize)
     reduce_by(r, n, g);
 }
 
-// The row with the variable of column j replaced by a row, given as its denominator m and its other numbers q.
-pub fn replace(r: &mut [u64; 36], n: usize, j: usize, m: Wide, q: &[u64; 36])
+// The row with the variable of column j replaced, of any numbers within the bound.
+fn long_replace(r: &mut [u64; 36], n: usize, j: usize, m: Wide, q: &[u64; 36])
     requires { ⌜ Sheet (now r) × Sheet (now q) × (j < 16) × Line n (cells (now r)) × Line n (cells (now q)) × Small (bound 128) (cells (now r)) × Small (bound 128) (cells (now q)) × (getD (cells (now q)) 0 (pos 0) ≡ pos 0) × Bounded m × (pos 0 <ℤ valueOf m) × (pos 0 <ℤ den (cells (now r))) ⌝ }
     ensures { λ _. ⌜ Becomes (now (r .exit)) (replaceRow (cells (now (r .entry))) j (valueOf m) (cells (now (q .entry)))) ⌝ }
 {
@@ -133,6 +134,77 @@ pub fn replace(r: &mut [u64; 36], n: usize, j: usize, m: Wide, q: &[u64; 36])
     clear(r, j);
     let g = combine(r, n, m, c, q);
     reduce_by(r, n, g);
+}
+
+// A row of 64-bit numbers as one of two-word numbers.
+pub fn carry_row(s: &[i64; 18], out: &mut [u64; 36])
+    requires { ⌜ length (now s) ≡ 18 ⌝ }
+    ensures { λ _. ⌜ Becomes (now (out .exit)) (now (s .entry)) ⌝ }
+{
+    *out = [0u64; 36];
+    let mut i: usize = 0;
+    while i < 18 {
+        let x = s[i];
+        let z = wide::widen(x);
+        set_cell(out, i, z);
+        i += 1;
+    }
+}
+
+// Whether the number test at 64 bits passes each number of a row; if so s has them.
+fn narrowed(r: &[u64; 36], n: usize, s: &mut [i64; 18]) -> bool
+    requires { ⌜ Sheet (now r) × Line n (cells (now r)) ⌝ }
+    ensures { λ b. ⌜ (b ≡ true → Narrows (cells (now (r .entry))) (now (s .exit))) ⌝ }
+{
+    *s = [0i64; 18];
+    let mut i: usize = 0;
+    while i < n {
+        let x = cell_at(r, i);
+        if !wide::is_narrow(x) {
+            return false;
+        }
+        s[i] = wide::narrow(x);
+        i += 1;
+    }
+    true
+}
+
+// So of two rows and a number.
+fn all_narrow(
+    r: &[u64; 36],
+    q: &[u64; 36],
+    m: Wide,
+    n: usize,
+    s: &mut [i64; 18],
+    p: &mut [i64; 18],
+) -> bool
+    requires { ⌜ Sheet (now r) × Sheet (now q) × Line n (cells (now r)) × Line n (cells (now q)) ⌝ }
+    ensures { λ b. ⌜ (b ≡ true → Narrows (cells (now (r .entry))) (now (s .exit)) × Narrows (cells (now (q .entry))) (now (p .exit)) × Within (bound 64) (valueOf m)) ⌝ }
+{
+    if !wide::is_narrow(m) {
+        return false;
+    }
+    if !narrowed(r, n, s) {
+        return false;
+    }
+    narrowed(q, n, p)
+}
+
+// The row with the variable of column j replaced by a row, given as its denominator m and its other numbers q: at 64
+// bits where these are enough.
+pub fn replace(r: &mut [u64; 36], n: usize, j: usize, m: Wide, q: &[u64; 36])
+    requires { ⌜ Sheet (now r) × Sheet (now q) × (j < 16) × Line n (cells (now r)) × Line n (cells (now q)) × Small (bound 128) (cells (now r)) × Small (bound 128) (cells (now q)) × (getD (cells (now q)) 0 (pos 0) ≡ pos 0) × Bounded m × (pos 0 <ℤ valueOf m) × (pos 0 <ℤ den (cells (now r))) ⌝ }
+    ensures { λ _. ⌜ Becomes (now (r .exit)) (replaceRow (cells (now (r .entry))) j (valueOf m) (cells (now (q .entry)))) ⌝ }
+{
+    let mut s = [0i64; 18];
+    let mut p = [0i64; 18];
+    if all_narrow(r, q, m, n, &mut s, &mut p) {
+        let d = wide::narrow(m);
+        tableau::replace(&mut s, n, j, d, &p);
+        carry_row(&s, r);
+        return;
+    }
+    long_replace(r, n, j, m, q);
 }
 
 // The row without an entry in column j.

@@ -8,12 +8,12 @@ use lib.ListN.{length, length-set}
 use Rattle.tableau.proofs.Lines as L
 use Rattle.wide_tableau.specs.Cells.{rowsOf}
 use Rattle.wide_tableau.proofs.Sheets.{rows-set, rows-length}
-use Rattle.carrying.proofs.Carries.{fromList, fromList-is, upTo-from, Done, done-none, done-next}
+use Rattle.wide_tableau.proofs.Carries.{fromList, fromList-is, upTo-from}
+use Rattle.carrying.proofs.Carries.{Done, done-none, done-next}
 use Rattle.carrying.proofs.carry.carry.Statement.{statement}
 use Rattle.carrying.proofs.carry.carry.Tie as tie
 use Rattle.carrying.proofs.carry.carry.Reads as reads
 use Rattle.carrying.proofs.carry.carry.Lts as lts
-use Rattle.carrying.proofs.carry.carry_row.Reads as carry-row-reads
 
 abbrev Inv-loop : tie.InvT-loop
 Inv-loop rows out₀ k₀ out k = (k ≤ length rows) × (length out ≡ length out₀) × Done k out × (rowsOf out ≡ L.upTo (fromList [] rows) k (rowsOf out₀))

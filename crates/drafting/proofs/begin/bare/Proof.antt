@@ -4,7 +4,7 @@ use lib.Dec.{lit<}
 use mir.Facts.{toZ-ofZ}
 use Rattle.wide.specs.Wide.{valueOf}
 use Rattle.simplex.proofs.Fills.{word-fits}
-use Rattle.carrying.proofs.Carries.{blank}
+use Rattle.wide_tableau.proofs.Carries.{blank}
 use Rattle.drafting.proofs.Making.{bare-is}
 use Rattle.drafting.proofs.begin.bare.Statement.{statement}
 use Rattle.drafting.proofs.begin.bare.Tie as tie

@@ -9,7 +9,7 @@ use mir.Syntax.{w16, w32}
 use mir.Val.{toZ, ofZ}
 use Rattle.integers.specs.Mach.{toZ-ofZ}
 use Rattle.model.proofs.Lists.{upTo, upTo-none, upTo-more}
-use Rattle.carrying.proofs.Carries.{fromList, fromList-is, upTo-from}
+use Rattle.wide_tableau.proofs.Carries.{fromList, fromList-is, upTo-from}
 use Rattle.extremes.proofs.Coefficients.{coefficient-fits}
 use Rattle.extremes.proofs.numbers.narrowed.Statement.{statement}
 use Rattle.extremes.proofs.numbers.narrowed.Tie as tie

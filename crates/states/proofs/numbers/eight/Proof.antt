@@ -1,6 +1,6 @@
 -- `states::numbers::eight` meets its contract. Assumes nothing.
 use Prim.Native.Nat.{_-_, _≤_}
-use Rattle.carrying.proofs.Carries.{fromList, fromList-is, upTo-from}
+use Rattle.wide_tableau.proofs.Carries.{fromList, fromList-is, upTo-from}
 use Rattle.integers.specs.Mach.{toZ-ofZ}
 use Rattle.model.proofs.Lists.{upTo, upTo-none, upTo-more}
 use lib.IntN.{pos}

@@ -1,4 +1,4 @@
--- `carrying::carry::carry_row` meets its contract. Assumes nothing.
+-- `wide_tableau::row::carry_row` meets its contract. Assumes nothing.
 use mathlib.Core.Path.{_≡_, sym, _∙_}
 use Prim.Native.Nat.{_-_, _≤_, _<_}
 use native.Mathlib.Omega.{arith}
@@ -6,18 +6,18 @@ use borrow.Author.Needs.{needs}
 use lib.ListN.{length, getD}
 use lib.IntN.{pos}
 use Rattle.tableau.proofs.Lines as L
 use Rattle.wide_tableau.specs.Cells.{cells, Sheet}
 use Rattle.wide_tableau.proofs.Sheets.{sheet-long}
 use lib.ListN.{replicate}
 use mir.Syntax.{w64}
 use mir.Facts.{toZ-ofZ}
-use Rattle.carrying.proofs.Carries.{fromList, fromList-is, upTo-from, blank}
-use Rattle.carrying.proofs.carry.carry_row.Statement.{statement}
-use Rattle.carrying.proofs.carry.carry_row.Tie as tie
-use Rattle.carrying.proofs.carry.carry_row.Reads as reads
-use Rattle.carrying.proofs.carry.carry_row.Lts as lts
+use Rattle.wide_tableau.proofs.Carries.{fromList, fromList-is, upTo-from, blank}
+use Rattle.wide_tableau.proofs.row.carry_row.Statement.{statement}
+use Rattle.wide_tableau.proofs.row.carry_row.Tie as tie
+use Rattle.wide_tableau.proofs.row.carry_row.Reads as reads
+use Rattle.wide_tableau.proofs.row.carry_row.Lts as lts
 use Rattle.wide.proofs.widen.Reads as widen-reads
 use Rattle.wide_tableau.proofs.row.set_cell.Reads as set-cell-reads
 
 abbrev Inv-loop : tie.InvT-loop
 Inv-loop s out₀ i₀ out i = (i ≤ 18) × Sheet out × (cells out ≡ L.upTo (fromList (pos 0) s) i (cells out₀))
