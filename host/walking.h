@@ -40,6 +40,9 @@ typedef struct {
     uint64_t behind[EDGE];
 } lent_state;
 
+/* where a state's head has the number of its rows */
+enum { ROWS_IN_USE = 3 };
+
 /* the state, without its marks */
 typedef struct {
     uint64_t rows[64][36];
@@ -181,10 +184,12 @@ static void keep_slot(state_slot *to, const pitsets_state *y)
     memcpy(to->kinds, y->kinds, sizeof to->kinds);
 }
 
+/* rows behind those in use are no numbers of the state */
 static bool same_slot(const state_slot *kept, const pitsets_state *y)
 {
-    return !memcmp(kept->rows, y->rows, sizeof kept->rows) && !memcmp(kept->place, y->place, sizeof kept->place) &&
-           !memcmp(kept->heads, y->heads, sizeof kept->heads) && !memcmp(kept->kinds, y->kinds, sizeof kept->kinds);
+    size_t used = kept->heads[ROWS_IN_USE] * sizeof *kept->rows;
+    return !memcmp(kept->heads, y->heads, sizeof kept->heads) && !memcmp(kept->rows, y->rows, used) &&
+           !memcmp(kept->place, y->place, sizeof kept->place) && !memcmp(kept->kinds, y->kinds, sizeof kept->kinds);
 }
 
 /* trails end where the state goes elsewhere */

@@ -3,7 +3,7 @@
 use mathlib.Core.Path.{_≡_}
 use mathlib.Core.Bool.{Bool, _&&_, cond}
 use mathlib.Core.List.{List, [], _∷_, _++_, map}
-use Prim.Native.Nat.{ℕ, _+_, _-_, _*_, _≤_, _<_}
+use Prim.Native.Nat.{ℕ, _+_, _-_, _*_, _≤_, _<_, min}
 use lib.Dec.{ltb, eqb}
 use lib.ListN.{length, getD, set, take, drop}
 use lib.Seq.{paste}
@@ -39,14 +39,19 @@ pub record Apart (n from to long : ℕ) : Type 0 where
   pub target : to + n ≤ long
   pub apart : to < from + n → to ≤ from
 
-abbrev pub slotCopied : ℕ → ℕ → Memory → Memory
-slotCopied from to y =
-    memory (copied 64 (64 * from) (64 * to) (y .rows)) (copied 80 (80 * from) (80 * to) (y .place)) (copied 80 (80 * from) (80 * to) (y .kinds))
-    (copied 5 (5 * from) (5 * to) (y .heads))
-
 -- a slot's head: axes, divisions, rules (also those that only count), rows in the table, the word
 abbrev pub headAt : ℕ → ℕ → Memory → ℕ
 headAt slot i y = getD (y .heads) (5 * slot + i) 0
+
+-- the rows of its table, no more than a slot has
+abbrev pub usedIn : ℕ → Memory → ℕ
+usedIn slot y = min 64 (headAt slot 3 y)
+
+-- of the rows those of the table: the others are no numbers of the state
+abbrev pub slotCopied : ℕ → ℕ → Memory → Memory
+slotCopied from to y =
+    memory (copied (usedIn from y) (64 * from) (64 * to) (y .rows)) (copied 80 (80 * from) (80 * to) (y .place)) (copied 80 (80 * from) (80 * to) (y .kinds))
+    (copied 5 (5 * from) (5 * to) (y .heads))
 
 -- ---- ranks: 0 for a name that is not marked, else its place in time among the marks, from 1 for the oldest
 

@@ -14,16 +14,14 @@ ghost use Rattle.memory.specs.Memory.{memory, Fits};
 ghost use Rattle.memory.specs.Sound.{plainCell, plainWords, soundRow, soundPlace, isWord, soundHead, sound as soundOf};
 use model::limit;
 
-// Two words that are those of their number: 0 has one form.
+// Two words that are those of their number: 0 has one form, without a sign.
 fn is_plain(h: u64, l: u64) -> bool
     ensures { λ b. ⌜ b ≡ plainCell h l ⌝ }
 {
-    let x = wide::unpack(h, l);
-    let m = x.magnitude;
-    if wide::high_of(x) != h {
-        return false;
+    if h != wide::SIGN {
+        return true;
     }
-    m.lo == l
+    l != 0
 }
 
 fn all_plain(r: &[u64; 36]) -> bool
@@ -94,7 +92,7 @@ fn rows_sound(t: &[[u64; 36]], n: usize) -> bool
     while i < t.len() {
         let r = t[i];
         has_length(r);
-        if !row_sound(&r, n) {
+        if !row_sound(&t[i], n) {
             return false;
         }
         i += 1;

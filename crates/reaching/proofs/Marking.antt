@@ -23,9 +23,9 @@ use Rattle.memory.specs.Sound.{isWord}
 use Rattle.states.specs.declared.Said.the-variants.{Refused}
 use Rattle.states.specs.Calls.{Step, stepped, saidOf, ranked, markedIn, markStep, backIn, backStep}
 use Rattle.states.proofs.Stepping.{mark-over, mark-done, back-over, back-never, back-done}
-use Rattle.reaching.specs.Shows.{slotOf, wordFor, rankIn, ShowsState, Shows}
+use Rattle.reaching.specs.Shows.{slotOf, usedOf, wordFor, rankIn, ShowsState, Shows}
 use Rattle.reaching.specs.Walks.{sayingOf, told}
-use Rattle.reaching.proofs.Windows.{slot-copied, slot-other, copied-ranks, copied-fits, slot-ranked, ranks-put, ranks-long}
+use Rattle.reaching.proofs.Windows.{slot-copied, slot-other, copied-ranks, copied-fits, shows-used, slot-ranked, ranks-put, ranks-long}
 use Rattle.reaching.proofs.Ranks.{ranks, rank-none, none-rank, ranks-marked, ranks-through}
 use Rattle.reaching.proofs.Good.{Good, head-at, word-is}
 
@@ -100,8 +100,8 @@ module _ (y : Memory) (f : Fits y) (from to : ℕ) (source : from ≤ 16) (targe
         heads = ranks-long g (slotCopied from to y .heads) (omega arith) (same _) ∙ h;
       }
 
-  moved-here : slotOf to z ≡ slotOf from y
-  moved-here = slot-ranked g (slotCopied from to y) (copied-fits y f from to source target) to target ∙ slot-copied y f from to source target
+  moved-here : usedOf (slotOf to z) ≡ usedOf (slotOf from y)
+  moved-here = ap usedOf (slot-ranked g (slotCopied from to y) (copied-fits y f from to source target) to target) ∙ slot-copied y f from to source target
 
   moved-other : (j : ℕ) → j ≤ 16 → (j ≡ to → ⊥) → slotOf j z ≡ slotOf j y
   moved-other j l n = slot-ranked g (slotCopied from to y) (copied-fits y f from to source target) j l ∙ slot-other y f from to source target j l n
@@ -149,7 +149,7 @@ module _ (d : Desk State) (g : Kept d) (y : Memory) (h : Shows d y) (k : ℕ) wh
           let i = eqb-true k j q in
           let v = value (sym (mark-moves k d .0) ∙ ap (λ i. named i (marked k d .marks)) i ∙ e) in
           subst (λ n. ShowsState s (slotOf n (markedIn k y))) (add-one k ∙ ap suc i)
-          (subst (ShowsState s) (sym (moved-here y f 0 (k + 1) (omega arith) (omega arith) (newest k) (newest-long k))) (subst (λ s. ShowsState s (slotOf 0 y)) v (h .now)))
+          (shows-used s (slotOf 0 y) (slotOf (k + 1) (markedIn k y)) (moved-here y f 0 (k + 1) (omega arith) (omega arith) (newest k) (newest-long k)) (subst (λ s. ShowsState s (slotOf 0 y)) v (h .now)))
       at j s e false q =
           let n = eqb-false k j q in
           let b = name-below 16 j s (marked k d .marks) (names-marked 16 k d (omega arith) (g .names)) e in
@@ -169,12 +169,12 @@ module _ (d : Desk State) (g : Kept d) (y : Memory) (h : Shows d y) (k : ℕ) wh
           subst (Meets (λ j. k ≡ j) (gives (marked k d)) d y) (mark-done k y l (fits-fitting y (h .fits)) (ap isWord w ∙ from-T _ (word-is (d .now .says))) refl refl)
           (record { said = ap saidOf w ∙ said-is (d .now .says); kept = marked-kept l; shows = marked-shows l; slots = marked-slots l })
 
-  -- its own slot gets every word of the state's
-  pub mark-slot : k ≤ 15 → slotOf (suc k) (markStep k y .memory) ≡ slotOf 0 y
+  -- its own slot gets every word of the state's that is in use
+  pub mark-slot : k ≤ 15 → usedOf (slotOf (suc k) (markStep k y .memory)) ≡ usedOf (slotOf 0 y)
   mark-slot l =
       let w = head-at (d .now) 0 y (h .now) 4 (omega arith) in
-      ap (λ (x : Step). slotOf (suc k) (x .memory)) (sym (mark-done k y l (fits-fitting y (h .fits)) (ap isWord w ∙ from-T _ (word-is (d .now .says))) refl refl))
-      ∙ ap (λ i. slotOf i (markedIn k y)) (sym (add-one k))
+      ap (λ (x : Step). usedOf (slotOf (suc k) (x .memory))) (sym (mark-done k y l (fits-fitting y (h .fits)) (ap isWord w ∙ from-T _ (word-is (d .now .says))) refl refl))
+      ∙ ap (λ i. usedOf (slotOf i (markedIn k y))) (sym (add-one k))
       ∙ moved-here y (h .fits) 0 (k + 1) (omega arith) (omega arith) (newest k) (newest-long k)
 
   -- ---- back
@@ -205,7 +205,7 @@ module _ (d : Desk State) (g : Kept d) (y : Memory) (h : Shows d y) (k : ℕ) wh
     gone-shows =
         record {
           fits = moved-fits y (h .fits) (k + 1) 0 (omega arith) (omega arith) (map (forgotten rank)) forgets-long;
-          now = subst (ShowsState s) (sym (moved-here y (h .fits) (k + 1) 0 (omega arith) (omega arith) (map (forgotten rank)) forgets-long)) slot-there;
+          now = shows-used s (slotOf (k + 1) y) (slotOf 0 (backIn k rank y)) (moved-here y (h .fits) (k + 1) 0 (omega arith) (omega arith) (map (forgotten rank)) forgets-long) slot-there;
           marks = λ j u q. let b = name-below 16 j u (through k (d .marks)) (names-through 16 k (d .marks) (g .names)) q in
               subst (ShowsState u) (sym (moved-other y (h .fits) (k + 1) 0 (omega arith) (omega arith) (map (forgotten rank)) forgets-long (suc j) (omega arith) (λ e. omega arith))) (h .marks j u (named-through j k u (d .marks) q));
           ranks = moved-ranks y (h .fits) (k + 1) 0 (omega arith) (omega arith) (map (forgotten rank)) forgets-long ∙ ap (map (forgotten rank)) (h .ranks) ∙ ranks-through k (d .marks) ranked-there;
@@ -217,13 +217,13 @@ module _ (d : Desk State) (g : Kept d) (y : Memory) (h : Shows d y) (k : ℕ) wh
         subst (Meets (λ j. ⊥) (gives gone) d y) (back-done k y l (fits-fitting y (h .fits)) rank (rank-there l) ranked-there (ap isWord w ∙ from-T _ (word-is (s .says))) refl refl)
         (record { said = ap saidOf w ∙ said-is (s .says); kept = gone-kept; shows = gone-shows; slots = λ j b n. moved-other y (h .fits) (k + 1) 0 (omega arith) (omega arith) (map (forgotten rank)) forgets-long (suc j) (omega arith) (λ e. omega arith) })
 
-    -- "restores every number of the state": every word of the slot
-    pub back-slot : slotOf 0 (backStep k y .memory) ≡ slotOf (suc k) y
+    -- "restores every number of the state": every word of the slot that is in use
+    pub back-slot : usedOf (slotOf 0 (backStep k y .memory)) ≡ usedOf (slotOf (suc k) y)
     back-slot =
         let w = head-at s (k + 1) y slot-there 4 (omega arith) in
-        ap (λ (x : Step). slotOf 0 (x .memory)) (sym (back-done k y l (fits-fitting y (h .fits)) rank (rank-there l) ranked-there (ap isWord w ∙ from-T _ (word-is (s .says))) refl refl))
+        ap (λ (x : Step). usedOf (slotOf 0 (x .memory))) (sym (back-done k y l (fits-fitting y (h .fits)) rank (rank-there l) ranked-there (ap isWord w ∙ from-T _ (word-is (s .says))) refl refl))
         ∙ moved-here y (h .fits) (k + 1) 0 (omega arith) (omega arith) (map (forgotten rank)) forgets-long
-        ∙ ap (λ i. slotOf i y) (add-one k)
+        ∙ ap (λ i. usedOf (slotOf i y)) (add-one k)
 
   pub back-meets : Meets (λ j. ⊥) (callAnswer (back k) d) d y (backStep k y)
   back-meets = at (leb k 15) refl

@@ -32,7 +32,7 @@ use Rattle.states.specs.declared.Rule.{Rule}
 use Rattle.states.specs.Numbers.{ruleOf}
 use Rattle.states.specs.Calls.{Step, stepped}
 use Rattle.states.proofs.Left as L
-use Rattle.reaching.specs.Shows.{slotOf, Shows}
+use Rattle.reaching.specs.Shows.{slotOf, usedOf, Shows}
 use Rattle.reaching.specs.Walks.{Call, start, add, mark, back, divisionsOf, meant, Formed, AllFormed, Writes, NoneWrites, stepOf, saids, memoryAfter, sayingOf, told}
 use Rattle.reaching.proofs.Marking.{named-through, Kept, Meets, mark-meets, mark-slot, back-meets, back-slot}
 use Rattle.reaching.proofs.Adding.{add-meets}
@@ -102,9 +102,9 @@ rules-meant : (rs : List Rule) → map meant (map add rs) ≡ map D.add (map rul
 rules-meant [] = refl
 rules-meant (r ∷ rs) = ap (λ (l : List D.Call). D.add (ruleOf r) ∷ l) (rules-meant rs)
 
--- memory z has the state of y
+-- memory z has the state of y: every word of it that is in use
 pub record SameState (z y : Memory) : Type 0 where
-  pub words : slotOf 0 z ≡ slotOf 0 y
+  pub words : usedOf (slotOf 0 z) ≡ usedOf (slotOf 0 y)
   pub rules : (rs : List Rule) → AllFormed (map add rs) → saids (map add rs) z ≡ saids (map add rs) y
 
 module _ (k : ℕ) (low : k ≤ 15) (cs : List Call) (formed : AllFormed cs) (none-marks : NoneWrites k cs) (d : Desk State) (g : Kept d) (y : Memory) (h : Shows d y) where
@@ -156,7 +156,7 @@ module _ (k : ℕ) (low : k ≤ 15) (cs : List Call) (formed : AllFormed cs) (no
 
       at : (o : Option State) → named k (e .marks) ≡ o → (stepOf (back k) later .said ≡ Refused 18) ⊎ SameState (stepOf (back k) later .memory) y
       at none q = inl (b .said ∙ ap (λ (a : Answer (Desk State)). told (wordOf (shown a))) (unknown-18 begins adds k e q))
-      at (some s) q = inr (record { words = back-slot e (w .kept) later (w .shows) k low s q ∙ w .slots k low none-marks ∙ mark-slot d g y h k low; rules = answered s q })
+      at (some s) q = inr (record { words = back-slot e (w .kept) later (w .shows) k low s q ∙ ap usedOf (w .slots k low none-marks) ∙ mark-slot d g y h k low; rules = answered s q })
 
 -- calls that keep a mark do not mark that name anew
 none-writes : (k : ℕ) (cs : List Call) (d : Desk State) → KeepsAll begins adds k (map meant cs) d → NoneWrites k cs

@@ -2,14 +2,16 @@
 use mathlib.Core.Path.{_≡_, refl, sym, ap, _∙_}
 use mathlib.Core.List.{List, [], _++_}
 use mathlib.Core.Logic.{_⊎_, inl, inr, ⊎-elim}
-use Prim.Native.Nat.{ℕ, _+_, _-_, _*_, _≤_, _<_}
+use Prim.Native.Nat.{ℕ, _+_, _-_, _*_, _≤_, _<_, min}
 use native.Mathlib.Omega.{arith}
-use lib.ListN.{length, getD, take, drop, length-drop, length-append, List·getD-append}
-use lib.Seq.{length-paste, length-paste-head, length-take-le, getD-take, getD-drop, getD-append-add, ext-getD}
+use lib.ListN.{length, getD, take, drop, length-take, length-drop, length-append, List·getD-append}
+use lib.Seq.{take-all, take-take, length-paste, length-paste-head, length-take-le, getD-take, getD-drop, getD-append-add, ext-getD}
 use Rattle.integers.specs.Part.{lt-or-le}
-use Rattle.memory.specs.Memory.{Memory, Fits, copied, slotCopied, withRanks, ranksOf}
+use Rattle.memory.specs.Memory.{Memory, Fits, copied, usedIn, slotCopied, withRanks, ranksOf}
+use Rattle.feasibility.specs.Tableau.{noRow}
+use Rattle.planning.specs.State.{State}
 use Rattle.states.specs.Calls.{ranked}
-use Rattle.reaching.specs.Shows.{Slot, window, slotOf}
+use Rattle.reaching.specs.Shows.{Slot, window, slotOf, usedOf, ShowsState}
 
 module _ {A : Type 0} (d : A) where
   pub window-at : (n a : ℕ) (l : List A) (i : ℕ) → i < n → getD (window n a l) i d ≡ getD l (a + i) d
@@ -97,38 +99,63 @@ pub slot-is : {a a′ : List (List ℕ)} {b b′ c c′ e e′ : List ℕ} → a
     → _≡_ {A = Slot} (record { rows = a; place = b; kinds = c; head = e }) (record { rows = a′; place = b′; kinds = c′; head = e′ })
 slot-is p q r s = cc
 
+-- as many of 64 as there are
+take-few : {A : Type 0} (m : ℕ) (l : List A) → take m (take 64 l) ≡ take (min 64 m) l
+take-few m l = ⊎-elim under over (lt-or-le m 64)
+  where
+    under : m < 64 → take m (take 64 l) ≡ take (min 64 m) l
+    under h = let e : m ≡ min 64 m = omega arith in take-take m 64 l (omega arith) ∙ ap (λ (j : ℕ). take j l) e
+
+    over : 64 ≤ m → take m (take 64 l) ≡ take (min 64 m) l
+    over h = let e : 64 ≡ min 64 m = omega arith in take-all m (take 64 l) (omega (arith, length-take 64 l)) ∙ ap (λ (j : ℕ). take j l) e
+
 apart : (j to : ℕ) → (j ≡ to → ⊥) → ((j < to) ⊎ (to < j))
 apart j to h = ⊎-elim inl (λ k. inr (omega arith)) (lt-or-le j to)
 
 module _ (y : Memory) (f : Fits y) (from to : ℕ) (source : from ≤ 16) (target : to ≤ 16) where
-  pub slot-copied : slotOf to (slotCopied from to y) ≡ slotOf from y
+  few-rows : usedIn from y ≤ 64
+  few-rows = omega arith
+
+  head-there : window 5 (5 * to) (slotCopied from to y .heads) ≡ window 5 (5 * from) (y .heads)
+  head-there = let e = f .heads in copied-here 0 5 (5 * from) (5 * to) (y .heads) (omega arith) (omega arith)
+
+  -- the words in use
+  pub slot-copied : usedOf (slotOf to (slotCopied from to y)) ≡ usedOf (slotOf from y)
   slot-copied =
       let a = f .rows in
       let b = f .place in
       let c = f .kinds in
-      let e = f .heads in
-      slot-is (copied-here [] 64 (64 * from) (64 * to) (y .rows) (omega arith) (omega arith)) (copied-here 0 80 (80 * from) (80 * to) (y .place) (omega arith) (omega arith))
-      (copied-here 0 80 (80 * from) (80 * to) (y .kinds) (omega arith) (omega arith)) (copied-here 0 5 (5 * from) (5 * to) (y .heads) (omega arith) (omega arith))
+      let n = few-rows in
+      let m : ℕ = getD (window 5 (5 * from) (y .heads)) 3 0 in
+      let e : min 64 m ≡ usedIn from y = ap (min 64) (window-at 0 5 (5 * from) (y .heads) 3 (omega arith)) in
+      slot-is
+      (ap (λ (h : List ℕ). take (getD h 3 0) (window 64 (64 * to) (slotCopied from to y .rows))) head-there
+      ∙ take-few m (drop (64 * to) (slotCopied from to y .rows)) ∙ ap (λ (j : ℕ). window j (64 * to) (slotCopied from to y .rows)) e
+      ∙ copied-here [] (usedIn from y) (64 * from) (64 * to) (y .rows) (omega arith) (omega arith)
+      ∙ ap (λ (j : ℕ). window j (64 * from) (y .rows)) (sym e) ∙ sym (take-few m (drop (64 * from) (y .rows))))
+      (copied-here 0 80 (80 * from) (80 * to) (y .place) (omega arith) (omega arith)) (copied-here 0 80 (80 * from) (80 * to) (y .kinds) (omega arith) (omega arith)) head-there
 
   pub slot-other : (j : ℕ) → j ≤ 16 → (j ≡ to → ⊥) → slotOf j (slotCopied from to y) ≡ slotOf j y
   slot-other j few n = ⊎-elim under over (apart j to n)
     where
       under : j < to → slotOf j (slotCopied from to y) ≡ slotOf j y
       under l =
+          let m = few-rows in
           let a = f .rows in
           let b = f .place in
           let c = f .kinds in
           let e = f .heads in
-          slot-is (copied-apart [] 64 (64 * from) (64 * to) (y .rows) (omega arith) (omega arith) 64 (64 * j) (inl (omega arith)) (omega arith)) (copied-apart 0 80 (80 * from) (80 * to) (y .place) (omega arith) (omega arith) 80 (80 * j) (inl (omega arith)) (omega arith))
+          slot-is (copied-apart [] (usedIn from y) (64 * from) (64 * to) (y .rows) (omega arith) (omega arith) 64 (64 * j) (inl (omega arith)) (omega arith)) (copied-apart 0 80 (80 * from) (80 * to) (y .place) (omega arith) (omega arith) 80 (80 * j) (inl (omega arith)) (omega arith))
           (copied-apart 0 80 (80 * from) (80 * to) (y .kinds) (omega arith) (omega arith) 80 (80 * j) (inl (omega arith)) (omega arith)) (copied-apart 0 5 (5 * from) (5 * to) (y .heads) (omega arith) (omega arith) 5 (5 * j) (inl (omega arith)) (omega arith))
 
       over : to < j → slotOf j (slotCopied from to y) ≡ slotOf j y
       over l =
+          let m = few-rows in
           let a = f .rows in
           let b = f .place in
           let c = f .kinds in
           let e = f .heads in
-          slot-is (copied-apart [] 64 (64 * from) (64 * to) (y .rows) (omega arith) (omega arith) 64 (64 * j) (inr (omega arith)) (omega arith)) (copied-apart 0 80 (80 * from) (80 * to) (y .place) (omega arith) (omega arith) 80 (80 * j) (inr (omega arith)) (omega arith))
+          slot-is (copied-apart [] (usedIn from y) (64 * from) (64 * to) (y .rows) (omega arith) (omega arith) 64 (64 * j) (inr (omega arith)) (omega arith)) (copied-apart 0 80 (80 * from) (80 * to) (y .place) (omega arith) (omega arith) 80 (80 * j) (inr (omega arith)) (omega arith))
           (copied-apart 0 80 (80 * from) (80 * to) (y .kinds) (omega arith) (omega arith) 80 (80 * j) (inr (omega arith)) (omega arith)) (copied-apart 0 5 (5 * from) (5 * to) (y .heads) (omega arith) (omega arith) 5 (5 * j) (inr (omega arith)) (omega arith))
 
   pub copied-ranks : ranksOf (slotCopied from to y) ≡ ranksOf y
@@ -142,16 +169,33 @@ module _ (y : Memory) (f : Fits y) (from to : ℕ) (source : from ≤ 16) (targe
 
   pub copied-fits : Fits (slotCopied from to y)
   copied-fits =
+      let m = few-rows in
       let a = f .rows in
       let b = f .place in
       let c = f .kinds in
       let e = f .heads in
       record {
-        rows = copied-long [] 64 (64 * from) (64 * to) (y .rows) (omega arith) (omega arith) ∙ a;
+        rows = copied-long [] (usedIn from y) (64 * from) (64 * to) (y .rows) (omega arith) (omega arith) ∙ a;
         place = copied-long 0 80 (80 * from) (80 * to) (y .place) (omega arith) (omega arith) ∙ b;
         kinds = copied-long 0 80 (80 * from) (80 * to) (y .kinds) (omega arith) (omega arith) ∙ c;
         heads = copied-long 0 5 (5 * from) (5 * to) (y .heads) (omega arith) (omega arith) ∙ e;
       }
+
+-- a state is shown by the words in use
+pub shows-used : (s : State) (x z : Slot) → usedOf z ≡ usedOf x → ShowsState s x → ShowsState s z
+shows-used s x z e h =
+    let there : z .head ≡ x .head = ap (λ (u : Slot). u .head) e in
+    let places : z .place ≡ x .place = ap (λ (u : Slot). u .place) e in
+    let m : ℕ = length (s .tableau .rows) in
+    let mx : getD (x .head) 3 0 ≡ m = ap (λ (l : List ℕ). getD l 3 0) (h .head) in
+    let mz : getD (z .head) 3 0 ≡ m = ap (λ (l : List ℕ). getD l 3 0) there ∙ mx in
+    record {
+      head = there ∙ h .head;
+      rows = ap (λ (j : ℕ). take j (z .rows)) (sym mz) ∙ ap (λ (u : Slot). u .rows) e ∙ ap (λ (j : ℕ). take j (x .rows)) mx ∙ h .rows;
+      row-places = λ i l. ap (λ (p : List ℕ). getD p (getD (s .tableau .rows) i noRow .var) 0) places ∙ h .row-places i l;
+      column-places = λ j l. ap (λ (p : List ℕ). getD p (getD (s .tableau .cols) j 0) 0) places ∙ h .column-places j l;
+      kinds = ap (λ (u : Slot). take (length (s .kinds)) (u .kinds)) e ∙ h .kinds;
+    }
 
 -- a slot does not look at the ranks
 pub slot-ranked : (f : List ℕ → List ℕ) (y : Memory) → Fits y → (i : ℕ) → i ≤ 16 → slotOf i (ranked f y) ≡ slotOf i y

@@ -29,6 +29,10 @@ abbrev pub slotOf : ℕ → Memory → Slot
 slotOf i y =
     record { rows = window 64 (64 * i) (y .rows); place = window 80 (80 * i) (y .place); kinds = window 80 (80 * i) (y .kinds); head = window 5 (5 * i) (y .heads) }
 
+-- its words in use: of the rows as many as its head says
+abbrev pub usedOf : Slot → Slot
+usedOf x = record { rows = take (getD (x .head) 3 0) (x .rows); place = x .place; kinds = x .kinds; head = x .head }
+
 -- ---- a state
 
 abbrev pub wordFor : Verdict → ℕ

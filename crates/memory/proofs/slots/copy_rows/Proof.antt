@@ -12,13 +12,13 @@ use Rattle.memory.proofs.slots.copy_rows.Statement.{statement}
 use Rattle.memory.proofs.slots.copy_rows.Tie as tie
 
 abbrev Inv-loop : tie.InvT-loop
-Inv-loop rows₀ from to i₀ rows i = (i ≤ 64) × (rows ≡ copied i from to rows₀)
+Inv-loop rows₀ from to n i₀ rows i = (i ≤ n) × (rows ≡ copied i from to rows₀)
 
 abbrev μ-loop : tie.MeasureT-loop
-μ-loop rows₀ from to i₀ rows i = 64 - i
+μ-loop rows₀ from to n i₀ rows i = n - i
 
 long : (c : tie.At-loop Inv-loop μ-loop) → length (c .loop .rows) ≡ length (c .before .args .rows .now)
-long c = let s = c .before in ap length (c .loop .inv .1) ∙ copied-long [] 64 (s .args .from) (s .args .to) (s .args .rows .now) (s .pre) (c .loop .i) (c .loop .inv .0)
+long c = let s = c .before in ap length (c .loop .inv .1) ∙ copied-long [] (s .args .n) (s .args .from) (s .args .to) (s .args .rows .now) (s .pre) (c .loop .i) (c .loop .inv .0)
 
 loop-holds : tie.Need-loop-holds Inv-loop μ-loop
 loop-holds c = (omega arith, paste-zero (c .args .rows .now) (c .args .to) (drop (c .args .from) (c .args .rows .now)))
@@ -50,13 +50,13 @@ loop-less c = search needs
 loop-again : tie.Need-loop-again Inv-loop μ-loop
 loop-again c =
     let m = c .before .before in let s = m .before in let t = c .before .loop-test .taken in
-    (omega arith, copied-next [] 64 (s .args .from) (s .args .to) (s .args .rows .now) (s .pre) (m .loop .i) (m .loop .rows) t (m .loop .inv .1))
+    (omega arith, copied-next [] (s .args .n) (s .args .from) (s .args .to) (s .args .rows .now) (s .pre) (m .loop .i) (m .loop .rows) t (m .loop .inv .1))
 
 same-length : tie.Need-same-length Inv-loop μ-loop
 same-length c = long (c .before)
 
 returns : tie.Need-returns Inv-loop μ-loop
-returns c = let l = c .before .loop in let s = c .before .before in copied-end (l .i) 64 (s .args .from) (s .args .to) (s .args .rows .now) (l .rows) (l .inv .0) (c .loop-test .left) (l .inv .1)
+returns c = let l = c .before .loop in let s = c .before .before in copied-end (l .i) (s .args .n) (s .args .from) (s .args .to) (s .args .rows .now) (l .rows) (l .inv .0) (c .loop-test .left) (l .inv .1)
 
 pub copy-rows-spec : {M : Type 1} → statement M
 copy-rows-spec =

@@ -30,6 +30,12 @@ shared-slice-copy-out-r c = search needs
 has-length-requires : tie.Need-has-length-requires Inv-loop μ-loop
 has-length-requires c κs = search needs
 
+mul-row-sound : tie.Need-mul-row-sound Inv-loop μ-loop
+mul-row-sound c = search needs
+
+shared-slice-element-row-sound : tie.Need-shared-slice-element-row-sound Inv-loop μ-loop
+shared-slice-element-row-sound c = search needs
+
 row-sound-requires : tie.Need-row-sound-requires Inv-loop μ-loop
 row-sound-requires c κs = c .before .has-length .ensures
 
@@ -62,6 +68,8 @@ rows-sound-spec =
     mul-r
     shared-slice-copy-out-r
     has-length-requires
+    mul-row-sound
+    shared-slice-element-row-sound
     row-sound-requires
     returns
     add-i
