@@ -2,7 +2,7 @@
 use mathlib.Core.Path.{_≡_, refl, sym, ap, ap₂, _∙_, subst}
 use mathlib.Core.Bool.{Bool, true, false, _&&_}
 use mathlib.Core.List.{List, [], _∷_, _++_, map, append-assoc, append-nil}
-use Prim.Native.Nat.{ℕ, _+_, _-_, _*_, _≤_, _<_}
+use Prim.Native.Nat.{ℕ, _+_, _-_, _≤_, _<_}
 use native.Mathlib.Numerals.{add-one}
 use native.Mathlib.Omega.{arith}
 use lib.Dec.{ltb→lt}
@@ -233,9 +233,6 @@ module _ (s : List ℕ) (start : ℕ) (ok : Constraint → Bool) (at i : ℕ) (g
 
     step : all ok (built (drop start s) .constraints) ≡ (ok c && all ok (built (drop (nextOf s at) s) .constraints))
     step = sym (g .is) ∙ ap (λ (u : Built). all ok (u .constraints)) (opening-at e .builds)
-
-    pub opening-stop : ok c ≡ false → false ≡ all ok (built (drop start s) .constraints)
-    opening-stop q = ap (λ (b : Bool). b && all ok (built (drop (nextOf s at) s) .constraints)) (sym q) ∙ sym step
 
     -- any test that it fails
     pub opening-falls : (p : Constraint → Bool) → p c ≡ false → all p (built (drop start s) .constraints) ≡ false

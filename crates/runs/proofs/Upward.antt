@@ -1,5 +1,5 @@
 -- Values of one axis further up: the side that they make, and what a constraint says there.
-use mathlib.Core.Path.{_≡_, sym, ap, _∙_}
+use mathlib.Core.Path.{_≡_, sym, ap, _∙_, subst}
 use mathlib.Core.Bool.{Bool, false}
 use mathlib.Core.List.{List, [], _∷_, map}
 use Prim.Native.Nat.{ℕ, _+_, _≤_, _<_}
@@ -17,7 +17,7 @@ use Rattle.model.specs.Sets.{Constraint}
 use Rattle.codec.specs.Places.{basicAt}
 use Rattle.bounds.specs.Intervals.{Interval, quotientSide, boxOf}
 use Rattle.bounds.specs.Ends.{AllWithin, Ends, canStand}
-use Rattle.bounds.specs.Rows.{Settled}
+use Rattle.bounds.specs.Rows.{Row, Settled}
 use Rattle.runs.specs.Upward.{widened, Reach, Lasts}
 use Rattle.bounds.proofs.Reading.{by, set-within}
 
@@ -61,6 +61,27 @@ reach-less k high m n h r = let d : pos m ≤ℤ pos n = record { le = le→leb 
 
 reach-within : (k : ℕ) (high : List ℤ) (j : ℕ) → AllWithin 1048576 high → Reach k high (j + 1) → Within 1048576 (getD high k (pos 0) +ℤ pos j)
 reach-within k high j h r = let w = h .at k in lia-abs (pos j ∷ getD high k (pos 0) ∷ []) (abs w ∷ le (r .far) ∷ le (pos-nonneg j) ∷ []) (search lin depth 30) (omega arith)
+
+-- with the lows of axis k further up
+pub ends-up : (k : ℕ) (low high : List ℤ) (j : ℕ) → Ends low high 1048576 → k < length low → Reach k low (j + 1) → Ends (widened k j low) high 1048576
+ends-up k low high j e a h =
+    let f = e .few in let b = e .same in let x = getD low k (pos 0) +ℤ pos j in
+    record {
+      few = omega (arith, length-set low k x);
+      same = omega (arith, length-set low k x);
+      lows = set-within 1048576 low k x (e .lows) (reach-within k low j (e .lows) h) a;
+      highs = e .highs;
+    }
+
+pub settled-up : (s : List ℕ) (k : ℕ) (low high r : List ℤ) (j : ℕ) → Settled s k low high r → Settled s k (widened k j low) high r
+settled-up s k low high r j g =
+    let x = getD low k (pos 0) +ℤ pos j in let e : length low ≡ length (set low k x) = sym (length-set low k x) in let a = g .axis in
+    record {
+      row = subst (λ (n : ℕ). Row s n r) e (g .row);
+      axis = omega arith;
+      lows = λ i l o. g .lows i (omega arith) o ∙ sym (getD-set-other low k i x (pos 0) o);
+      highs = λ i l o. g .highs i (omega arith) o;
+    }
 
 module _ (s : List ℕ) (k : ℕ) (low high r : List ℤ) (g : Settled s k low high r) (e : Ends low high 1048576) (j : ℕ) (h : Reach k high (j + 1)) where
   pub settled-wide : Settled s k low (widened k j high) r

@@ -162,7 +162,7 @@ fn remains(t: &[u8], k: usize, from: i64, to: i64, l: i64, h: i64, b: i64, e: u6
 }
 
 // For how many values a constraint with body t that is `short` of holding goes on failing.
-fn guess_from(
+pub fn guess_from(
     s: &[u8],
     t: &[u8],
     k: usize,

@@ -15,8 +15,8 @@ ghost use Rattle.runs.specs.Upward.{widened, Reach, Lasts};
 use crate::guesses::guess;
 use model::limit;
 
-// Highs with that of axis k up by some.
-fn raised(high: &[i64], k: usize, up: u64) -> [i64; limit::AXES]
+// Highs with that of axis k up by some; or lows.
+pub fn raised(high: &[i64], k: usize, up: u64) -> [i64; limit::AXES]
     requires { ⌜ (length (now high) ≤ mostAxes) × (k < length (now high)) × AllWithin mostCoordinate (now high) × (up ≤ mostMove) ⌝ }
     ensures is { λ w. ⌜ take (length (now (high .entry))) w ≡ widened k up (now (high .entry)) ⌝ }
     ensures places { λ w. ⌜ length w ≡ mostAxes ⌝ }

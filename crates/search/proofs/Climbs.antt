@@ -27,7 +27,6 @@ use Rattle.search.specs.declared.levels.Prefix.{Prefix}
 use Rattle.search.specs.declared.levels.Stop.{Stop}
 use Rattle.query.proofs.Points.{le-yes}
 use Rattle.search.specs.Live.{Live}
-use Rattle.bounds.specs.Ends.{AllWithin}
 use Rattle.bounds.proofs.Reading.{set-within}
 
 pub lt-of : (a b : ℕ) → a ≤ b → (a ≡ b → ⊥) → a < b
@@ -415,13 +414,6 @@ module _ (s : List ℕ) (p : Prefix) (i t : ℕ) where
   climbed-fewer _ (past m f e l j) a b = absurd (a refl)
   climbed-fewer _ (exhausted m f h e j) a b = absurd (b refl)
   climbed-fewer _ (passing m f h l e live v) a b = omega arith
-
-  pub climbed-size : Ready s p t → (r : Stop) → Climbed s p i t r → AllWithin 1048576 (r .at .low)
-  climbed-size d _ (past m f e l j) = d .standing .low-size
-  climbed-size d _ (exhausted m f h e j) = d .standing .low-size
-  climbed-size d _ (passing m f h l e live v) =
-      let g = d .standing in let a = g .axes in let b = g .left in let c = g .lows in
-      set-within 1048576 (p .low) (p .k) (valueAt p (i + m)) (g .low-size) (value-within s (p .n) (p .k) (p .low) (p .high) g (i + m) h) (omega arith)
 
   pub climbed-below : Ready s p t → (r : Stop) → Climbed s p i t r → r .way ≡ 3 → Descends s p t r
   climbed-below d _ (past m f e l j) w = absurd (omega arith)

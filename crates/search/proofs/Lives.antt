@@ -1,13 +1,13 @@
 -- The loops of the search over the rows of the basic sets: which can hold, for how many values none can, and the rows themselves.
 use mathlib.Core.Path.{_≡_, refl, sym, ap, ap₂, _∙_, subst, subst₂}
-use mathlib.Core.Bool.{Bool, true, false, _||_, or-assoc, or-false}
+use mathlib.Core.Bool.{Bool, true, false, _||_, or-assoc, or-false, or-true}
 use mathlib.Core.List.{List, [], _∷_, _++_, map, append-assoc, append-nil}
 use Prim.Native.Nat.{ℕ, zero, suc, _+_, _-_, _≤_, _<_}
 use native.Mathlib.Numerals.{add-one}
 use native.Mathlib.Omega.{arith}
 use lib.Dec.{ltb, eqb, le→leb}
 use lib.IntN.{ℤ, pos, _+ℤ_, _-ℤ_}
-use lib.Signed.{_≤ℤ_, ≤ℤ-refl}
+use lib.Signed.{_≤ℤ_}
 use lib.ListN.{length, take, drop, getD, set, replicate, length-set, length-take, length-map, drop-of-length-le, List·getD-eq-default}
 use lib.Seq.{drop-cons, getD-set-same, getD-set-other, getD-take, map-set-same, take-suc-set, set-set}
 use borrow.Author.Tests.{eqb-true, eqb-false, ltb-true, ltb-false}
@@ -24,14 +24,14 @@ use Rattle.codec.proofs.Boundaries.{boundary-start, boundary-end, boundary-open
 use Rattle.bounds.specs.Ends.{AllWithin}
 use Rattle.bounds.specs.Rows.{startOf, Row}
 use Rattle.bounds.proofs.Reading.{by, set-within, take-within}
-use Rattle.runs.specs.Upward.{widened}
+use Rattle.runs.specs.Upward.{widened, Reach}
 use Rattle.runs.proofs.Upward.{widened-take}
 use Rattle.search.specs.Search.{Interval, canHold, boxOf}
 use Rattle.search.specs.Sides.{sidesOf, Standing}
 use Rattle.search.specs.Live.{rowBasic, Rows, Live, Laid, wideBox, Fails, Tested, Sided}
 use Rattle.search.specs.Levels.{okAt}
 use Rattle.search.proofs.Climbs.{lt-of, span, box-take, value-within, ok-is}
-use Rattle.search.proofs.Parts.{Parts, part-dead, parts-set, parts-take}
+use Rattle.search.proofs.Parts.{Parts, part-dead, part-any, parts-set, parts-take}
 
 -- ---- lists
 map-map : (xs : List Interval) (s : List ℕ) (rows : List (List ℤ)) → map (canHold xs) (map (rowBasic s) rows) ≡ map (λ (r : List ℤ). canHold xs (rowBasic s r)) rows
@@ -42,6 +42,12 @@ any-map : {A : Type 0} (p : A → Bool) (l : List A) → any p l ≡ any (λ (b 
 any-map p [] = refl
 any-map p (x ∷ l) = ap (λ (b : Bool). p x || b) (any-map p l)
 
+any-at : (l : List Bool) (b : ℕ) → getD l b false ≡ true → any (λ (x : Bool). x) l ≡ true
+any-at [] zero e = e
+any-at [] (suc b) e = e
+any-at (x ∷ l) zero e = ap (λ (y : Bool). y || any (λ (z : Bool). z) l) e
+any-at (x ∷ l) (suc b) e = ap (λ (y : Bool). x || y) (any-at l b e) ∙ or-true x
+
 -- ---- rows
 module _ (s : List ℕ) (n : ℕ) (rows : List (List ℤ)) (g : Rows s n rows) where
   rows-length : length (setFrom s 0) ≡ length rows
@@ -49,6 +55,9 @@ module _ (s : List ℕ) (n : ℕ) (rows : List (List ℤ)) (g : Rows s n rows) w
 
   pub rows-can : (xs : List Interval) (b : ℕ) → b < length rows → getD (map (canHold xs) (setFrom s 0)) b false ≡ canHold xs (rowBasic s (getD rows b []))
   rows-can xs b h = ap (λ (l : Set). getD (map (canHold xs) l) b false) (sym (g .sets)) ∙ ap (λ (l : List Bool). getD l b false) (map-map xs s rows) ∙ map-get (λ (r : List ℤ). canHold xs (rowBasic s r)) rows b [] false h
+
+  pub rows-any : (xs : List Interval) (b : ℕ) → b < length rows → canHold xs (rowBasic s (getD rows b [])) ≡ true → any (canHold xs) (setFrom s 0) ≡ true
+  rows-any xs b h e = any-map (canHold xs) (setFrom s 0) ∙ any-at (map (canHold xs) (setFrom s 0)) b (rows-can xs b h ∙ e)
 
   pub rows-set : (b : ℕ) (r : List ℤ) → b < length rows → Row s n r → startOf r ≡ startOf (getD rows b []) → Rows s n (set rows b r)
   rows-set b r h w e =
@@ -194,13 +203,10 @@ module _ (s : List ℕ) (n k : ℕ) (low high : List ℤ) (g : Standing s n k lo
       let m : pos (i + j) ≤ℤ pos (span s n k low high g) = record { le = le→leb (i + j) (span s n k low high g) l } in
       lia-le (getD low k (pos 0) ∷ getD high k (pos 0) ∷ pos i ∷ pos j ∷ pos (span s n k low high g) ∷ []) (eq d ∷ le m ∷ []) (search lin depth 30) (omega arith)
 
-  upward-of : (x : ℤ) (j : ℕ) → x ≤ℤ (x +ℤ pos j)
-  upward-of x j = lia-le (x ∷ pos j ∷ []) (le (pos-nonneg j) ∷ []) (search lin depth 30) (omega arith)
-
   part : (j : ℕ) → i + j ≤ span s n k low high g → Parts (sidesOf n (set low k value) (set high k (value +ℤ pos j))) (sidesOf n low high)
   part j l =
       subst₂ Parts (box-take n (set low k value) (set high k (value +ℤ pos j))) (box-take n low high)
-      (parts-take n (boxOf (set low k value) (set high k (value +ℤ pos j))) (boxOf low high) (parts-set k low high value (value +ℤ pos j) (g .ordered) from-low (upward-of value j) (further j l)))
+      (parts-take n (boxOf (set low k value) (set high k (value +ℤ pos j))) (boxOf low high) (parts-set k low high value (value +ℤ pos j) from-low (further j l)))
 
   live-wide : (live : List Bool) → Live s (sidesOf n low high) live → (j : ℕ) → i + j ≤ span s n k low high g → Live s (sidesOf n (set low k value) (set high k (value +ℤ pos j))) live
   live-wide live v j l = live-part s (sidesOf n low high) (sidesOf n (set low k value) (set high k (value +ℤ pos j))) live (g .accepted) (part j l) v
@@ -213,6 +219,16 @@ module _ (s : List ℕ) (n k : ℕ) (low high : List ℤ) (g : Standing s n k lo
     -- m values from it on, over n sides
     pub wide-at : (m : ℕ) → wideBox k (take n l) (take n u) m ≡ sidesOf n (set low k value) (set high k (value +ℤ pos (m - 1)))
     wide-at m = ap₂ (λ (x y : List ℤ). boxOf (take n x) y) el (widened-take n k (m - 1) u (g .left) ∙ ap (take n) (ap (widened k (m - 1)) eu ∙ wide-set (m - 1)))
+
+    -- both ends of axis k are at the value
+    pub reach-low : (most : ℕ) → Reach k (take n u) most → Reach k (take n l) most
+    reach-low most r =
+        let a = g .axes in let c = g .left in let d = g .lows in let e = g .highs in
+        record {
+          far = subst (λ (x : ℤ). (x +ℤ pos most) ≤ℤ pos 1048577)
+              (getD-take n u k (pos 0) c ∙ ap (λ (x : List ℤ). getD x k (pos 0)) eu ∙ getD-set-same high k value (pos 0) (omega arith)
+              ∙ sym (getD-take n l k (pos 0) c ∙ ap (λ (x : List ℤ). getD x k (pos 0)) el ∙ getD-set-same low k value (pos 0) (omega arith))) (r .far);
+        }
 
     pub next-fits : (live : List Bool) (most : ℕ) → Live s (sidesOf n low high) live → 0 < most → i + most ≤ suc (span s n k low high g) → Sided s k (take n l) (take n u) live most
     next-fits live most v o q =
@@ -244,14 +260,6 @@ module _ (s : List ℕ) (n k : ℕ) (low high : List ℤ) (g : Standing s n k lo
     abbrev at-j : ℤ
     at-j = getD low k (pos 0) +ℤ pos (i + j)
 
-    ordered-set : (x y : ℤ) → x ≤ℤ y → (b : ℕ) → getD (set low k x) b (pos 0) ≤ℤ getD (set high k y) b (pos 0)
-    ordered-set x y q b =
-        let a = g .axes in let c = g .left in let d = g .lows in let e = g .highs in
-        by (λ (t : Bool). getD (set low k x) b (pos 0) ≤ℤ getD (set high k y) b (pos 0)) (eqb b k)
-        (λ t. let z = eqb-true b k t in subst (λ (w : ℕ). getD (set low k x) w (pos 0) ≤ℤ getD (set high k y) w (pos 0)) (sym z)
-        (subst₂ _≤ℤ_ (sym (getD-set-same low k x (pos 0) (omega arith))) (sym (getD-set-same high k y (pos 0) (omega arith))) q))
-        (λ t. let z = eqb-false b k t in subst₂ _≤ℤ_ (sym (getD-set-other low k b x (pos 0) z)) (sym (getD-set-other high k b y (pos 0) z)) (g .ordered b))
-
     inner : (x : ℕ) → j ≤ x → Parts (sidesOf n (set low k at-j) (set high k at-j)) (sidesOf n (set low k value) (set high k (value +ℤ pos x)))
     inner x p =
         let a = g .axes in let c = g .left in let d = g .lows in let e = g .highs in
@@ -260,8 +268,8 @@ module _ (s : List ℕ) (n k : ℕ) (low high : List ℤ) (g : Standing s n k lo
         let hi : at-j ≤ℤ (value +ℤ pos x) = lia-le (getD low k (pos 0) ∷ pos i ∷ pos j ∷ pos x ∷ []) (le z ∷ []) (search lin depth 30) (omega arith) in
         subst₂ Parts (ap₂ (λ (p q : List ℤ). take n (boxOf p q)) (set-set low k value at-j) (set-set high k (value +ℤ pos x) at-j) ∙ box-take n (set low k at-j) (set high k at-j)) (box-take n (set low k value) (set high k (value +ℤ pos x)))
         (parts-take n (boxOf (set (set low k value) k at-j) (set (set high k (value +ℤ pos x)) k at-j)) (boxOf (set low k value) (set high k (value +ℤ pos x)))
-        (parts-set k (set low k value) (set high k (value +ℤ pos x)) at-j at-j (ordered-set value (value +ℤ pos x) (upward-of value x))
-        (subst (λ (w : ℤ). w ≤ℤ at-j) (sym (getD-set-same low k value (pos 0) (omega arith))) lo) (≤ℤ-refl at-j)
+        (parts-set k (set low k value) (set high k (value +ℤ pos x)) at-j at-j
+        (subst (λ (w : ℤ). w ≤ℤ at-j) (sym (getD-set-same low k value (pos 0) (omega arith))) lo)
         (subst (λ (w : ℤ). at-j ≤ℤ w) (sym (getD-set-same high k (value +ℤ pos x) (pos 0) (omega arith))) hi)))
 
     each : (b : ℕ) → getD (map (canHold (sidesOf n (set low k at-j) (set high k at-j))) (setFrom s 0)) b false ≡ false
@@ -272,6 +280,39 @@ module _ (s : List ℕ) (n k : ℕ) (low high : List ℤ) (g : Standing s n k lo
 
     pub value-fails : okAt (setFrom s 0) (take k low) (drop (suc k) (sidesOf n low high)) at-j ≡ false
     value-fails = ok-is s n k low high g at-j ∙ any-none (canHold (sidesOf n (set low k at-j) (set high k at-j))) (setFrom s 0) each
+
+  -- ---- where a basic set can hold over the side from the last of m values down to the first, it holds at each of them
+  module _ (m : ℕ) (l u : List ℤ) (el : l ≡ set low k value) (eu : u ≡ set high k value) (f : any (canHold (boxOf (widened k (m - 1) (take n l)) (take n u))) (setFrom s 0) ≡ true) (j : ℕ) (o : j < m) where
+    abbrev here : ℤ
+    here = getD low k (pos 0) +ℤ pos (i + j)
+
+    abbrev last : ℤ
+    last = value +ℤ pos (m - 1)
+
+    down-is : boxOf (widened k (m - 1) (take n l)) (take n u) ≡ take n (boxOf (set low k last) (set high k value))
+    down-is =
+        let a = g .axes in let c = g .left in let d = g .lows in
+        ap₂ (λ (x y : List ℤ). boxOf x (take n y))
+        (widened-take n k (m - 1) l c ∙ ap (take n) (ap (widened k (m - 1)) el ∙ set-set low k value _ ∙ ap (λ (z : ℤ). set low k (z +ℤ pos (m - 1))) (getD-set-same low k value (pos 0) (omega arith)))) eu
+        ∙ sym (box-take n (set low k last) (set high k value))
+
+    around : Parts (boxOf (widened k (m - 1) (take n l)) (take n u)) (sidesOf n (set low k here) (set high k here))
+    around =
+        let a = g .axes in let c = g .left in let d = g .lows in let e = g .highs in
+        let y : ℕ = m - 1 in let z : pos j ≤ℤ pos y = record { le = le→leb j y (omega arith) } in
+        let lo : here ≤ℤ last = lia-le (getD low k (pos 0) ∷ pos i ∷ pos j ∷ pos y ∷ []) (le z ∷ []) (search lin depth 30) (omega arith) in
+        let hi : value ≤ℤ here = lia-le (getD low k (pos 0) ∷ pos i ∷ pos j ∷ []) (le (pos-nonneg j) ∷ []) (search lin depth 30) (omega arith) in
+        subst₂ Parts (ap₂ (λ (p q : List ℤ). take n (boxOf p q)) (set-set low k here last) (set-set high k here value) ∙ sym down-is) (box-take n (set low k here) (set high k here))
+        (parts-take n (boxOf (set (set low k here) k last) (set (set high k here) k value)) (boxOf (set low k here) (set high k here))
+        (parts-set k (set low k here) (set high k here) last value
+        (subst (λ (w : ℤ). w ≤ℤ last) (sym (getD-set-same low k here (pos 0) (omega arith))) lo)
+        (subst (λ (w : ℤ). value ≤ℤ w) (sym (getD-set-same high k here (pos 0) (omega arith))) hi)))
+
+    pub value-passes : okAt (setFrom s 0) (take k low) (drop (suc k) (sidesOf n low high)) here ≡ true
+    value-passes =
+        let ac = g .accepted in
+        ok-is s n k low high g here
+        ∙ part-any (boxOf (widened k (m - 1) (take n l)) (take n u)) (sidesOf n (set low k here) (set high k here)) (setFrom s 0) (decode-formed (ac .n) s (setFrom s 0) (decode-is (ac .n) s (ac .accepted))) around f
 
 -- ---- the rows laid out
 pub record Laying (s : List ℕ) (rows : List (List ℤ)) (at b : ℕ) : Type 0 where

@@ -78,6 +78,13 @@ pub data Climbed (s : List ℕ) (p : Prefix) (i t : ℕ) : Stop → Type 0 where
       → (live : List Bool) → Live s (sidesOf (p .n) (lowsAt p (i + m)) (highsAt p (i + m))) live
       → Climbed s p i t (stopAt p (lowsAt p (i + m)) (highsAt p (i + m)) live (m + 1) (i + m + 1))
 
+-- m values pass, from number i on, within the side and what the limit leaves after t
+pub record Lasting (s : List ℕ) (p : Prefix) (i t m : ℕ) : Type 0 where
+  pub some : 0 < m
+  pub inside : i + m ≤ suc (spanAt p)
+  pub room : t + m ≤ p .limit
+  pub passed : (j : ℕ) → j < m → passesAt s p (i + j) ≡ true
+
 -- where a walk of a box begins: at the prefix of no numbers
 pub record Begun (s : List ℕ) (n : ℕ) (low high : List ℤ) (limit : ℕ) (rows : List (List ℤ)) (p : Prefix) : Type 0 where
   pub ready : Ready s p 0

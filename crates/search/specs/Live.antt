@@ -1,6 +1,6 @@
 -- The rows of the basic sets of a set, and which of these can still hold, as the first-point search keeps them.
 use mathlib.Core.Path.{_≡_}
-use mathlib.Core.Bool.{Bool, false}
+use mathlib.Core.Bool.{Bool, true, false}
 use mathlib.Core.List.{List, [], map}
 use Prim.Native.Nat.{ℕ, _-_, _≤_, _<_}
 use lib.IntN.{ℤ}
@@ -52,6 +52,12 @@ pub record Tested (s : List ℕ) (xs : List Interval) (wide : ℕ → List Inter
   pub some : 0 < r .run
   pub few : r .run ≤ most
   pub far : r .any ≡ false → (i : ℕ) → Fails s wide (r .run) i
+
+-- m values of axis k, the first of them that of the box: over the side from the last down to the first, if they are more than one, some basic set can hold
+pub record Kept (s : List ℕ) (k : ℕ) (low high : List ℤ) (most m : ℕ) : Type 0 where
+  pub some : 0 < m
+  pub few : m ≤ most
+  pub is : 1 < m → any (canHold (boxOf (widened k (m - 1) low) high)) (setFrom s 0) ≡ true
 
 -- the sides of a box, and those that are live over the sides of up to `most` values of axis k
 pub record Sided (s : List ℕ) (k : ℕ) (low high : List ℤ) (live : List Bool) (most : ℕ) : Type 0 where

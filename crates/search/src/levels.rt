@@ -49,7 +49,7 @@ pub struct Trail {
 }
 
 // How far the side of axis k goes.
-fn span_of(low: [i64; limit::AXES], high: [i64; limit::AXES], k: usize) -> u64
+pub fn span_of(low: [i64; limit::AXES], high: [i64; limit::AXES], k: usize) -> u64
     requires { ⌜ (k < mostAxes) × AllWithin mostCoordinate low × AllWithin mostCoordinate high × (getD low k (pos 0) ≤ℤ getD high k (pos 0)) ⌝ }
     ensures is { λ r. ⌜ r ≡ natAbs (getD high k (pos 0) -ℤ getD low k (pos 0)) ⌝ }
     ensures size { λ r. ⌜ r ≤ mostMove ⌝ }
@@ -60,7 +60,7 @@ fn span_of(low: [i64; limit::AXES], high: [i64; limit::AXES], k: usize) -> u64
 }
 
 // Value i of the side of axis k.
-fn value_at(low: [i64; limit::AXES], k: usize, i: u64) -> i64
+pub fn value_at(low: [i64; limit::AXES], k: usize, i: u64) -> i64
     requires { ⌜ (k < mostAxes) × (i ≤ mostMove) × AllWithin mostCoordinate low ⌝ }
     ensures { λ r. ⌜ r ≡ getD low k (pos 0) +ℤ pos i ⌝ }
 {
@@ -112,7 +112,7 @@ fn passed(
 }
 
 // The lesser of the two.
-fn fewer(a: u64, b: u32) -> u64
+pub fn fewer(a: u64, b: u32) -> u64
     ensures { λ r. ⌜ (r ≤ a) × (r ≤ b) × (0 < a → 0 < b → 0 < r) ⌝ }
 {
     let c = b as u64;

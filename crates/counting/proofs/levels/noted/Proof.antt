@@ -1,19 +1,10 @@
-use mathlib.Core.Path.{_≡_, sym, ap, ap₂, _∙_}
-use mathlib.Core.List.{[], _∷_}
-use Prim.Native.Nat.{ℕ}
+use mathlib.Core.Path.{sym}
 use native.Mathlib.Omega.{arith}
 use borrow.Author.Needs.{needs}
-use lib.IntN.{ℤ, pos, natAbs, _+ℤ_, _-ℤ_}
-use lib.Signed.{_≤ℤ_, _<ℤ_}
-use lib.ListN.{getD}
 use mir.Syntax.{w64}
-use mir.Val.{SFits, toZ, ofZ}
-use Rattle.integers.specs.Z.{Within}
-use Rattle.integers.specs.Lin.{le, lt, eq, lin, lia-le, lia-eq, lia-nat, lia-no}
-use Rattle.integers.specs.Mach.{toZ-ofZ, cast-nat, b-of, is-le, is-gt}
-use Rattle.integers.specs.Order.{pos-nonneg}
-use Rattle.integers.specs.Size.{within-mono, within-sub, within-fits, natAbs-nonneg}
-use Rattle.counting.proofs.Summing.{noted-at, noted-none}
+use Rattle.integers.specs.Mach.{toZ-ofZ}
+use Rattle.integers.specs.Size.{within-fits}
+use Rattle.bounds.proofs.Extremes.{back-within}
 use Rattle.counting.proofs.levels.noted.Statement.{statement}
 use Rattle.counting.proofs.levels.noted.Tie as tie
 
@@ -23,107 +14,18 @@ mul-v c = search needs
 array-copy-out-v : tie.Need-array-copy-out-v
 array-copy-out-v c = search needs
 
--- the first value of the axis, and the point's
-module _ (c : tie.After-v) where
-  abbrev st : tie.Start
-  st = c .before .before
-
-  abbrev first : ℤ
-  first = st .args .c .first
-
-  abbrev value : ℤ
-  value = getD (st .args .t2) (st .args .c .axis) (pos 0)
-
-  -- what the code computes of the two
-  abbrev apart : ℤ
-  apart = toZ w64 (ofZ w64 value) -ℤ toZ w64 (ofZ w64 first)
-
-  first-fits : SFits w64 first
-  first-fits = within-fits (omega arith) (st .pre .1)
-
-  value-fits : SFits w64 value
-  value-fits = within-fits (omega arith) (st .pre .2 .at (st .args .c .axis))
-
-  size : Within 2097152 (value -ℤ first)
-  size = within-mono (omega arith) (within-sub (st .pre .2 .at (st .args .c .axis)) (st .pre .1))
-
-  back : apart ≡ value -ℤ first
-  back = ap₂ _-ℤ_ (toZ-ofZ value-fits) (toZ-ofZ first-fits)
-
-sub-j : tie.Need-sub-j
-sub-j c = rw (back (c .before)) (within-fits (omega arith) (size (c .before)))
-
--- from the first value on
-module _ (c : tie.Then1) where
-  abbrev v : tie.After-v
-  v = c .before
-
-  abbrev place : ℕ
-  place = natAbs (toZ w64 (ofZ w64 (apart v)))
-
-  place-is : place ≡ natAbs (value v -ℤ first v)
-  place-is = ap natAbs (toZ-ofZ (sub-j c) ∙ back v)
-
-  far-is : pos (natAbs (value v -ℤ first v)) ≡ value v -ℤ first v
-  far-is =
-      let l : first v ≤ℤ value v = is-le (b-of (first-fits v)) (b-of (value-fits v)) (c .if1 .taken) in
-      natAbs-nonneg (lia-le (first v ∷ value v ∷ []) (le l ∷ []) (search lin depth 30) (omega arith))
-
-  value-is : value v ≡ first v +ℤ pos place
-  value-is =
-      let f = natAbs (value v -ℤ first v) in
-      lia-eq (first v ∷ value v ∷ pos f ∷ []) (eq far-is ∷ []) {b = first v +ℤ pos f} (search lin depth 30) (omega arith)
-      ∙ ap (λ (n : ℕ). first v +ℤ pos n) (sym place-is)
-
-cast-j : tie.Need-cast-j
-cast-j c = cast-nat w64 _ (natAbs (value (v c) -ℤ first (v c))) (toZ-ofZ (sub-j c) ∙ back (v c) ∙ sym (far-is c)) (let s = size (v c) .size in omega arith)
-
-mul-each : tie.Need-mul-each
-mul-each c = search needs
-
-slice-read-each : tie.Need-slice-read-each
-slice-read-each c = search needs
-
-add-each : tie.Need-add-each
-add-each c = let t = c .before .before in let h = st (v t) .pre .3 .at (place t) in omega arith
-
-mul-each-2 : tie.Need-mul-each-2
-mul-each-2 c = search needs
-
-slice-write-each : tie.Need-slice-write-each
-slice-write-each c = search needs
-
-same-length : tie.Need-same-length
-same-length c = search needs
+raise-requires : tie.Need-raise-requires
+raise-requires c κs =
+    let st = c .before .before .before .before in let p = st .pre in
+    (back-within (omega arith) (p .1), back-within (omega arith) (p .2 .at (st .args .c .axis)), p .3)
 
 returns : tie.Need-returns
-returns c = let t = c .before .before in let a = st (v t) .args in noted-at (a .c) (a .t2) (a .each .now) (place t) (c .before .if2 .taken) (value-is t)
+returns c =
+    let n = c .before .before in let st = n .before .before .before .before .before in let p = st .pre in
+    n .raise .ensures .notes (st .args .c) (st .args .t2) (sym (toZ-ofZ {w = w64} (within-fits (omega arith) (p .1)))) (sym (toZ-ofZ {w = w64} (within-fits (omega arith) (p .2 .at (st .args .c .axis)))))
 
-returns-2 : tie.Need-returns-2
-returns-2 c =
-    let t = c .before in let a = st (v t) .args in let l = c .if2 .left in
-    noted-none (a .c) (a .t2) (a .each .now)
-    (λ j h q. let z : j ≡ place t = lia-nat (first (v t) ∷ value (v t) ∷ pos j ∷ pos (place t) ∷ []) (eq q ∷ eq (value-is t) ∷ []) (search lin depth 30) (omega arith) in omega arith)
-
-returns-3 : tie.Need-returns-3
-returns-3 c =
-    let v = c .before in let a = st v .args in let l : value v <ℤ first v = is-gt (b-of (first-fits v)) (b-of (value-fits v)) (c .if1 .left) in
-    noted-none (a .c) (a .t2) (a .each .now) (λ j h q. lia-no (first v ∷ value v ∷ pos j ∷ []) (lt l ∷ eq q ∷ le (pos-nonneg j) ∷ []) (search lin depth 30) (omega arith))
+same-length : tie.Need-same-length
+same-length c = returns c .places
 
 pub noted-spec : {M : Type 1} → statement M
-noted-spec =
-    tie.close
-    (tie.spec
-    mul-v
-    array-copy-out-v
-    sub-j
-    cast-j
-    mul-each
-    slice-read-each
-    add-each
-    mul-each-2
-    slice-write-each
-    same-length
-    returns
-    returns-2
-    returns-3)
+noted-spec = tie.close (tie.spec mul-v array-copy-out-v raise-requires same-length returns)

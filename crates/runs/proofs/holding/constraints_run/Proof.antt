@@ -1,209 +1,69 @@
-use native.Mathlib.Nat.{le-refl}
 use native.Mathlib.Omega.{arith}
-use mathlib.Core.Path.{_≡_, sym, ap, _∙_, subst}
-use mathlib.Core.Bool.{Bool, true, false, _||_}
+use mathlib.Core.Path.{_≡_, sym, ap, _∙_}
+use mathlib.Core.Bool.{true}
 use mathlib.Core.List.{List, map}
 use borrow.Author.Needs.{needs}
 use borrow.Author.Tests.{not-true, not-false}
-use Prim.Native.Nat.{ℕ, _+_, _-_, _≤_, _<_}
-use lib.IntN.{ℤ}
-use lib.ListN.{length, getD}
+use Prim.Native.Nat.{ℕ, _-_}
 use Rattle.model.specs.Lists.{all}
-use Rattle.model.specs.Sets.{Constraint}
-use Rattle.codec.specs.Places.{basicAt, constraintAt, nextOf}
-use Rattle.codec.specs.Bytes.{isNumbered, isConstraint}
+use Rattle.codec.specs.Places.{basicAt, constraintAt}
 use Rattle.bounds.specs.Intervals.{Interval, quotientSide, canHold, boxOf}
 use Rattle.bounds.specs.Ends.{canStand}
-use Rattle.bounds.specs.Rows.{startOf, Numbered}
-use Rattle.runs.specs.Upward.{widened, Lasts, Failing}
-use Rattle.codec.proofs.Standing.{ConstraintAt}
+use Rattle.bounds.specs.Rows.{startOf}
+use Rattle.runs.specs.Upward.{widened}
 use Rattle.runs.proofs.Upward.{lasts-one, more-than-none}
-use Rattle.bounds.proofs.Bounds.{Opening, opening-start, opening-at, opening-form, opening-few, opening-stop, opening-falls, opening-next, opening-end}
 use Rattle.runs.proofs.holding.constraints_run.Statement.{statement}
 use Rattle.runs.proofs.holding.constraints_run.Tie as tie
 
-abbrev Inv-loop2 : tie.InvT-loop2
-Inv-loop2 s k low high r ql qh first most i₀ at₀ i at = Opening s (startOf r) (canStand (boxOf low high) (boxOf ql qh)) at i × (at₀ ≤ at)
-
-abbrev μ-loop2 : tie.MeasureT-loop2
-μ-loop2 s k low high r ql qh first most i₀ at₀ i at = length s - at
-
-abbrev Inv-loop : tie.InvT-loop
-Inv-loop s k low high r ql qh first most i₀ at₀ i at = Opening s (startOf r) (canStand (boxOf low high) (boxOf ql qh)) at i
-
-abbrev μ-loop : tie.MeasureT-loop
-μ-loop s k low high r ql qh first most i₀ at₀ i at = length s - at
-
-module _ (st : tie.Start Inv-loop2 μ-loop2 Inv-loop μ-loop) where
+module _ (st : tie.Start) where
   abbrev s : List ℕ
   s = st .args .s .now
 
   abbrev start : ℕ
   start = startOf (st .args .r .now)
 
-  abbrev ok : Constraint → Bool
-  ok = canStand (boxOf (st .args .low .now) (st .args .high .now)) (boxOf (st .args .ql .now) (st .args .qh .now))
+  abbrev xs : List Interval
+  xs = boxOf (st .args .low .now) (st .args .high .now)
+
+  abbrev qs : List Interval
+  qs = boxOf (st .args .ql .now) (st .args .qh .now)
 
   -- each constraint by itself is the whole
-  whole : all ok (basicAt s start .constraints) ≡ canHold (boxOf (st .args .low .now) (st .args .high .now)) (basicAt s start)
-  whole = ap (λ (y : List Interval). all (canStand (boxOf (st .args .low .now) (st .args .high .now)) y) (basicAt s start .constraints)) (st .pre .5)
+  whole : all (canStand xs qs) (basicAt s start .constraints) ≡ canHold xs (basicAt s start)
+  whole = ap (λ (y : List Interval). all (canStand xs y) (basicAt s start .constraints)) (st .pre .5)
 
-  -- the constraint at a place, in either loop
-  module _ (at i : ℕ) (g : Opening s start ok at i) (test : isConstraint (getD s at 0) ≡ true) where
-    here : ConstraintAt (g .tail .n) s at (g .tail .k)
-    here = opening-at s start ok at i g test
+first-failing-requires : tie.Need-first-failing-requires
+first-failing-requires c κs = search needs
 
-    rule : Numbered s (st .args .r .now) at i
-    rule = record { whole = here .whole; body = here .body; few = opening-few s start ok at i g test; form = opening-form s start ok at i g test }
-
-    falls : ok (constraintAt s at) ≡ false → Lasts s (st .args .k) (st .args .low .now) (st .args .high .now) start (constraintAt s at) 1
-    falls z = lasts-one s (st .args .k) (st .args .low .now) (st .args .high .now) start (constraintAt s at) (boxOf (st .args .ql .now) (st .args .qh .now)) (st .pre .5) z
-
-    stops : (m : ℕ) → ok (constraintAt s at) ≡ false → Lasts s (st .args .k) (st .args .low .now) (st .args .high .now) start (constraintAt s at) m → (0 < m) × (m ≤ st .args .most)
-        → Failing s (st .args .k) (st .args .low .now) (st .args .high .now) start (st .args .most) m
-    stops m z l b =
-        let u = widened (st .args .k) (m - 1) (st .args .high .now) in
-        record {
-          is = more-than-none m (b .0) ∙ opening-stop s start ok at i g test z ∙ whole;
-          far = λ _. opening-falls s start ok at i g test (canStand (boxOf (st .args .low .now) u) (map (quotientSide (boxOf (st .args .low .now) u)) (basicAt s start .divisions))) (l .fails);
-          few = b .1;
-        }
-
-    on : (p : ℕ) → p ≡ nextOf s at → ok (constraintAt s at) ≡ true → Opening s start ok p (i + 1)
-    on p e z = subst (λ (p : ℕ). Opening s start ok p (i + 1)) (sym e) (opening-next s start ok at i g test z)
-
-    less : (p : ℕ) → p ≡ nextOf s at → length s - p < length s - at
-    less p e = let r = here .whole .room in let w = here .whole .known in omega arith
-
-loop-holds : tie.Need-loop-holds Inv-loop2 μ-loop2 Inv-loop μ-loop
-loop-holds c = let st = c .before in let p = st .pre in opening-start (s st) (start st) (st .args .first) (length (st .args .ql .now)) (ok st) (p .0 .row .opened) (p .3) (p .4)
-
-loop2-holds : tie.Need-loop2-holds Inv-loop2 μ-loop2 Inv-loop μ-loop
-loop2-holds c = (c .loop .inv, le-refl (c .loop .at))
-
--- ---- those without a number
-module _ (t : tie.Then1 Inv-loop2 μ-loop2 Inv-loop μ-loop) where
-  abbrev m₁ : tie.At-loop2 Inv-loop2 μ-loop2 Inv-loop μ-loop
-  m₁ = t .before .before
-
-  abbrev st₁ : tie.Start Inv-loop2 μ-loop2 Inv-loop μ-loop
-  st₁ = m₁ .before .before .before
-
-  test₁ : isConstraint (getD (s st₁) (m₁ .loop2 .at) 0) ≡ true
-  test₁ = ap (λ (x : Bool). x || isNumbered (getD (s st₁) (m₁ .loop2 .at) 0)) (sym (t .before .bare-at .ensures) ∙ t .if1 .taken)
-
-bare-at-requires : tie.Need-bare-at-requires Inv-loop2 μ-loop2 Inv-loop μ-loop
-bare-at-requires c κs = search needs
-
-can-stand-requires : tie.Need-can-stand-requires Inv-loop2 μ-loop2 Inv-loop μ-loop
-can-stand-requires c κs = let p = st₁ c .pre in (p .0, p .1, p .2, rule (st₁ c) (m₁ c .loop2 .at) (m₁ c .loop2 .i) (m₁ c .loop2 .inv .0) (test₁ c))
-
-failed₁ : (c : tie.Then2 Inv-loop2 μ-loop2 Inv-loop μ-loop) → let t = c .before .before in ok (st₁ t) (constraintAt (s (st₁ t)) (m₁ t .loop2 .at)) ≡ false
-failed₁ c = sym (c .before .can-stand .ensures) ∙ not-true _ (c .if2 .taken)
-
-constraint-run-requires : tie.Need-constraint-run-requires Inv-loop2 μ-loop2 Inv-loop μ-loop
-constraint-run-requires c κs =
-    let t = c .before .before in let l = m₁ t .loop2 in let p = st₁ t .pre in
-    (p .0, p .1, p .2, rule (st₁ t) (l .at) (l .i) (l .inv .0) (test₁ t), p .6, p .7, falls (st₁ t) (l .at) (l .i) (l .inv .0) (test₁ t) (failed₁ c))
-
-returns : tie.Need-returns Inv-loop2 μ-loop2 Inv-loop μ-loop
+returns : tie.Need-returns
 returns c =
-    let y = c .before in let t = y .before .before in let l = m₁ t .loop2 in
-    stops (st₁ t) (l .at) (l .i) (l .inv .0) (test₁ t) (c .constraint-run .result) (failed₁ y) (c .constraint-run .ensures .0) (c .constraint-run .ensures .1)
+    let f = c .before .before in
+    record { is = sym (f .first-failing .ensures .stands (not-true _ (c .if1 .taken))) ∙ whole (f .before .before); far = λ h. absurd (omega arith); few = omega arith }
 
-next-requires : tie.Need-next-requires Inv-loop2 μ-loop2 Inv-loop μ-loop
-next-requires c κs = let t = c .before .before in let l = m₁ t .loop2 in here (st₁ t) (l .at) (l .i) (l .inv .0) (test₁ t) .whole
+abbrev fails : (c : tie.Else1) → c .before .before .first-failing .result .fails ≡ true
+fails c = not-false _ (c .if1 .left)
 
-add-i : tie.Need-add-i Inv-loop2 μ-loop2 Inv-loop μ-loop
-add-i c = let t = c .before .before .before in let l = m₁ t .loop2 in let f = rule (st₁ t) (l .at) (l .i) (l .inv .0) (test₁ t) .few in omega arith
+constraint-run-requires : tie.Need-constraint-run-requires
+constraint-run-requires c κs =
+    let f = c .before .before in let st = f .before .before in let a = st .args in let p = st .pre in let e = f .first-failing .ensures in (
+      p .0,
+      p .1,
+      p .2,
+      e .rule (fails c),
+      p .6,
+      p .7,
+      lasts-one (s st) (a .k) (a .low .now) (a .high .now) (start st) (constraintAt (s st) (f .first-failing .result .at)) (qs st) (p .5) (e .falls (fails c)),
+    )
 
-loop2-less : tie.Need-loop2-less Inv-loop2 μ-loop2 Inv-loop μ-loop
-loop2-less c = let t = c .before .before .before in let l = m₁ t .loop2 in less (st₁ t) (l .at) (l .i) (l .inv .0) (test₁ t) (c .next .result) (c .next .ensures)
-
-loop2-again : tie.Need-loop2-again Inv-loop2 μ-loop2 Inv-loop μ-loop
-loop2-again c =
-    let e = c .before in let y = e .before in let t = y .before in let l = m₁ t .loop2 in let b = l .inv .1 in
-    (on (st₁ t) (l .at) (l .i) (l .inv .0) (test₁ t) (c .next .result) (c .next .ensures) (sym (y .can-stand .ensures) ∙ not-false _ (e .if2 .left)), omega (arith, c .next .ensures))
-
--- ---- one of the others
-constraint-at-requires : tie.Need-constraint-at-requires Inv-loop2 μ-loop2 Inv-loop μ-loop
-constraint-at-requires c κs = search needs
-
-returns-2 : tie.Need-returns-2 Inv-loop2 μ-loop2 Inv-loop μ-loop
+returns-2 : tie.Need-returns-2
 returns-2 c =
-    let y = c .before in let m = y .before .before .before in let st = m .before .before .before in
+    let t = c .before in let f = t .before .before in let st = f .before .before in let a = st .args in let e = f .first-failing .ensures in
+    let g = c .constraint-run .ensures in let u = widened (a .k) (c .constraint-run .result - 1) (a .high .now) in
     record {
-      is = opening-end (s st) (start st) (ok st) (m .loop2 .at) (m .loop2 .i) (m .loop2 .inv .0) (sym (y .constraint-at .ensures) ∙ not-true _ (c .if3 .taken)) ∙ whole st;
-      far = λ h. absurd (omega arith);
-      few = omega arith;
+      is = more-than-none (c .constraint-run .result) (g .1 .0) ∙ sym (e .among (fails t) (canStand (xs st) (qs st)) (e .falls (fails t))) ∙ whole st;
+      far = λ _. e .among (fails t) (canStand (boxOf (a .low .now) u) (map (quotientSide (boxOf (a .low .now) u)) (basicAt (s st) (start st) .divisions))) (g .0 .fails);
+      few = g .1 .1;
     }
 
-module _ (t : tie.Else3 Inv-loop2 μ-loop2 Inv-loop μ-loop) where
-  abbrev m₂ : tie.At-loop2 Inv-loop2 μ-loop2 Inv-loop μ-loop
-  m₂ = t .before .before .before .before
-
-  abbrev st₂ : tie.Start Inv-loop2 μ-loop2 Inv-loop μ-loop
-  st₂ = m₂ .before .before .before
-
-  test₂ : isConstraint (getD (s st₂) (m₂ .loop2 .at) 0) ≡ true
-  test₂ = sym (t .before .constraint-at .ensures) ∙ not-false _ (t .if3 .left)
-
-can-stand-requires-2 : tie.Need-can-stand-requires-2 Inv-loop2 μ-loop2 Inv-loop μ-loop
-can-stand-requires-2 c κs = let p = st₂ c .pre in (p .0, p .1, p .2, rule (st₂ c) (m₂ c .loop2 .at) (m₂ c .loop2 .i) (m₂ c .loop2 .inv .0) (test₂ c))
-
-failed₂ : (c : tie.Then4 Inv-loop2 μ-loop2 Inv-loop μ-loop) → let t = c .before .before in ok (st₂ t) (constraintAt (s (st₂ t)) (m₂ t .loop2 .at)) ≡ false
-failed₂ c = sym (c .before .can-stand2 .ensures) ∙ not-true _ (c .if4 .taken)
-
-constraint-run-requires-2 : tie.Need-constraint-run-requires-2 Inv-loop2 μ-loop2 Inv-loop μ-loop
-constraint-run-requires-2 c κs =
-    let t = c .before .before in let l = m₂ t .loop2 in let p = st₂ t .pre in
-    (p .0, p .1, p .2, rule (st₂ t) (l .at) (l .i) (l .inv .0) (test₂ t), p .6, p .7, falls (st₂ t) (l .at) (l .i) (l .inv .0) (test₂ t) (failed₂ c))
-
-returns-3 : tie.Need-returns-3 Inv-loop2 μ-loop2 Inv-loop μ-loop
-returns-3 c =
-    let y = c .before in let t = y .before .before in let l = m₂ t .loop2 in
-    stops (st₂ t) (l .at) (l .i) (l .inv .0) (test₂ t) (c .constraint-run2 .result) (failed₂ y) (c .constraint-run2 .ensures .0) (c .constraint-run2 .ensures .1)
-
-next-requires-2 : tie.Need-next-requires-2 Inv-loop2 μ-loop2 Inv-loop μ-loop
-next-requires-2 c κs = let t = c .before .before in let l = m₂ t .loop2 in here (st₂ t) (l .at) (l .i) (l .inv .0) (test₂ t) .whole
-
-add-i-2 : tie.Need-add-i-2 Inv-loop2 μ-loop2 Inv-loop μ-loop
-add-i-2 c = let t = c .before .before .before in let l = m₂ t .loop2 in let f = rule (st₂ t) (l .at) (l .i) (l .inv .0) (test₂ t) .few in omega arith
-
-loop-less : tie.Need-loop-less Inv-loop2 μ-loop2 Inv-loop μ-loop
-loop-less c =
-    let t = c .before .before .before in let l = m₂ t .loop2 in let b = l .inv .1 in
-    let f = less (st₂ t) (l .at) (l .i) (l .inv .0) (test₂ t) (c .next2 .result) (c .next2 .ensures) in omega arith
-
-loop-again : tie.Need-loop-again Inv-loop2 μ-loop2 Inv-loop μ-loop
-loop-again c =
-    let e = c .before in let y = e .before in let t = y .before in let l = m₂ t .loop2 in
-    on (st₂ t) (l .at) (l .i) (l .inv .0) (test₂ t) (c .next2 .result) (c .next2 .ensures) (sym (y .can-stand2 .ensures) ∙ not-false _ (e .if4 .left))
-
 pub constraints-run-spec : {M : Type 1} → statement M
-constraints-run-spec =
-    tie.close
-    (tie.spec
-    Inv-loop2
-    μ-loop2
-    Inv-loop
-    μ-loop
-    loop-holds
-    loop2-holds
-    bare-at-requires
-    can-stand-requires
-    constraint-run-requires
-    returns
-    next-requires
-    add-i
-    loop2-less
-    loop2-again
-    constraint-at-requires
-    returns-2
-    can-stand-requires-2
-    constraint-run-requires-2
-    returns-3
-    next-requires-2
-    add-i-2
-    loop-less
-    loop-again)
+constraints-run-spec = tie.close (tie.spec first-failing-requires returns constraint-run-requires returns-2)
