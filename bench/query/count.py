@@ -2,9 +2,9 @@
 """The engine's count: beside its search on the boxes of search.py in which nothing is found, so that both test the same
 prefixes; on boxes that are full of points; and beside isl's count of points.
 
-Run by run.sh from the repository's root: count.py ROUNDS FOLDER ENGINE [NAME=PROGRAM..]
-FOLDER has the boxes of the workloads (searches.c), ENGINE is count.c with libprobe.a, each PROGRAM points_isl.c with a
-build of isl. The engine's calls take turns in one process, the least of the rounds counts; the second program and isl
+Run by run.sh from the repository's root: count.py ROUNDS FOLDER ENGINE [before=BEFORE] [NAME=PROGRAM..]
+FOLDER has the boxes of the workloads (searches.c), ENGINE and BEFORE are count.c with libprobe.a, here and of another
+commit, each PROGRAM points_isl.c with a build of isl. The engine's calls take turns in one process, the least of the rounds counts; the second program and isl
 run once. Numbers of points and tallies must agree. Status 1: over all boxes the count takes more than a tenth longer
 than the search."""
 import statistics
@@ -145,6 +145,30 @@ def full_boxes(engine, rounds):
         show([name, f"{asked.points():,}", f"{asked.prefixes():,}"] + [figure(x) for x in asked.nanoseconds()[1:]])
 
 
+def told(engine, calls):
+    """Count and counts of each box: the answers, and the seconds."""
+    lines = [line.split() for line in run([engine, "1"], calls).stdout.splitlines()]
+    return [(line[4:7], line[8:11]) for line in lines], [sum(float(line[i]) for line in lines) for i in (7, 11)]
+
+
+def beside_before(engine, before, rounds, folder):
+    """Both engines in turns, of each the least of the rounds."""
+    head("boxes", "prefixes", "before, count: ns", "count: ns", "before, counts: ns", "counts: ns")
+    families = [(name, calls) for name, _, calls in WORST] + [(name, [line]) for name, line in FULL]
+    for name, calls in families + [(name, workload(folder, name)) for name in WORKLOADS]:
+        least = {before: [float("inf")] * 2, engine: [float("inf")] * 2}
+        for _ in range(rounds):
+            answers = []
+            for program in (before, engine):
+                answer, seconds = told(program, calls)
+                answers.append(answer)
+                least[program] = list(map(min, least[program], seconds))
+            assert answers[0] == answers[1], first_difference(*answers)
+        prefixes = sum(int(count[2]) for count, _ in answers[0])
+        show([f"{name}: {len(calls)}", f"{prefixes:,}"]
+             + [figure(1e9 * least[program][i] / prefixes) for i in (0, 1) for program in (before, engine)])
+
+
 def run_isl(program, calls):
     """Points and seconds of each count; nothing where it took too long."""
     answers = [line.split() for line in run([program, str(ISL_SECONDS)], calls).stdout.splitlines()]
@@ -181,12 +205,17 @@ def beside_isl(engine, rounds, folder, peers):
 
 
 def main(rounds, folder, engine, *peers):
+    peers = dict(peer.split("=", 1) for peer in peers)
+    before = peers.pop("before", None)
     good = beside_search(engine, rounds)
     print()
     full_boxes(engine, rounds)
+    if before:
+        print()
+        beside_before(engine, before, rounds, folder)
     if peers:
         print()
-        beside_isl(engine, rounds, folder, [tuple(peer.split("=", 1)) for peer in peers])
+        beside_isl(engine, rounds, folder, list(peers.items()))
     if not good:
         print(f"the count takes more than {WITHIN} times as long as the search")
     return 0 if good else 1

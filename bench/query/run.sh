@@ -5,8 +5,7 @@
 #   bench/query/run.sh          everything
 #   bench/query/run.sh quick    one round, fewer searches of the workloads
 #   PARTS="search count" ..     some of: bytes fleet search count
-#   LIBRARY=FILE ..             beside it the libprobe.a of another commit, built there by `rt staticlib probe` (before);
-#                               not for the count
+#   LIBRARY=FILE ..             beside it the libprobe.a of another commit, built there by `rt staticlib probe` (before)
 #   COUNT=yes ..                instructions of the searches too, by valgrind
 #   SEED=7 ..                   other workloads (default 1)
 #
@@ -26,9 +25,10 @@ make_workloads
 gcc "${warn[@]}" -Ibench/peers -o $out/searches bench/query/searches.c $out/sets.o target/staticlib/libprobe.a || exit 1
 for w in dispatch limit big tiny slots; do $out/searches $out/$w.work $cases >$out/$w.calls || exit 1; done
 
-# built SUFFIX LIBRARY: both programs over the library
+# built SUFFIX LIBRARY: the programs over the library
 built() {
-  gcc "${warn[@]}" -o $out/bytes$1 bench/query/bytes.c "$2" && gcc "${warn[@]}" -o $out/search$1 bench/query/search.c "$2"
+  local p
+  for p in bytes search count; do gcc "${warn[@]}" -o $out/$p$1 bench/query/$p.c "$2" || return; done
 }
 
 # points NAME FLAG..: isl's count of points, with what finds that build of isl
@@ -81,8 +81,8 @@ if has search; then
 fi
 if has count; then
   echo
-  gcc "${warn[@]}" -o $out/count bench/query/count.c target/staticlib/libprobe.a || exit 1
   peers=()
+  if [ -n "${LIBRARY:-}" ]; then peers+=(before=$out/count-before); fi
   beside_isl points
   python3 bench/query/count.py $rounds $out $out/count "${peers[@]}"
 fi
