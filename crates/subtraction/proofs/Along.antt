@@ -1,7 +1,7 @@
 -- A loop over the basic sets of checked bytes, each of which gives basic sets of the result.
 use mathlib.Core.Path.{_≡_, refl, sym, ap, _∙_, subst}
 use mathlib.Core.Bool.{Bool, true, false}
-use mathlib.Core.List.{List, _∷_}
+use mathlib.Core.List.{List, [], _∷_, append-nil}
 use Prim.Native.Nat.{ℕ, _+_, _≤_, _<_}
 use native.Mathlib.Omega.{arith}
 use lib.IntN.{ℤ}
@@ -9,6 +9,7 @@ use lib.ListN.{length}
 use Rattle.model.specs.Lists.{all, concatMap}
 use Rattle.model.specs.Sets.{BasicSet, Set}
 use Rattle.model.specs.Values.{basicSetOf}
+use Rattle.model.proofs.Count.{and-true}
 use Rattle.model.specs.declared.BasicSet.{BasicSet as Stored}
 use Rattle.codec.specs.Bytes.{decode, number}
 use Rattle.codec.specs.Places.{setFrom, Boundary, Opened, Decoded, endOf}
@@ -22,7 +23,7 @@ use Rattle.results.specs.declared.results.Done.{Done}
 use Rattle.results.specs.Results.{Ready, Emits, Made}
 use Rattle.subtraction.specs.Subtraction.{Level}
 use Rattle.results.proofs.Chained.{made-of}
-use Rattle.subtraction.proofs.Onward.{Onward, onward-start, onward-end, onward-next, onward-stop}
+use Rattle.subtraction.proofs.Onward.{emits-as, Onward, onward-start, onward-end, onward-next, onward-stop}
 
 -- the basic sets of a up to a place are done: f of each, unless g of it is false; K is known of the number of axes
 pub record Along (K : ℕ → Type 0) (f : BasicSet → Set) (g : BasicSet → Bool) (a o : List ℕ) (s : Done) (rows : List (List ℤ)) (place kinds o′ : List ℕ) (t : Done) (pos : ℕ) : Type 0 where
@@ -79,3 +80,7 @@ level-start {n = n} {b = b} y z v d c many = let s = boundary-start n b (z .zero
 pub difference-made : (s t : Set) {o o′ : List ℕ} {r : Done} → Emits (concatMap (cutAll keeps t) s) (all (cutAllFits keeps t) s) o nothing r o′ → Made (differenceFits keeps s t) (difference keeps s t) o r o′
 unfolding difference
 difference-made s t {o = o} {o′ = o′} {r = r} e = made-of (concatMap (cutAll keeps t) s) (all (cutAllFits keeps t) s) o o′ r e
+
+-- of one basic set
+pub one-made : (b : BasicSet) (t : Set) {o o′ : List ℕ} {r : Done} → Emits (cutAll keeps t b) (cutAllFits keeps t b) o nothing r o′ → Made (differenceFits keeps (b ∷ []) t) (difference keeps (b ∷ []) t) o r o′
+one-made b t e = difference-made (b ∷ []) t (emits-as (append-nil (cutAll keeps t b)) (and-true (cutAllFits keeps t b)) e)

@@ -19,6 +19,14 @@ pub record Sets (a b : List ℕ) : Type 0 where
   pub first : number (decode n a) ≡ 0
   pub second : number (decode n b) ≡ 0
 
+-- a valid basic set, and the bytes of a checked set over the same axes
+pub record From (p : Stored) (b : List ℕ) : Type 0 where
+  pub n : ℕ
+  pub valid : Valid n (basicSetOf p)
+  pub divs : p .divs ≤ mostDivisions
+  pub cons : p .cons ≤ mostConstraints
+  pub cutters : number (decode n b) ≡ 0
+
 -- p is to be cut by the `left` basic sets from a place on
 pub record Level (left : ℕ) (p : Stored) (b : List ℕ) (pos : ℕ) : Type 0 where
   pub n : ℕ

@@ -1,12 +1,13 @@
 // The difference: recursion over the cutters left; each level hands each of its pieces to the next at once.
 ghost use mathlib.Core.Path.{_≡_};
+ghost use mathlib.Core.List.{[], _∷_};
 ghost use Rattle.model.specs.Values.{basicSetOf};
 ghost use Rattle.codec.specs.Places.{setFrom};
 ghost use Rattle.algebra.specs.Cut.{keeps, cutAll, cutAllFits, difference, differenceFits};
 ghost use Rattle.candidates.specs.Candidates.{Tables};
 ghost use Rattle.cutting.specs.Cutting.{Spares};
 ghost use Rattle.results.specs.Results.{Ready, Emits, Made};
-ghost use Rattle.subtraction.specs.Subtraction.{Sets, Level, TightAt};
+ghost use Rattle.subtraction.specs.Subtraction.{Sets, From, Level, TightAt};
 use cutting::cut;
 use cutting::piece;
 use joining::any_divisible;
@@ -157,4 +158,34 @@ pub fn subtract(a: &[u8], b: &[u8], out: &mut [u8]) -> Done
         pos = codec::end_of(a, pos + 1);
     }
     t
+}
+
+// One basic set, cut by all of b.
+pub fn subtract_from(p: BasicSet, b: &[u8], out: &mut [u8]) -> Done
+    requires { ⌜ From p (now b) ⌝ }
+    ensures { λ r. ⌜ Made (differenceFits keeps (basicSetOf p ∷ []) (setFrom (now (b .entry)) 0)) (difference keeps (basicSetOf p ∷ []) (setFrom (now (b .entry)) 0)) (now (out .entry)) r (now (out .exit)) ⌝ }
+{
+    let left = codec::count(b);
+    let mut rows = [[0i64; 18]; 64];
+    let mut place = [0usize; 80];
+    let mut kinds = [0u8; 80];
+    let mut past = [[0i64; 18]; limit::PIVOTS];
+    let mut spare = [[0i64; 18]; 64];
+    let t = Done {
+        at: 0,
+        count: 0,
+        fits: true,
+    };
+    cut_first(
+        left,
+        p,
+        b,
+        out,
+        t,
+        &mut rows,
+        &mut place,
+        &mut kinds,
+        &mut past,
+        &mut spare,
+    )
 }

@@ -2,3 +2,4 @@
 mod levels;
 
 pub use levels::subtract;
+pub use levels::subtract_from;
