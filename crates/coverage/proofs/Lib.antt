@@ -1,0 +1,4 @@
+pub mod Laying
+pub mod Calling
+pub mod Told
+pub mod Means

@@ -1,0 +1,3 @@
+pub mod Boxing
+pub mod Calls
+pub mod Readings
