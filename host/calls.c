@@ -58,6 +58,14 @@ static table bytes(char **rest)
     return t;
 }
 
+/* eight numbers of the line */
+static table eight(char **rest)
+{
+    table t = lend_past(8 * sizeof(int32_t), sizeof(int32_t));
+    for (int i = 0; i < 8; i++) ((int32_t *)t.bytes)[i] = (int32_t)strtol(word(rest), NULL, 10);
+    return t;
+}
+
 /* that a call left what it was given as it was */
 static void untouched(const table *t, const table *copy)
 {
@@ -254,21 +262,13 @@ static void print_extreme(int64_t r, const pitsets_fraction *f)
 typedef int64_t extreme(size_t, const uint8_t *, size_t, size_t, int32_t, const int32_t *, const int32_t *,
                         pitsets_fraction *);
 
-/* eight numbers of the line */
-static table coefficients(char **rest)
-{
-    table t = lend_past(8 * sizeof(int32_t), sizeof(int32_t));
-    for (int i = 0; i < 8; i++) ((int32_t *)t.bytes)[i] = (int32_t)strtol(word(rest), NULL, 10);
-    return t;
-}
-
 static void value(char **rest, extreme *call)
 {
     size_t n = number(rest);
     table set = bytes(rest), copy = copy_of(&set);
     size_t k = number(rest);
     int32_t constant = (int32_t)strtol(word(rest), NULL, 10);
-    table axes = coefficients(rest), divisions = coefficients(rest), ca = copy_of(&axes), cd = copy_of(&divisions);
+    table axes = eight(rest), divisions = eight(rest), ca = copy_of(&axes), cd = copy_of(&divisions);
     table out = lend_past(sizeof(pitsets_fraction), sizeof(uint64_t));
     pitsets_fraction *f = (pitsets_fraction *)out.bytes;
     int64_t r = call(n, set.bytes, set.length, k, constant, (int32_t *)axes.bytes, (int32_t *)divisions.bytes, f);
@@ -282,11 +282,16 @@ static void value(char **rest, extreme *call)
 
 typedef int64_t operation(size_t, const uint8_t *, size_t, const uint8_t *, size_t, uint8_t *, size_t);
 
+static void print_bytes(const table *out)
+{
+    for (size_t i = 0; i < out->length; i++) printf("%02x", out->bytes[i]);
+    puts(out->length ? "" : "-");
+}
+
 static void print_table(int64_t r, const table *out)
 {
     printf(r < 0 ? "refused %" PRId64 " " : "gives %" PRId64 " ", r < 0 ? -r : r);
-    for (size_t i = 0; i < out->length; i++) printf("%02x", out->bytes[i]);
-    puts(out->length ? "" : "-");
+    print_bytes(out);
 }
 
 static void two(char **rest, operation *op)
@@ -314,6 +319,71 @@ static void one(char **rest)
     give_back(&out);
 }
 
+/* what the call of a range is given, and what it writes */
+typedef struct {
+    size_t n;
+    table set, low, high, result, length, inside, outside;
+} ranging;
+
+static size_t size_of(const table *length) { return *(const size_t *)length->bytes; }
+
+/* n coordinates; those of the other places are 0 */
+static int is_point(const table *point, size_t n)
+{
+    const int64_t *x = (const int64_t *)point->bytes;
+    for (size_t i = n; i < 8; i++)
+        if (x[i]) return 0;
+    return 1;
+}
+
+static void print_point(const table *point, size_t n)
+{
+    for (size_t i = 0; i < n; i++) printf(" %" PRId64, ((const int64_t *)point->bytes)[i]);
+}
+
+static void print_range(int64_t r, const ranging *q)
+{
+    static const char *const words[] = {[PITSETS_SURE] = "sure", [PITSETS_NEVER] = "never",
+                                        [PITSETS_DEPENDS] = "depends", [PITSETS_SPENT_INSIDE] = "spent 1",
+                                        [PITSETS_SPENT_OUTSIDE] = "spent 2"};
+    size_t n = r == PITSETS_DEPENDS ? q->n : 0;
+    if (!is_point(&q->inside, n) || !is_point(&q->outside, n)) puts("a coordinate where there is no point");
+    else if (r < 0 && size_of(&q->length)) puts("a length after a refusal");
+    else if (r < 0) print_table(r, &q->result);
+    else if (r < PITSETS_SURE || r > PITSETS_SPENT_OUTSIDE) puts("bad result");
+    else {
+        printf("%s", words[r]);
+        print_point(&q->inside, n);
+        if (n) printf(" /");
+        print_point(&q->outside, n);
+        printf(" | %zu ", size_of(&q->length));
+        print_bytes(&q->result);
+    }
+}
+
+static void range(char **rest)
+{
+    size_t n = number(rest);
+    table result = lend(number(rest));
+    ranging q = {.n = n, .result = result, .set = bytes(rest)};
+    uint32_t inside_limit = (uint32_t)number(rest), outside_limit = (uint32_t)number(rest);
+    q.low = eight(rest);
+    q.high = eight(rest);
+    q.length = lend_past(sizeof(size_t), sizeof(size_t));
+    q.inside = lend_past(8 * sizeof(int64_t), sizeof(int64_t));
+    q.outside = lend_past(8 * sizeof(int64_t), sizeof(int64_t));
+    table set = copy_of(&q.set), low = copy_of(&q.low), high = copy_of(&q.high);
+    int64_t r = pitsets_range(q.n, q.set.bytes, q.set.length, (int32_t *)q.low.bytes, (int32_t *)q.high.bytes,
+                              inside_limit, outside_limit, q.result.bytes, q.result.length, (size_t *)q.length.bytes,
+                              (int64_t *)q.inside.bytes, (int64_t *)q.outside.bytes);
+    print_range(r, &q);
+    untouched(&q.set, &set);
+    untouched(&q.low, &low);
+    untouched(&q.high, &high);
+    table *all[] = {&q.set, &q.low, &q.high, &q.result, &q.length, &q.inside, &q.outside, &set, &low, &high};
+    for (size_t i = 0; i < sizeof all / sizeof *all; i++) give_back(all[i]);
+}
+
 int main(void)
 {
     char *line = NULL;
@@ -325,6 +395,7 @@ int main(void)
         else if (!strcmp(w, "fleet")) fleet(&rest);
         else if (!strcmp(w, "count")) count(&rest);
         else if (!strcmp(w, "counts")) counts(&rest);
+        else if (!strcmp(w, "range")) range(&rest);
         else if (!strcmp(w, "greatest")) value(&rest, pitsets_greatest);
         else if (!strcmp(w, "least")) value(&rest, pitsets_least);
         else if (!strcmp(w, "states")) states(&rest);

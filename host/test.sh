@@ -20,7 +20,7 @@ check() {
   fi
 }
 
-kinds="member fleet count counts greatest least states union intersection difference complement"
+kinds="member fleet count counts range greatest least states union intersection difference complement"
 
 # compared NAME COUNT SEED PROGRAM..: the generated calls' answers are second's; its own counts join the sum
 compared() {
@@ -43,12 +43,14 @@ check "header alone, C99" gcc -std=c99 -Wall -Wextra -Werror -fsyntax-only -x c 
 check "header alone, C++" g++ -Wall -Wextra -Werror -fsyntax-only -x c++ ../include/pitsets.h
 check "example" sh -c './example | diff - example.expected'
 check "example of counts" sh -c './ways | diff - ways.expected'
+check "example of ranges" sh -c './ranges | diff - ranges.expected'
 check "example of greatest values" sh -c './most | diff - most.expected'
 check "example of states" sh -c './states | diff - states.expected'
 check "two threads" ./threads
 check "installed and linked by pkg-config" sh -c "make -s install PREFIX=$dir && rm -f pitsets.pc && gcc -o $dir/example example.c \$(PKG_CONFIG_PATH=$dir/lib/pkgconfig pkg-config --cflags --libs pitsets) && $dir/example | diff - example.expected"
-check "stack of 1 MB" sh -c 'ulimit -s 1024 && for e in example ways most states; do ./$e | diff - $e.expected || exit 1; done'
+check "stack of 1 MB" sh -c 'ulimit -s 1024 && for e in example ways ranges most states; do ./$e | diff - $e.expected || exit 1; done'
 check "stored counts" "$tools/hexscript" calls ./calls -- ../tests/calls/how-many-ways.txt
+check "stored ranges" "$tools/hexscript" calls ./calls -- ../tests/calls/scale-readings.txt
 check "stored values" "$tools/hexscript" calls ./calls -- ../tests/calls/greatest-and-least.txt
 check "stored states" "$tools/hexscript" calls ./calls -- ../tests/calls/named-states.txt
 compared "calls" "$count" 1 ./calls

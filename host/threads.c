@@ -38,6 +38,21 @@ static int counted(const uint8_t *set, size_t length, int round)
     return pitsets_count_in(1, set, length, &low, &high, 63, &tested) == PITSETS_SPENT && tested == 63;
 }
 
+/* of 2170 to 2185 those from 2180 on are not left, which is what the call leaves */
+static int ranged(const uint8_t *set, size_t length, int round)
+{
+    const int32_t low[8] = {2170}, high[8] = {2185};
+    uint8_t outside[200];
+    int64_t in[8], out[8];
+    size_t size = 0;
+    memset(outside, round & 0xFF, sizeof outside);
+    memset(in, round & 0xFF, sizeof in);
+    memset(out, round & 0xFF, sizeof out);
+    int64_t said = pitsets_range(1, set, length, low, high, 1, 11, outside, sizeof outside, &size, in, out);
+    if (said != PITSETS_DEPENDS || size != 135 || outside[size]) return 0;
+    return in[0] == 2170 && out[0] == 2180 && !in[7] && !out[7];
+}
+
 /* over the points with floor(x / 10) = 218, the least 2 x − 5000 is −640 and the greatest −622 */
 static int weighed(int round)
 {
@@ -89,7 +104,8 @@ static void *work(void *given)
         if (pitsets_member(1, first, (size_t)length, 2180, 0, 0, 0, 0, 0, 0, 0) != 0) *failed = 1;
         uint64_t mask = (uint64_t)i;
         if (pitsets_fleet(1, first, (size_t)length, fleet, 4, &mask) != 2 || mask != 5) *failed = 1;
-        if (!counted(first, (size_t)length, i) || !weighed(i) || !planned(&mine->plan)) *failed = 1;
+        if (!counted(first, (size_t)length, i) || !ranged(first, (size_t)length, i)) *failed = 1;
+        if (!weighed(i) || !planned(&mine->plan)) *failed = 1;
     }
     return NULL;
 }

@@ -1,6 +1,7 @@
 /* Integer rule sets for the pit board: membership of a point and of a whole fleet, union, intersection, difference and
- * complement of sets, how many points of a box are in a set, the greatest and the least value of an expression, and
- * states of a plan, to which rules are added one by one and which a planner can go back to.
+ * complement of sets, how many points of a box are in a set, whether all or none of them are, the greatest and the
+ * least value of an expression, and states of a plan, to which rules are added one by one and which a planner can go
+ * back to.
  *
  * A set is bytes in a table of yours (layout: document 01, "Bytes of a set"). n is the number of axes, 1 to 8. A rule may
  * have its own number, 1 to 65,535, as the rulebook has it (document 02, request 6): commands 16 and 17 are 13 and 14
@@ -51,8 +52,9 @@ enum pitsets_refusal {
     PITSETS_TOO_MANY = 9,      /* over 32 basic sets, 8 divisions or 48 rules in what is given */
     PITSETS_OVERFLOW = 10,     /* a join over 8 divisions, a candidate or a state over 48 rules, or a 33rd basic set in the result */
     PITSETS_TABLE = 11,        /* the result is longer than its table, or there are more counts than places */
-    PITSETS_POINT = 12,        /* a coordinate of a point or a box out of range, or an absent axis that is not 0 */
-    PITSETS_LIMIT = 13,        /* the limit of a count is not 1 to 1,000,000 */
+    PITSETS_POINT = 12,        /* a coordinate of a point or a box out of range, an absent axis that is not 0, or, of a
+                                  range, a low over its high */
+    PITSETS_LIMIT = 13,        /* a limit of a count or of a range is not 1 to 1,000,000 */
     PITSETS_FLEET_LIST = 16,   /* more than 64 points, or no whole number of points */
     PITSETS_NUMBER = 17,       /* a rule of command 16 or 17 with number 0 */
     PITSETS_NAME = 18,         /* the name of a mark is over 15 or, in going back, no mark has it */
@@ -102,7 +104,7 @@ static inline const char *pitsets_reason(int64_t number)
     case PITSETS_TOO_MANY: return "over 32 basic sets, 8 divisions or 48 rules";
     case PITSETS_OVERFLOW: return "join, candidate, state or result over its limit";
     case PITSETS_TABLE: return "result longer than its table";
-    case PITSETS_POINT: return "coordinate out of range or absent axis not 0";
+    case PITSETS_POINT: return "coordinate out of range, absent axis not 0 or low over high";
     case PITSETS_LIMIT: return "limit not 1 to 1000000";
     case PITSETS_FLEET_LIST: return "more than 64 points or no whole number of points";
     case PITSETS_NUMBER: return "rule number 0 in a command 16 or 17";
@@ -162,6 +164,34 @@ int64_t pitsets_counts(size_t n, const uint8_t *set, size_t set_length, int32_t 
                        int32_t l5, int32_t l6, int32_t l7, int32_t l8, int32_t h1, int32_t h2, int32_t h3, int32_t h4,
                        int32_t h5, int32_t h6, int32_t h7, int32_t h8, size_t axis, uint32_t limit, uint32_t *counts,
                        size_t counts_length, uint32_t *tested);
+
+/* What pitsets_range says where it does not refuse. */
+enum pitsets_reading {
+    PITSETS_SURE = 1,         /* every point of the box is in the set */
+    PITSETS_NEVER = 2,        /* no point of the box is */
+    PITSETS_DEPENDS = 3,      /* some are, some are not: the first of each kind is in `inside` and `outside` */
+    PITSETS_SPENT_INSIDE = 4, /* not found out: inside_limit was not enough for the points in the set */
+    PITSETS_SPENT_OUTSIDE = 5 /* not found out: outside_limit was not enough for the points outside it */
+};
+
+/* A scale reading between two weights: whether the points (x1, .., xn) with low[0] ≤ x1 ≤ high[0] and so on, a box, are
+ * all in the set, or none of them, or it depends. Lows and highs are −1,048,576 to 1,048,576, no low is over its high,
+ * those over n are 0. `low`, `high`, `inside` and `outside` have eight numbers each, also where n is less.
+ * PITSETS_DEPENDS: `inside` is the first point of the box that is in the set, `outside` the first that is not, first in
+ * dictionary order, x1 before x2. After any other result, and on absent axes, their numbers are 0.
+ * The set is searched for its first point in the box as document 01's search does it; then what of the box is outside
+ * the set, the difference of the two, is written to `result` and searched so too. inside_limit and outside_limit, 1 to
+ * 1,000,000, are how many prefixes of coordinates either search may test. Where one is not enough the result says so,
+ * also where the other search alone would tell the answer, and says PITSETS_SPENT_INSIDE where neither is.
+ * The difference is the first *length bytes of `result`, a set for other calls, also where a search ran out. Past it
+ * the table is filled with 0; after a refusal it is all 0, and *length is 0. The box has two rules for each axis, without
+ * a number, which count to the 48 of a candidate (10); what is cut is written as pitsets_difference writes it.
+ * `low` and `high` are aligned as int32_t is, `inside` and `outside` as int64_t, `length` as size_t. Nothing that the
+ * call writes may overlap anything else of it. Refusals: 1, the set's own, 12 (a low over its high too, which a count
+ * takes), 13 (either limit), 10, 11. */
+int64_t pitsets_range(size_t n, const uint8_t *set, size_t set_length, const int32_t low[8], const int32_t high[8],
+                      uint32_t inside_limit, uint32_t outside_limit, uint8_t *result, size_t result_length,
+                      size_t *length, int64_t inside[8], int64_t outside[8]);
 
 /* The greatest and the least value of constant + axes[0]·x1 + .. + axes[7]·x8 + divisions[0]·q1 + .. + divisions[7]·q8
  * over the points with fractions of basic set number k of the set, from 1: whatever fractions x and q meet its rules

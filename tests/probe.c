@@ -34,6 +34,8 @@ size_t probe_union(size_t, const uint8_t *, size_t, const uint8_t *, size_t, uin
 size_t probe_intersection(size_t, const uint8_t *, size_t, const uint8_t *, size_t, uint8_t *, size_t);
 size_t probe_difference(size_t, const uint8_t *, size_t, const uint8_t *, size_t, uint8_t *, size_t);
 size_t probe_complement(size_t, const uint8_t *, size_t, uint8_t *, size_t);
+uint64_t probe_range(size_t, const uint8_t *, size_t, uint32_t, uint32_t, const int32_t *, const int32_t *, uint8_t *,
+                     size_t, size_t *, int64_t *, int64_t *);
 
 static table bytes(char **rest)
 {
@@ -302,14 +304,27 @@ static table lent(size_t room)
     return t;
 }
 
-static void answer(size_t r, table t)
+static int kept(const table *t)
 {
     for (size_t i = 0; i < GUARD; i++)
-        if (t.bytes[t.length + i] != OLD) { puts("wrote behind the table"); free(t.bytes); return; }
-    if (r > SIZE_MAX - 100) printf("refused %zu ", SIZE_MAX - r);
-    else printf("gives %zu ", r);
-    for (size_t i = 0; i < t.length; i++) printf("%02x", t.bytes[i]);
-    puts(t.length ? "" : "-");
+        if (t->bytes[t->length + i] != OLD) return 0;
+    return 1;
+}
+
+static void print_bytes(const table *t)
+{
+    for (size_t i = 0; i < t->length; i++) printf("%02x", t->bytes[i]);
+    puts(t->length ? "" : "-");
+}
+
+static void answer(size_t r, table t)
+{
+    if (!kept(&t)) puts("wrote behind the table");
+    else {
+        if (r > SIZE_MAX - 100) printf("refused %zu ", SIZE_MAX - r);
+        else printf("gives %zu ", r);
+        print_bytes(&t);
+    }
     free(t.bytes);
 }
 
@@ -327,6 +342,60 @@ static void complement(char **rest)
     size_t n = number(rest);
     table t = lent(number(rest)), a = bytes(rest);
     answer(probe_complement(n, a.bytes, a.length, t.bytes, t.length), t);
+    free(a.bytes);
+}
+
+/* what the call of a range says and writes */
+enum { SURE, NEVER, DEPENDS, SPENT_INSIDE, SPENT_OUTSIDE };
+typedef struct { uint64_t r; size_t size; table table; int64_t inside[8], outside[8]; } ranged;
+
+/* n coordinates; those of the other places are 0 */
+static int is_point(const int64_t *x, size_t n)
+{
+    for (size_t i = n; i < 8; i++)
+        if (x[i]) return 0;
+    return 1;
+}
+
+static void print_point(const int64_t *x, size_t n)
+{
+    for (size_t i = 0; i < n; i++) printf(" %" PRId64, x[i]);
+}
+
+static void print_range(const ranged *t, size_t axes)
+{
+    static const char *const words[] = {"sure", "never", "depends", "spent 1", "spent 2"};
+    size_t n = t->r == DEPENDS ? axes : 0;
+    if (!kept(&t->table)) puts("wrote behind the table");
+    else if (!is_point(t->inside, n) || !is_point(t->outside, n)) puts("a coordinate where there is no point");
+    else if (t->r >= 100 && t->size) puts("a length with a refusal");
+    else if (t->r > SPENT_OUTSIDE && t->r < 100) puts("bad result");
+    else {
+        if (t->r >= 100) printf("refused %" PRIu64 " ", t->r - 100);
+        else printf("%s", words[t->r]);
+        print_point(t->inside, n);
+        if (n) printf(" /");
+        print_point(t->outside, n);
+        if (t->r < 100) printf(" | %zu ", t->size);
+        print_bytes(&t->table);
+    }
+}
+
+static void range(char **rest)
+{
+    size_t n = number(rest);
+    ranged t = {.size = UNWRITTEN, .table = lent(number(rest))};
+    table a = bytes(rest);
+    uint32_t within = (uint32_t)number(rest), beyond = (uint32_t)number(rest);
+    int32_t l[8], h[8];
+    eight(rest, l);
+    eight(rest, h);
+    memset(t.inside, OLD, sizeof t.inside);
+    memset(t.outside, OLD, sizeof t.outside);
+    t.r = probe_range(n, a.bytes, a.length, within, beyond, l, h, t.table.bytes, t.table.length, &t.size, t.inside,
+                      t.outside);
+    print_range(&t, n);
+    free(t.table.bytes);
     free(a.bytes);
 }
 
@@ -353,6 +422,7 @@ int main(void)
         else if (!strcmp(w, "intersection")) of_two(&rest, probe_intersection);
         else if (!strcmp(w, "difference")) of_two(&rest, probe_difference);
         else if (!strcmp(w, "complement")) complement(&rest);
+        else if (!strcmp(w, "range")) range(&rest);
         else puts("bad line");
     }
     free(line);

@@ -7,3 +7,4 @@ pub mod Fleets
 pub mod Extremes
 pub mod Valued
 pub mod Plans
+pub mod Ranges

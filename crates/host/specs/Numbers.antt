@@ -18,6 +18,10 @@ use Rattle.fleet.specs.Fleet.{Fleet}
 use Rattle.fleet.specs.Looking.{maskIn}
 use Rattle.optimum.specs.Value.{Extreme, empty, unbounded, tooWide, tooLong, attained}
 use Rattle.extremes.specs.Words.{valueWords}
+use Rattle.boxes.specs.Range.{Reading}
+use Rattle.coverage.specs.Readings.{readingIs, bytesIn}
+use Rattle.coverage.specs.declared.ranges.Range.{Range}
+use Rattle.coverage.specs.declared.ranges.Range.the-variants.{Sure, Never, Depends, SpentInside, SpentOutside, Refused as RangeRefused}
 use Rattle.model.specs.Sets.{Constraint}
 use Rattle.model.specs.Values.{kindIs}
 use Rattle.memory.specs.Memory.{Memory}
@@ -93,6 +97,24 @@ pub record ValueHosted (a : Answer Extreme) (r : ℤ) (words : List ℕ) : Type 
 -- a number of two words as C has it: the higher one signed
 abbrev pub wideOf : ℕ → ℕ → ℤ
 wideOf low high = toZ w64 high *ℤ pos 18446744073709551616 +ℤ pos low
+
+-- of a range (02, request 5)
+abbrev pub rangeNumber : Range → ℤ
+rangeNumber Sure = pos 1
+rangeNumber Never = pos 2
+rangeNumber Depends = pos 3
+rangeNumber SpentInside = pos 4
+rangeNumber SpentOutside = pos 5
+rangeNumber (RangeRefused k) = negℤ (pos k)
+
+-- the contract of a range that is `a`: the number r, the whole table of `room` bytes after the call, how many of them are the difference of
+-- the box and the set, and the two points
+pub record RangeHosted (room : ℕ) (a : Answer Reading) (r : ℤ) (table : List ℕ) (size : ℕ) (inside outside : List ℤ) : Type 0 where
+  pub number : r ≡ rangeNumber (readingIs a .range)
+  pub bytes : table ≡ tableOf room (bytesIn a)
+  pub length : size ≡ readingIs a .length
+  pub first-inside : inside ≡ readingIs a .inside
+  pub first-outside : outside ≡ readingIs a .outside
 
 -- of a state (02, request 8): its word, 0 where there is no state
 abbrev pub saidNumber : Said → ℤ

@@ -3,6 +3,7 @@ mod asking;
 mod counts;
 mod looking;
 mod operating;
+mod ranging;
 mod stepping;
 mod values;
 
@@ -14,6 +15,7 @@ pub use operating::pitsets_complement;
 pub use operating::pitsets_difference;
 pub use operating::pitsets_intersection;
 pub use operating::pitsets_union;
+pub use ranging::pitsets_range;
 pub use stepping::pitsets_state_add_in;
 pub use stepping::pitsets_state_back_in;
 pub use stepping::pitsets_state_mark_in;

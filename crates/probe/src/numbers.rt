@@ -7,6 +7,7 @@ ghost use Rattle.results.specs.Outcome.{outcomeIs};
 ghost use Rattle.probe.specs.Numbers.{memberNumber, searchNumber, lengthNumber};
 ghost use Rattle.probe.specs.Numbers.{verdictNumber, testNumber, pivotsNumber};
 ghost use Rattle.probe.specs.Counts.{countNumber};
+ghost use Rattle.probe.specs.Ranges.{rangeNumber};
 
 pub fn member_number(m: query::Membership) -> u64
     ensures { λ r. ⌜ r ≡ memberNumber (memberIs m) ⌝ }
@@ -68,6 +69,19 @@ pub fn count_number(o: counting::Outcome) -> u64
         counting::Outcome::Done => 0,
         counting::Outcome::Spent => 2,
         counting::Outcome::Refused(k) => 100 + k as u64,
+    }
+}
+
+pub fn range_number(x: coverage::Range) -> u64
+    ensures { λ r. ⌜ r ≡ rangeNumber x ⌝ }
+{
+    match x {
+        coverage::Range::Sure => 0,
+        coverage::Range::Never => 1,
+        coverage::Range::Depends => 2,
+        coverage::Range::SpentInside => 3,
+        coverage::Range::SpentOutside => 4,
+        coverage::Range::Refused(k) => 100 + k as u64,
     }
 }
 
