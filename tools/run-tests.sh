@@ -54,6 +54,7 @@ step "histogram of 16,000 scripts and calls" $bin/generate histogram 16000 3
 step "meaning, library" $bin/meaning 2000 1
 step "meaning, program" $bin/meaning 100 2 $bin/second calls
 step "meaning, counts" $bin/meaning counts 6000 1
+step "meaning, ranges" $bin/meaning ranges 6000 1
 step "meaning, extremes" $bin/meaning extremes 10000 1
 step "meaning, states" $bin/meaning states 5000 1
 step "compare, scripts" $bin/compare $bin/second 100 1

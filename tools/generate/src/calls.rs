@@ -8,6 +8,7 @@ use crate::hard;
 use crate::model::{encode, Set};
 use crate::numbers::{numbered, written};
 use crate::queries::{any_box, any_limit, any_point, widest_box};
+use crate::ranges;
 use crate::rng::Rng;
 use crate::runs;
 use crate::sets::World;
@@ -16,9 +17,9 @@ use crate::wider;
 use hexscript::layout::LONGEST_SET;
 use hexscript::tokens::hex;
 
-pub const KINDS: [&str; 16] = [
-    "states", "check", "part", "member", "holder", "fleet", "search", "count", "counts", "test", "greatest", "least",
-    "union", "intersection", "difference", "complement",
+pub const KINDS: [&str; 17] = [
+    "states", "check", "part", "member", "holder", "fleet", "search", "count", "counts", "range", "test", "greatest",
+    "least", "union", "intersection", "difference", "complement",
 ];
 
 /// Bytes of the set, some of its rules with numbers, damaged for a part of the calls.
@@ -176,6 +177,7 @@ pub fn call(seed: u64, index: u64, kinds: &[&str]) -> String {
         "fleet" => fleets::call(rng, world),
         "search" => search(rng, world),
         kind @ ("count" | "counts") => counting::call(rng, world, kind),
+        "range" => ranges::call(rng, world),
         "test" => test(rng, world),
         kind @ ("greatest" | "least") => extremes::call(rng, world, kind),
         "states" => walks::call(rng),

@@ -1,6 +1,6 @@
 //! What the generated scripts and calls reach, by `second`.
 
-use crate::{calls, counting, events, extremes, fleets, numbers, runs, scripts, states};
+use crate::{calls, counting, events, extremes, fleets, numbers, ranges, runs, scripts, states};
 use hexscript::layout::{cut, find, set_of, AXES, END, LOAD, SCRIPT};
 use hexscript::tokens::unhex;
 use second::algebra::{complement, difference, intersection, union, Watch};
@@ -60,6 +60,8 @@ fn count_built(basic: &BasicSet, outcome: Outcome, counts: &mut Counts) {
 
 /// What only a call can reach: the count is no command of a script.
 pub const COUNTING: [&str; 5] = ["refused 19", "count count", "count spent", "counts count", "counts spent"];
+/// The same of the range.
+pub const RANGES: [&str; 4] = ["range sure", "range never", "range depends", "range spent"];
 /// What only a call can reach: the fleet is no command of a script.
 pub const FLEET: [&str; 2] = ["refused 16", "fleet seen"];
 /// The same of greatest and least.
@@ -82,7 +84,7 @@ pub const STATES: [&str; 6] =
 
 /// All that only a call can reach.
 pub fn asked_only() -> impl Iterator<Item = &'static str> {
-    COUNTING.into_iter().chain(FLEET).chain(EXTREMES).chain(STATES)
+    COUNTING.into_iter().chain(RANGES).chain(FLEET).chain(EXTREMES).chain(STATES)
 }
 
 /// Every name that has to occur.
@@ -319,6 +321,13 @@ pub fn of_searches(count: u64, seed: u64) -> Counts {
 pub fn of_counts(count: u64, seed: u64) -> Counts {
     let mut counts = Counts::new();
     (0..count).for_each(|index| counting::count(&calls::call(seed, index, &["count", "counts"]), &mut counts));
+    counts
+}
+
+/// What so many calls of the range reach.
+pub fn of_ranges(count: u64, seed: u64) -> Counts {
+    let mut counts = Counts::new();
+    (0..count).for_each(|index| ranges::count(&calls::call(seed, index, &["range"]), &mut counts));
     counts
 }
 

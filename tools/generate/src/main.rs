@@ -6,6 +6,8 @@
 //! `generate searches COUNT SEED`        what COUNT calls of the search reach: long runs of failing prefixes, by the rules
 //!                                       that fail and by where the limit falls
 //! `generate counts COUNT SEED`          what COUNT calls of the count reach: sets, chosen axes, refusals, limits
+//! `generate ranges COUNT SEED`          what COUNT calls of the range reach: answers, sets, boxes, limits, tables,
+//!                                       refusals
 //! `generate fleets COUNT SEED`          what COUNT calls of the fleet reach: lists, refusals, which points are in
 //! `generate extremes COUNT SEED`        what COUNT calls of greatest and least reach: expressions, refusals, answers in
 //!                                       either half, turns of the second one
@@ -15,13 +17,14 @@
 //!                                       `part`), or operations
 
 use generate::histogram::Counts;
-use generate::{calls, counting, extremes, fleets, histogram, numbers, runs, scripts, states};
+use generate::{calls, counting, extremes, fleets, histogram, numbers, ranges, runs, scripts, states};
 use hexscript::tokens::hex;
 use std::io::Write;
 use std::process::ExitCode;
 
 const USAGE: &str = "generate scripts COUNT SEED DIR|- | calls COUNT SEED [KIND..] | \
-                     histogram|tests|searches|counts|fleets|extremes|states COUNT SEED | numbers COUNT SEED KIND..";
+                     histogram|tests|searches|counts|ranges|fleets|extremes|states COUNT SEED | \
+                     numbers COUNT SEED KIND..";
 
 /// One test in so many has to be wide at 64 bits.
 const CARRIED_ONE_IN: u64 = 25;
@@ -57,8 +60,8 @@ fn count_of(counts: &Counts, name: &str) -> usize {
 }
 
 /// Each wanted name is a check: it must occur among the scripts and among the calls (14 and 15 are of scripts only; a
-/// test of its own, a count, a fleet, greatest and least and walks are of calls only; what calls of the test build is
-/// for `tests` to say).
+/// test of its own, a count, a range, a fleet, greatest and least and walks are of calls only; what calls of the test
+/// build is for `tests` to say).
 fn print_histogram(count: u64, seed: u64) -> ExitCode {
     let by_scripts = histogram::of_scripts(count, seed);
     let by_calls = histogram::of_calls(count, seed);
@@ -118,6 +121,10 @@ fn print_counts(count: u64, seed: u64) -> ExitCode {
     closing(&print_each(&histogram::of_counts(count, seed), &counting::EVENTS.map(str::to_string)))
 }
 
+fn print_ranges(count: u64, seed: u64) -> ExitCode {
+    closing(&print_each(&histogram::of_ranges(count, seed), &ranges::EVENTS.map(str::to_string)))
+}
+
 fn print_fleets(count: u64, seed: u64) -> ExitCode {
     closing(&print_each(&histogram::of_fleets(count, seed), &fleets::EVENTS.map(str::to_string)))
 }
@@ -152,6 +159,7 @@ fn run(words: &[&str]) -> Result<ExitCode, String> {
         ["tests", count, seed] => Ok(print_tests(number(count)?, number(seed)?)),
         ["searches", count, seed] => Ok(print_searches(number(count)?, number(seed)?)),
         ["counts", count, seed] => Ok(print_counts(number(count)?, number(seed)?)),
+        ["ranges", count, seed] => Ok(print_ranges(number(count)?, number(seed)?)),
         ["fleets", count, seed] => Ok(print_fleets(number(count)?, number(seed)?)),
         ["extremes", count, seed] => Ok(print_extremes(number(count)?, number(seed)?)),
         ["states", count, seed] => Ok(print_states(number(count)?, number(seed)?)),

@@ -5,7 +5,7 @@ use crate::rng::Rng;
 const FAR: [i32; 6] = [1_048_576, -1_048_576, 1_048_577, -1_048_577, i32::MAX, i32::MIN];
 
 /// Puts one number where it is refused, or at the very end of its range.
-fn spoil(rng: &mut Rng, n: usize, values: &mut [i32; 8]) {
+pub(crate) fn spoil(rng: &mut Rng, n: usize, values: &mut [i32; 8]) {
     if rng.chance(50) {
         values[rng.below(n)] = rng.pick(&FAR);
     } else {
@@ -26,7 +26,7 @@ pub fn any_point(rng: &mut Rng, n: usize) -> [i32; 8] {
 }
 
 /// Puts a low over its high: on every side that has two values or more, or on one axis only that is not the first.
-fn shut(rng: &mut Rng, n: usize, low: &mut [i32; 8], high: &mut [i32; 8]) {
+pub(crate) fn shut(rng: &mut Rng, n: usize, low: &mut [i32; 8], high: &mut [i32; 8]) {
     if n == 1 || rng.chance(30) {
         std::mem::swap(low, high);
     } else {

@@ -56,6 +56,11 @@ fn runs(set: &second::Set, sides: &Sides, limit: u32) -> (Vec<Run>, u32) {
     (all, tested)
 }
 
+/// Whether a search has a long run.
+pub(crate) fn any_long(set: &second::Set, sides: &Sides, limit: u32) -> bool {
+    !runs(set, sides, limit).0.is_empty()
+}
+
 /// What of a failing rule moves with the axis.
 fn moving(basic: &BasicSet, rule: usize, axis: usize) -> &'static str {
     let rule = &basic.rules[rule];

@@ -163,7 +163,7 @@ impl World {
     }
 
     /// Two basic sets with 7 to 10 divisions together, all different.
-    fn about_eight(&self, rng: &mut Rng) -> (Basic, Basic) {
+    pub(crate) fn about_eight(&self, rng: &mut Rng) -> (Basic, Basic) {
         let (split, all) = (3 + rng.below(3), 7 + rng.below(4));
         let division = |i: usize| Division { d: 2 + i as u16, c: i as i32, axes: unit(0) };
         let basic = |rng: &mut Rng, places: std::ops::Range<usize>, positive: bool| Basic {

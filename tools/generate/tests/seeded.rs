@@ -82,6 +82,6 @@ fn a_multiplied_rule_stays_within_its_ranges() {
 fn wanted_names_are_all_there() {
     assert_eq!(
         histogram::wanted().len(),
-        16 + 4 + 3 + 5 + 2 + 10 + 6 + 2 + events::EVENTS.len() + runs::EVENTS.len() + 9 + 8 + 4 * 4 + 8
+        16 + 4 + 3 + 5 + 4 + 2 + 10 + 6 + 2 + events::EVENTS.len() + runs::EVENTS.len() + 9 + 8 + 4 * 4 + 8
     );
 }

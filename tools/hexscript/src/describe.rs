@@ -70,7 +70,7 @@ pub fn script(bytes: &[u8]) -> String {
 pub fn call(line: &str) -> String {
     let sets = |i: usize, word: &str, kind: &str| match kind {
         "union" | "intersection" | "difference" => i == 3 || i == 4,
-        "complement" => i == 3,
+        "complement" | "range" => i == 3,
         "holder" => i == 2 || i == 3,
         _ => i == 2 && !word.is_empty(),
     };

@@ -37,7 +37,7 @@ struct Case {
     b: model::Set,
 }
 
-const ROOM: usize = 4_000;
+pub const ROOM: usize = 4_000;
 
 pub fn verdict(good: bool, story: impl FnOnce() -> String) -> Verdict {
     if good { Verdict::Good } else { Verdict::Bad(story()) }
@@ -49,7 +49,7 @@ pub fn meaning(set: &[model::Basic]) -> Set {
 }
 
 /// The set with its numbers, and where its basic sets lie in its bytes.
-fn as_written(set: &[model::Basic]) -> Set {
+pub fn as_written(set: &[model::Basic]) -> Set {
     read(&encode(set)).expect("the generator's own bytes")
 }
 
@@ -79,7 +79,7 @@ fn result(answer: &str) -> Option<Set> {
 }
 
 /// An upper bound on pieces and on a piece's bytes decides whether 10 or 11 may come.
-fn may_refuse(first: &[model::Basic], cutters: &[model::Basic]) -> bool {
+pub fn may_refuse(first: &[model::Basic], cutters: &[model::Basic]) -> bool {
     let opposites = |b: &model::Basic| b.rules.iter().map(|r| 1 + usize::from(r.equality)).sum::<usize>();
     let pieces = cutters.iter().map(opposites).fold(first.len(), |p, o| p.saturating_mul(o.max(1)));
     let most = |f: fn(&model::Basic) -> usize| {
@@ -101,7 +101,7 @@ fn pairs_may_refuse(a: &[model::Basic], b: &[model::Basic]) -> bool {
 }
 
 /// A kept candidate is tight and has a point with fractions: on sets this small the test is never wide.
-fn kept_have_points(n: usize, set: &[Basic]) -> Result<(), String> {
+pub fn kept_have_points(n: usize, set: &[Basic]) -> Result<(), String> {
     for (i, basic) in set.iter().enumerate() {
         if !is_tight(basic) {
             return Err(format!("basic set {} of the result has a rule that is not tightened", i + 1));

@@ -1,6 +1,8 @@
 //! `meaning COUNT SEED`                  checks `second` by meaning on COUNT cases
 //! `meaning COUNT SEED PROGRAM [ARGS..]` checks a program that speaks the line mode
 //! `meaning counts COUNT SEED ..`        the same of COUNT calls of the count, by enumeration of their boxes
+//! `meaning ranges COUNT SEED ..`        the same of COUNT calls of the range, so too, and by membership of what they
+//!                                       leave in the table
 //! `meaning extremes COUNT SEED ..`      the same of COUNT calls of greatest and least, by enumeration of vertices
 //! `meaning states COUNT SEED ..`        the same of COUNT walks of named states, by elimination, fresh tests and a clock
 
@@ -9,6 +11,7 @@ mod counting;
 mod extremes;
 mod fractions;
 mod numbers;
+mod ranges;
 mod sets;
 mod states;
 mod tight;
@@ -41,12 +44,13 @@ fn shortened(answer: &str) -> String {
 fn run(arguments: &[String]) -> Result<ExitCode, String> {
     let (made, arguments): (fn(u64, u64) -> Vec<Check>, &[String]) = match arguments {
         [word, rest @ ..] if word == "counts" => (|seed, index| vec![counting::check(seed, index)], rest),
+        [word, rest @ ..] if word == "ranges" => (|seed, index| vec![ranges::check(seed, index)], rest),
         [word, rest @ ..] if word == "extremes" => (|seed, index| vec![extremes::check(seed, index)], rest),
         [word, rest @ ..] if word == "states" => (|seed, index| vec![states::check(seed, index)], rest),
         _ => (checks, arguments),
     };
     let [count, seed, program @ ..] = arguments else {
-        return Err("meaning [counts|extremes|states] COUNT SEED [PROGRAM ARGS..]".to_string());
+        return Err("meaning [counts|ranges|extremes|states] COUNT SEED [PROGRAM ARGS..]".to_string());
     };
     let number = |w: &str| w.parse::<u64>().map_err(|_| format!("'{w}' is no number"));
     let (count, seed) = (number(count)?, number(seed)?);

@@ -20,6 +20,11 @@ fn wrong_counts_are_found() {
 }
 
 #[test]
+fn wrong_ranges_are_found() {
+    found(&["ranges", "30", "1", "cat"]);
+}
+
+#[test]
 fn wrong_extremes_are_found() {
     found(&["extremes", "30", "1", "cat"]);
 }

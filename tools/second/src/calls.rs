@@ -7,6 +7,7 @@ use crate::count::{count, counts, Count};
 use crate::extreme::{extreme, Aim, Extreme};
 use crate::fleet::fleet;
 use crate::model::{Division, Kind, Point, Rule, Set};
+use crate::range::{range, Limits, Range, Searched};
 use crate::refusal;
 use crate::script::search_words;
 use crate::states::{word, Desk, Said, Step};
@@ -35,6 +36,7 @@ fn answer(line: &str) -> Option<String> {
         "counts" => call_counts(n, &mut fields)?,
         "union" | "intersection" | "difference" => call_pair(name, n, &mut fields)?,
         "complement" => call_complement(n, &mut fields)?,
+        "range" => call_range(n, &mut fields)?,
         "test" => call_test(n, &mut fields)?,
         "check" => call_check(n, &mut fields)?,
         "part" => call_part(n, &mut fields)?,
@@ -111,7 +113,7 @@ fn call_pair(name: &str, n: u8, fields: &mut Fields) -> Option<String> {
             _ => difference(&a, &b, &mut unwatched),
         }
     };
-    Some(fill_table(room, run()))
+    Some(table_words(room, run()))
 }
 
 fn call_complement(n: u8, fields: &mut Fields) -> Option<String> {
@@ -119,12 +121,38 @@ fn call_complement(n: u8, fields: &mut Fields) -> Option<String> {
     let source = fields.bytes()?;
     fields.end()?;
     let result = parse(n, &source).and_then(|set| complement(&set, &mut unwatched));
-    Some(fill_table(room, result))
+    Some(table_words(room, result))
 }
 
-/// "Result tables are all 0 after a refusal, and 0 past the result after
-/// success"; a result longer than its table is 11.
-fn fill_table(room: usize, result: Result<Set, u8>) -> String {
+fn call_range(n: u8, fields: &mut Fields) -> Option<String> {
+    let room = fields.room()?;
+    let set = fields.bytes()?;
+    let limits = Limits { set: fields.limit()?, difference: fields.limit()? };
+    let sides = Sides { low: fields.point()?, high: fields.point()? };
+    fields.end()?;
+    let ranged = parse(n, &set).and_then(|set| range(&set, &sides, limits));
+    let words = ranged.as_ref().map_or(String::new(), |(range, _)| range_words(range));
+    Some(match fill_table(room, ranged.map(|(_, difference)| difference)) {
+        (Ok(length), table) => format!("{words} | {length} {table}"),
+        (Err(number), table) => format!("refused {number} {table}"),
+    })
+}
+
+fn range_words(range: &Range) -> String {
+    let words = |point: &[i32]| point.iter().map(i32::to_string).collect::<Vec<_>>().join(" ");
+    match range {
+        Range::Sure => "sure".to_string(),
+        Range::Never => "never".to_string(),
+        Range::Depends(inside, outside) => format!("depends {} / {}", words(inside), words(outside)),
+        Range::Spent(Searched::Set) => "spent 1".to_string(),
+        Range::Spent(Searched::Difference) => "spent 2".to_string(),
+    }
+}
+
+/// The result's length, or the refusal's number, and the whole table: "Result
+/// tables are all 0 after a refusal, and 0 past the result after success"; a
+/// result longer than its table is 11.
+fn fill_table(room: usize, result: Result<Set, u8>) -> (Result<usize, u8>, String) {
     let mut table = vec![0; room];
     let placed = result.and_then(|set| {
         let bytes = encode(&set);
@@ -132,9 +160,13 @@ fn fill_table(room: usize, result: Result<Set, u8>) -> String {
         place.copy_from_slice(&bytes);
         Ok(bytes.len())
     });
-    match placed {
-        Ok(length) => format!("gives {length} {}", hex(&table)),
-        Err(number) => format!("refused {number} {}", hex(&table)),
+    (placed, hex(&table))
+}
+
+fn table_words(room: usize, result: Result<Set, u8>) -> String {
+    match fill_table(room, result) {
+        (Ok(length), table) => format!("gives {length} {table}"),
+        (Err(number), table) => format!("refused {number} {table}"),
     }
 }
 

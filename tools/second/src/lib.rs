@@ -18,6 +18,7 @@ pub mod extreme;
 pub mod fleet;
 pub mod listing;
 pub mod model;
+pub mod range;
 pub mod refusal;
 pub mod script;
 pub mod states;

@@ -85,6 +85,14 @@ pub fn counts(n: u8, bytes: &[u8], limit: u32, axis: u64, low: &[i32], high: &[i
     call(format!("counts {n} {set} {limit} {axis} {low} {high}"))
 }
 
+/// The range of a box, with limits for the search of the set and that of the difference; the answer without the table's
+/// bytes.
+pub fn range(n: u8, room: usize, bytes: &[u8], limits: [u32; 2], low: &[i32], high: &[i32]) -> String {
+    let (set, [first, then], low, high) = (hex(bytes), limits, eight(low), eight(high));
+    let whole = call(format!("range {n} {room} {set} {first} {then} {low} {high}"));
+    whole.rsplit_once(' ').expect("a table").0.to_string()
+}
+
 /// Greatest or least of basic set k: the constant, then coefficients of axes and of divisions.
 pub fn extreme(kind: &str, n: u8, bytes: &[u8], k: u64, expression: (i32, &[i32], &[i32])) -> String {
     let (constant, axes, divisions) = expression;

@@ -1,0 +1,3 @@
+# Request 5: 10 before 13 of the second limit.
+# file src/range.rs
+/^    check_limit(limits\.difference)?;/d
