@@ -2,8 +2,8 @@
 # The engine's public calls, through the static libraries of the crates probe and host (the latter for the states), against the stored
 # calls and the second program, answer by answer, and by meaning; and what include/pitsets.h says of a state's buffer (host/walking.h).
 # CALLS (default 10000) scales the run; with a few hundred the tests may lack an answer at 128 bits, or rows built of some kind, the
-# searches a run of some kind, and the checks, the operations, the counts, the values or the walks a kind, which fails. The last line is
-# 'N passed, M failed'.
+# searches a run of some kind, and the checks, the operations, the counts, the ranges, the values or the walks a kind, which fails. The last
+# line is 'N passed, M failed'.
 cd "$(dirname "$0")/.." || exit 2
 calls=${CALLS:-10000}
 passed=0
@@ -44,6 +44,8 @@ held 10 "$calls" search
 counted "shut windows and runs of failing prefixes among these" tools/target/release/generate searches "$calls" 10
 held 12 "$calls" count counts
 counted "kinds of counts among these" tools/target/release/generate counts "$calls" 12
+held 18 "$calls" range
+counted "kinds of ranges among these" tools/target/release/generate ranges "$calls" 18
 held 14 $((2 * calls)) greatest least
 counted "kinds of greatest and least among these" tools/target/release/generate extremes $((2 * calls)) 14
 held 16 "$calls" states
@@ -54,6 +56,7 @@ held 8 "$calls" union intersection difference complement
 counted "numbers of rules among these" tools/target/release/generate numbers "$calls" 8 union intersection difference complement
 counted "by meaning" tools/target/release/meaning $((calls / 10)) 9 target/tests/probe
 counted "counts by enumeration" tools/target/release/meaning counts $((6 * calls / 10)) 13 target/tests/probe
+counted "ranges by enumeration" tools/target/release/meaning ranges $((6 * calls / 10)) 19 target/tests/probe
 counted "greatest and least by vertices" tools/target/release/meaning extremes "$calls" 15 target/tests/probe
 counted "walks by elimination" tools/target/release/meaning states $((calls / 2)) 17 target/tests/probe
 echo "$passed passed, $failed failed"
