@@ -12,7 +12,7 @@ use model::{BasicSet, Constraint};
 use sharing::{Standing, begin, candidate, grow};
 
 // Which opposites of a constraint give a kept candidate; where `far`, a shared test was wide and they are still to be tested alone.
-#[derive(Drop)]
+#[derive(Clone, Copy)]
 pub struct Survivors {
     pub above: bool,
     pub below: bool,

@@ -9,7 +9,7 @@ use simplex::Ended;
 pub use testing::{test, test_basic, test_counted};
 
 // The answer for one basic set of a set's bytes; `tested_of` in specs/Answers says what each case means.
-#[derive(Drop)]
+#[derive(Clone, Copy)]
 pub enum Tested {
     Refused(u32),
     NoSuchSet,

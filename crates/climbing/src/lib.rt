@@ -6,7 +6,7 @@ pub mod point;
 pub mod stops;
 
 // How the second half ends: no column improves the value, no row stops the one that does, or a limit.
-#[derive(Drop)]
+#[derive(Clone, Copy)]
 pub enum Outcome {
     Best,
     Endless,
@@ -15,7 +15,7 @@ pub enum Outcome {
 }
 
 // What a step of the second half says: an end, or the variables of the row and the column to exchange.
-#[derive(Drop)]
+#[derive(Clone, Copy)]
 pub enum Step {
     Ends(Outcome),
     Turns(usize, usize),

@@ -30,7 +30,7 @@ const GREATEST: i16 = limit::COEFFICIENT as i16;
 const LEAST_CONSTANT: i32 = -limit::DIVISION_CONSTANT;
 
 // Divisions in a row: the place after them, how many they are, and the least and the greatest coefficient at each place, 0 among them.
-#[derive(Drop)]
+#[derive(Clone, Copy)]
 pub struct DivisionRun {
     pub at: usize,
     pub count: usize,
@@ -39,7 +39,7 @@ pub struct DivisionRun {
 }
 
 // Constraints in a row, with the coefficients of the axes, and those of the divisions from `below` to `above`.
-#[derive(Drop)]
+#[derive(Clone, Copy)]
 pub struct ConstraintRun {
     pub at: usize,
     pub count: usize,
@@ -50,7 +50,7 @@ pub struct ConstraintRun {
 }
 
 // Whether a set is accepted, and how many basic sets it then has.
-#[derive(Drop)]
+#[derive(Clone, Copy)]
 pub struct Quick {
     pub accepted: bool,
     pub basics: usize,

@@ -16,7 +16,7 @@ use integers::{u16_at, u32_at};
 use model::{limit, refusal};
 
 // How far a set has come: its basic sets, and of the last one the divisions and constraints.
-#[derive(Drop)]
+#[derive(Clone, Copy)]
 pub struct Counts {
     pub basics: usize,
     pub divisions: usize,

@@ -53,7 +53,7 @@ pub const LONGEST_DIVISION: usize = DIVISION_WIDTH;
 pub const LONGEST_CONSTRAINT: usize = NUMBERED_WIDTH;
 
 // Divisions that are past: how many, and the place after them.
-#[derive(Drop)]
+#[derive(Clone, Copy)]
 pub struct Passed {
     pub count: usize,
     pub next: usize,

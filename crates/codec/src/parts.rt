@@ -36,7 +36,7 @@ pub fn count(s: &[u8]) -> usize
 }
 
 // What the check of the bytes of a set tells: the refusal, and of bytes that are not refused the number of basic sets.
-#[derive(Drop)]
+#[derive(Clone, Copy)]
 pub struct Verdict {
     pub refusal: u32,
     pub basics: usize,

@@ -21,7 +21,7 @@ use query::Membership;
 use search::{FirstPoint, first_point};
 use session::{Cursor, Listing};
 
-#[derive(Drop)]
+#[derive(Clone, Copy)]
 pub struct CommandDone {
     pub text: usize,
     pub axes: usize,

@@ -14,7 +14,7 @@ ghost use Rattle.counting.specs.Calls.{Checked, Fitting, Blank, Ended};
 use crate::levels::{Chosen, Sum, level};
 use model::{limit, refusal};
 
-#[derive(Drop)]
+#[derive(Clone, Copy)]
 pub enum Outcome {
     Done,
     Spent,
@@ -22,7 +22,7 @@ pub enum Outcome {
 }
 
 // The answer of a count: the number of members, 0 unless `Done`; the number of prefixes tested.
-#[derive(Drop)]
+#[derive(Clone, Copy)]
 pub struct Counted {
     pub outcome: Outcome,
     pub whole: u32,

@@ -13,14 +13,14 @@ use search::{Prefix, climb, span_of, value_at};
 
 // The chosen axis, from 0, and its first value: the counts of its values stand from there upward in a table. A table
 // of no places counts none of them.
-#[derive(Drop)]
+#[derive(Clone, Copy)]
 pub struct Chosen {
     pub axis: usize,
     pub first: i64,
 }
 
 // How many members were met, and how many prefixes tested in all; `spent`: the limit came first.
-#[derive(Drop)]
+#[derive(Clone, Copy)]
 pub struct Sum {
     pub spent: bool,
     pub whole: u32,

@@ -15,7 +15,7 @@ use results::{Outcome, refuse};
 use search::FirstPoint;
 
 // `SpentInside`: the search of the set ran out first; `SpentOutside`: that of the points outside it did.
-#[derive(Drop)]
+#[derive(Clone, Copy)]
 pub enum Range {
     Sure,
     Never,
@@ -27,7 +27,7 @@ pub enum Range {
 
 // A range; of `Depends` the first point in the set and the first outside it, zeros otherwise and on absent axes; the length of the
 // difference of the box and the set, 0 of a refusal.
-#[derive(Drop)]
+#[derive(Clone, Copy)]
 pub struct Reading {
     pub range: Range,
     pub inside: [i64; limit::AXES],

@@ -12,7 +12,7 @@ use model::{BasicSet, Constraint, limit};
 
 // The pieces of a cut: `working` has all constraints that joined it, and step v of the first `count` stands for the piece whose last
 // constraint is the tightened opposite of the working constraint v / 2, above it where v is odd and below it where v is even.
-#[derive(Drop)]
+#[derive(Clone, Copy)]
 pub struct CutSteps {
     pub working: BasicSet,
     pub steps: [u8; 96],
@@ -173,7 +173,7 @@ pub fn piece(w: BasicSet, v: u8) -> BasicSet
 }
 
 // Two basic sets in one; not `fits`: over 8 divisions or 48 constraints (refusal 10).
-#[derive(Drop)]
+#[derive(Clone, Copy)]
 pub struct Pairing {
     pub set: BasicSet,
     pub fits: bool,

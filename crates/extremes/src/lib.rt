@@ -9,14 +9,14 @@ use wide::{Magnitude, Wide};
 pub use words::value_words;
 
 // A fraction in lowest terms.
-#[derive(Drop)]
+#[derive(Clone, Copy)]
 pub struct Fraction {
     pub numerator: Wide,
     pub denominator: Magnitude,
 }
 
 // The answer; `extentIs` in specs/Answers says what each case means.
-#[derive(Drop)]
+#[derive(Clone, Copy)]
 pub enum Extent {
     Refused(u32),
     Empty,

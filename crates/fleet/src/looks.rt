@@ -8,7 +8,7 @@ use crate::marks::{coordinates_fit, mask_of, walked, widened};
 use model::{limit, refusal};
 
 // The mask of the points in the set, the first in the lowest bit, and how many there are; or the number of a refusal.
-#[derive(Drop)]
+#[derive(Clone, Copy)]
 pub enum Looked {
     Seen(u64, u32),
     Refused(u32),

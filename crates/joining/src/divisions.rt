@@ -8,7 +8,7 @@ ghost use Rattle.joining.specs.Joining.{Seeking, Joining, Placed};
 use model::{Constraint, Division, limit};
 
 // The joined divisions, and the places of the second's divisions among them; not `fits`: over 8.
-#[derive(Drop)]
+#[derive(Clone, Copy)]
 pub struct Joined {
     pub divisions: [Division; limit::DIVISIONS],
     pub divs: usize,

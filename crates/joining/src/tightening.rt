@@ -14,14 +14,14 @@ use crate::opposites::{above, below};
 use model::{BasicSet, Constraint, limit};
 
 // A constraint as it joins working rules: as it is where it is void (the opposites are those of the rule as given), else tightened.
-#[derive(Drop)]
+#[derive(Clone, Copy)]
 pub struct Reduced {
     pub rule: Constraint,
     pub void: bool,
 }
 
 // A basic set with its constraints tightened; `void`: one of them is void, and the basic set contributes nothing.
-#[derive(Drop)]
+#[derive(Clone, Copy)]
 pub struct Tightened {
     pub set: BasicSet,
     pub void: bool,

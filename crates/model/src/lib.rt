@@ -3,7 +3,7 @@ pub mod limit;
 pub mod refusal;
 
 // floor((axes·x + constant) / divisor)
-#[derive(Drop)]
+#[derive(Clone, Copy)]
 pub struct Division {
     pub divisor: u32,
     pub constant: i32,
@@ -11,7 +11,7 @@ pub struct Division {
 }
 
 // constant + axes·x + divisions·q, that is = 0 (equality) or ≥ 0 (document 01: a rule); its number in the rulebook, 0 for none
-#[derive(Drop)]
+#[derive(Clone, Copy)]
 pub struct Constraint {
     pub equality: bool,
     pub number: u16,
@@ -21,7 +21,7 @@ pub struct Constraint {
 }
 
 // The first `divs` divisions and the first `cons` constraints.
-#[derive(Drop)]
+#[derive(Clone, Copy)]
 pub struct BasicSet {
     pub divisions: [Division; limit::DIVISIONS],
     pub constraints: [Constraint; limit::CONSTRAINTS],

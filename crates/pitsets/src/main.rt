@@ -62,7 +62,7 @@ fn more(read: &mut [u8], have: usize) -> isize
 }
 
 // How much is read and not used, whether there is no more, and the turns that are left: none after an error.
-#[derive(Drop)]
+#[derive(Clone, Copy)]
 struct Filled {
     have: usize,
     ended: bool,

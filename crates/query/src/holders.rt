@@ -10,7 +10,7 @@ use crate::membership::{first_holding, point_fits, widened};
 use model::limit;
 
 // A basic set of the first or the second table, by its number from 1; number 0 is none.
-#[derive(Drop)]
+#[derive(Clone, Copy)]
 pub struct Seat {
     pub second: bool,
     pub number: usize,

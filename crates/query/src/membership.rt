@@ -16,13 +16,13 @@ use model::{limit, refusal};
 const LEAST_COORDINATE: i32 = -limit::COORDINATE;
 
 // Whether a basic set holds the point, and the place after it.
-#[derive(Drop)]
+#[derive(Clone, Copy)]
 pub struct Span {
     pub holds: bool,
     pub next: usize,
 }
 
-#[derive(Drop)]
+#[derive(Clone, Copy)]
 pub enum Membership {
     In,
     Out,

@@ -11,14 +11,14 @@ use model::{BasicSet, limit, refusal};
 use records::{clear, encode_basic};
 
 // `outcomeIs` in specs/Outcome is what it means.
-#[derive(Drop)]
+#[derive(Clone, Copy)]
 pub enum Outcome {
     Length(usize),
     Refused(u32),
 }
 
 // How far the result has come: its end, be that in the table or past it, and its basic sets. Not `fits`: refusal 10.
-#[derive(Drop)]
+#[derive(Clone, Copy)]
 pub struct Done {
     pub at: usize,
     pub count: usize,

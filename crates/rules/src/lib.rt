@@ -10,7 +10,7 @@ pub use expressions::inequality_of;
 use model::limit;
 
 // An expression as an inequality's numbers: constant + axes·x + divisions·q.
-#[derive(Drop)]
+#[derive(Clone, Copy)]
 pub struct Expression {
     pub constant: i32,
     pub axes: [i32; limit::AXES],
@@ -18,7 +18,7 @@ pub struct Expression {
 }
 
 // A rule as numbers: constant + axes·x + divisions·q, that is = 0 (equality) or ≥ 0.
-#[derive(Drop)]
+#[derive(Clone, Copy)]
 pub struct Rule {
     pub equality: bool,
     pub constant: i32,
@@ -27,7 +27,7 @@ pub struct Rule {
 }
 
 // A division as numbers: floor((axes·x + constant) / divisor).
-#[derive(Drop)]
+#[derive(Clone, Copy)]
 pub struct Quotient {
     pub divisor: i32,
     pub constant: i32,

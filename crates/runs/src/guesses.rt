@@ -38,7 +38,7 @@ const NONE: usize = limit::DIVISIONS;
 
 const SEVERAL: usize = NONE + 1;
 
-#[derive(Drop)]
+#[derive(Clone, Copy)]
 pub struct Helper {
     pub number: usize,
     pub place: usize,

@@ -12,7 +12,7 @@ use crate::lasting::constraint_run;
 
 // Where a walk over the constraints of a basic set stops: the place and the number of one that cannot hold by itself, or the
 // end.
-#[derive(Drop)]
+#[derive(Clone, Copy)]
 pub struct Stop {
     pub at: usize,
     pub i: usize,

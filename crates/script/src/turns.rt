@@ -18,7 +18,7 @@ use model::limit;
 use session::{Cursor, Front, Listing, Next, State};
 
 // What a turn did: the length of its text, the bytes of input that it used, the state after it, and what comes next.
-#[derive(Drop)]
+#[derive(Clone, Copy)]
 pub struct Turn {
     pub text: usize,
     pub used: usize,

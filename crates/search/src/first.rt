@@ -9,7 +9,7 @@ use crate::levels::{Trail, tallied, zeros};
 use crate::windows::{begin, corners_fit, limit_fits, upright};
 use model::{limit, refusal};
 
-#[derive(Drop)]
+#[derive(Clone, Copy)]
 pub enum Outcome {
     At,
     Nothing,
@@ -18,7 +18,7 @@ pub enum Outcome {
 }
 
 // The answer of a search: the point of `At`, zeros otherwise and on absent axes; the number of prefixes tested.
-#[derive(Drop)]
+#[derive(Clone, Copy)]
 pub struct FirstPoint {
     pub outcome: Outcome,
     pub point: [i64; limit::AXES],

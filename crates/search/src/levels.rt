@@ -12,14 +12,14 @@ use crate::opening::opened_in;
 use model::limit;
 
 // How many prefixes were tested: one record lent to each level, which adds to it there.
-#[derive(Drop)]
+#[derive(Clone, Copy)]
 pub struct Tally {
     pub tested: u32,
 }
 
 // A prefix of k numbers, on whose axes low and high are the same, and the basic sets that can hold over the box
 // (`live`); with what all levels share: the number of axes, the limit, and how many rows are in use.
-#[derive(Drop)]
+#[derive(Clone, Copy)]
 pub struct Prefix {
     pub n: usize,
     pub k: usize,
@@ -32,7 +32,7 @@ pub struct Prefix {
 
 // Where a level stops: 0 past its last value, 1 at a point, 2 spent, 3 at a prefix to go below, before value `next`.
 // `at` is that prefix; `tested` is how many were tested on the way.
-#[derive(Drop)]
+#[derive(Clone, Copy)]
 pub struct Stop {
     pub way: u8,
     pub tested: u32,
@@ -41,7 +41,7 @@ pub struct Stop {
 }
 
 // How a walk ended: 0 nothing found, 1 at a point, 2 spent.
-#[derive(Drop)]
+#[derive(Clone, Copy)]
 pub struct Trail {
     pub way: u8,
     pub point: [i64; limit::AXES],

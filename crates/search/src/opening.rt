@@ -51,7 +51,7 @@ fn shortened(m: u64) -> u64
 }
 
 // Which basic sets can hold over a box, whether any can, and if not, for how many values none can.
-#[derive(Drop)]
+#[derive(Clone, Copy)]
 pub struct Opening {
     pub any: bool,
     pub run: u64,

@@ -2,7 +2,7 @@
 // goes by.
 
 // The command at the front of what has been read.
-#[derive(Drop)]
+#[derive(Clone, Copy)]
 pub enum Front {
     // all of a command, this many bytes
     Whole(usize),
@@ -13,7 +13,7 @@ pub enum Front {
 
 // Where a listing stands: the place of the next command in the set's bytes, the basic sets opened before it, and the
 // divisions of the last one.
-#[derive(Drop)]
+#[derive(Clone, Copy)]
 pub struct Cursor {
     pub set: usize,
     pub place: usize,
@@ -21,20 +21,20 @@ pub struct Cursor {
     pub divisions: usize,
 }
 
-#[derive(Drop)]
+#[derive(Clone, Copy)]
 pub enum Listing {
     Nothing,
     From(Cursor),
 }
 
 // n, 0 before `10` gives it, and the listing that is under way.
-#[derive(Drop)]
+#[derive(Clone, Copy)]
 pub struct State {
     pub axes: usize,
     pub listing: Listing,
 }
 
-#[derive(Drop)]
+#[derive(Clone, Copy)]
 pub enum Next {
     // another turn
     Goes,

@@ -13,7 +13,7 @@ use simplex::{Move, Verdict};
 use tableau::{replace, small};
 
 // Where a test stands: the rows of its table, the pivots made and kept, its answer.
-#[derive(Drop)]
+#[derive(Clone, Copy)]
 pub struct Standing {
     pub rows: usize,
     pub pivots: usize,

@@ -8,7 +8,7 @@ pub use marking::{back, mark};
 pub use opening::start;
 
 // What a call says: the state's word, a refusal's number, or that the memory has no state.
-#[derive(Drop)]
+#[derive(Clone, Copy)]
 pub enum Said {
     Point,
     Empty,

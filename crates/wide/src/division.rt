@@ -6,7 +6,7 @@ ghost use Rattle.wide.specs.Wide.{size, Taken, Divided};
 use crate::Magnitude;
 use crate::words::{difference, less, product, sum};
 
-#[derive(Drop)]
+#[derive(Clone, Copy)]
 pub struct Split {
     pub quo: Magnitude,
     pub rem: Magnitude,
@@ -70,7 +70,7 @@ fn guess(rh: u64, rl: u64, dh: u64, dl: u64) -> u64 {
 // ---- division: guessed parts are taken off while they can be
 
 // A multiple of d, and how many times.
-#[derive(Drop)]
+#[derive(Clone, Copy)]
 pub struct Part {
     pub by: u64,
     pub part: Magnitude,

@@ -11,14 +11,14 @@ pub use signed::{
 pub use words::{is_one, is_zero};
 
 // A number below 2^128, of two words.
-#[derive(Drop)]
+#[derive(Clone, Copy)]
 pub struct Magnitude {
     pub hi: u64,
     pub lo: u64,
 }
 
 // A signed number of two words: its sign and its size. 0 may have either sign.
-#[derive(Drop)]
+#[derive(Clone, Copy)]
 pub struct Wide {
     pub neg: bool,
     pub magnitude: Magnitude,
