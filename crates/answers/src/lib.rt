@@ -1,4 +1,6 @@
 // The answers of the public calls as the signed numbers that a host in C gets.
+#![tactic(auto)]
+
 mod numbers;
 
 pub use numbers::{

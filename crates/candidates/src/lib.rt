@@ -1,4 +1,6 @@
 // Candidates (document 01, "Cutting rules"): whether the test for fractions keeps one, alone or with the pivots of the working constraints' test.
+#![tactic(auto)]
+
 mod alone;
 mod survivors;
 

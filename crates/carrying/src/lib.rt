@@ -1,4 +1,6 @@
 // The test for fractions at two word sizes: what is wide at 64 bits goes on from that very pivot in numbers of two words.
+#![tactic(auto)]
+
 pub mod both;
 pub mod carry;
 pub mod choose;

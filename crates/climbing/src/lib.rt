@@ -1,5 +1,7 @@
 // Both halves of the search for an extreme value (document 02, request 11) on a table of two-word numbers, with the expression's
 // row beside it: the table has room for the conditions of a basic set and no more.
+#![tactic(auto)]
+
 pub mod climb;
 pub mod cross;
 pub mod point;

@@ -1,4 +1,6 @@
 // One whole command of a script, on lent memory.
+#![tactic(auto)]
+
 mod commands;
 mod memory;
 

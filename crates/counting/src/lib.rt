@@ -1,4 +1,6 @@
 // How many points of a box are in a set: the whole, and for each value of a chosen axis.
+#![tactic(auto)]
+
 mod calls;
 mod levels;
 

@@ -1,4 +1,6 @@
 // One cut: the pieces of the candidates that are kept (document 01, "Cutting rules"), and two basic sets in one.
+#![tactic(auto)]
+
 mod pieces;
 
 pub use pieces::{CutSteps, Pairing, both, cut, piece};

@@ -1,4 +1,6 @@
 // The greatest and the least value of an expression over a basic set (document 02, request 11).
+#![tactic(auto)]
+
 pub mod asking;
 pub mod begin;
 pub mod value;

@@ -1,4 +1,6 @@
 // The engine for the board's host in C: numbers and byte slices in, a signed number out (include/pitsets.h).
+#![tactic(auto)]
+
 mod asking;
 mod counts;
 mod looking;

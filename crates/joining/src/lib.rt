@@ -1,4 +1,6 @@
 // Divisions joined, opposites, and rules tightened: the parts of a cut that need no test (document 01, "Cutting rules").
+#![tactic(auto)]
+
 mod divisions;
 mod opposites;
 mod tightening;

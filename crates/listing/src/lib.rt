@@ -1,4 +1,6 @@
 // The lines that the script program prints, as bytes of text.
+#![tactic(auto)]
+
 mod lines;
 mod text;
 

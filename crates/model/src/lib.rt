@@ -1,4 +1,6 @@
 // Decoded basic sets as values, field by field the definitions of specs/Sets. `basicSetOf` in specs/Values is what a value means.
+#![tactic(auto)]
+
 pub mod limit;
 pub mod refusal;
 

@@ -1,4 +1,6 @@
 // Union, intersection, difference and complement of sets (document 01, "Cutting rules").
+#![tactic(auto)]
+
 mod calls;
 mod pairs;
 

@@ -1,5 +1,7 @@
 // The script program: reads a script from standard input in parts and writes what it prints to standard output.
 // What a script means is decided in `script::step`; this program moves bytes.
+#![tactic(auto)]
+
 ghost use Rattle.std.specs.Prelude.{◌≡◌, true, false, ◌-◌, ◌≤◌, ◌<◌, length, take};
 ghost use Rattle.model.specs.Limits.{set_bytes};
 ghost use Rattle.session.specs.Turns.{memory};

@@ -1,4 +1,6 @@
 // The public calls for tests and benchmarks written in C alone: each does what the call that it names does.
+#![tactic(auto)]
+
 mod asking;
 mod counts;
 mod looking;

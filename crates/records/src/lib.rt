@@ -1,4 +1,6 @@
 // Basic sets as values: decoded from checked bytes, encoded into a lent table.
+#![tactic(auto)]
+
 mod decoding;
 mod writing;
 

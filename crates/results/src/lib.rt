@@ -1,4 +1,6 @@
 // The result of an operation: its basic sets put into the lent table, and the answer of the call.
+#![tactic(auto)]
+
 mod results;
 
 pub use results::{Done, Outcome, emit, finish, refuse};

@@ -1,4 +1,6 @@
 // The numbers of an expression, a rule or divisions as a call takes them: refused, or as the values of crate `model`.
+#![tactic(auto)]
+
 mod coefficients;
 mod constraints;
 mod divisions;

@@ -1,4 +1,6 @@
 // The first point of a set in a box; the steps of its walk, for whoever walks a box by the same prefix rule.
+#![tactic(auto)]
+
 mod first;
 mod keeping;
 mod levels;

@@ -1,5 +1,6 @@
 // The script program as definitions (specs/): what a script prints, and the turns in which it is printed. Here: what a turn
 // goes by.
+#![tactic(auto)]
 
 // The command at the front of what has been read.
 #[derive(Clone, Copy)]

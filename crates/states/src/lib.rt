@@ -1,4 +1,6 @@
 // Named states (document 02, request 8): one working basic set with its tableau, and marks to step back to, in lent memory.
+#![tactic(auto)]
+
 mod adding;
 mod marking;
 mod opening;

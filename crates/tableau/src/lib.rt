@@ -1,4 +1,6 @@
 // The rows of a simplex tableau as machine numbers, each over its own denominator: their exchange, and the searches that choose one.
+#![tactic(auto)]
+
 mod pivot;
 mod row;
 mod search;

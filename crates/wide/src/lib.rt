@@ -1,4 +1,6 @@
 // Numbers of two words, with a sign, by value. Their laws (proofs/) are over the base of a word and over the width.
+#![tactic(auto)]
+
 mod division;
 mod signed;
 mod words;

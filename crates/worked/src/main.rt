@@ -1,4 +1,6 @@
 // Document 01's worked cases and the small example of each refusal, as calls of the library.
+#![tactic(auto)]
+
 mod refusals;
 mod sets;
 mod telling;

@@ -42,51 +42,51 @@ moved_all from have l₀ l h k m =
     λ j q. let q' : j < have - from = omega arith in get_or-take (have - from) l j 0 q' ∙ m.moved j q' ∙ sym (get_or-take (have - from) (drop from l₀) j 0 q' ∙ get_or-drop from l₀ j 0)
     )
 
-abbrev invariant-loop : tie.invariant-loop
+abbrev invariant-loop : tie.invariant-loop-i
 invariant-loop read₀ from have n i₀ read i = (i ≤ n) × Moved i from read₀ read
 
-abbrev decreases-loop : tie.decreases-loop
+abbrev decreases-loop : tie.decreases-loop-i
 decreases-loop read₀ from have n i₀ read i = n - i
 
-sub-n : tie.Need-overflow-sub-n invariant-loop decreases-loop
+sub-n : tie.Need-overflow_sub-n invariant-loop decreases-loop
 sub-n c = search rules
 
-returns : tie.Need-returns invariant-loop decreases-loop
+returns : tie.Need-returns-then-from-eq0 invariant-loop decreases-loop
 returns c =
-    let z = c.if1.true in let a = c.before.args in let l : List ℕ = a.read.now in
+    let z = c.if-from-eq0.true in let a = c.before.args in let l : List ℕ = a.read.now in
     (refl, ap (λ (k : ℕ). take (a.have - a.from) (drop k l)) (sym z))
 
-loop-holds : tie.Need-loop-init invariant-loop decreases-loop
+loop-holds : tie.Need-loop-i-init invariant-loop decreases-loop
 loop-holds c = (omega arith, moved_none c.before.args.from c.before.args.read.now)
 
-add_read : tie.Need-overflow-add-read invariant-loop decreases-loop
+add_read : tie.Need-overflow_add-read invariant-loop decreases-loop
 add_read c = let l = c.before.before.before.well-formed.0.0 in let m = c.before.before.before.requires.1 in omega arith
 
-slice-read-read : tie.Need-slice-read-read invariant-loop decreases-loop
-slice-read-read c = let l = c.before.before.loop.invariant.1.long in let m = c.before.before.before.before.requires.1 in omega arith
+slice-read-read : tie.Need-bounds-read-from invariant-loop decreases-loop
+slice-read-read c = let l = c.before.before.loop-i.invariant.1.long in let m = c.before.before.before.before.requires.1 in omega arith
 
-slice-write-read : tie.Need-slice-write-read invariant-loop decreases-loop
-slice-write-read c = let l = c.before.before.loop.invariant.1.long in let m = c.before.before.before.before.requires.1 in omega arith
+slice-write-read : tie.Need-bounds-read-i invariant-loop decreases-loop
+slice-write-read c = let l = c.before.before.loop-i.invariant.1.long in let m = c.before.before.before.before.requires.1 in omega arith
 
-add-i : tie.Need-overflow-add-i invariant-loop decreases-loop
+add-i : tie.Need-overflow_add-i invariant-loop decreases-loop
 add-i c = search rules
 
-loop-less : tie.Need-loop-smaller invariant-loop decreases-loop
+loop-less : tie.Need-loop-i-smaller invariant-loop decreases-loop
 loop-less c = omega arith
 
-loop-again : tie.Need-loop-preserved invariant-loop decreases-loop
+loop-again : tie.Need-loop-i-preserved invariant-loop decreases-loop
 loop-again c =
     let at-p4 = c.before.before.before.before in
-    let l = c.before.before.loop in
+    let l = c.before.before.loop-i in
     let st = at-p4 in
     (omega arith, moved_more l.i st.args.from _ st.args.read.now l.read (slice-write-read c) refl l.invariant.1)
 
-same_length : tie.Need-same-length invariant-loop decreases-loop
-same_length c = c.before.loop.invariant.1.long
+same_length : tie.Need-shape_of-read invariant-loop decreases-loop
+same_length c = c.before.loop-i.invariant.1.long
 
-returns-2 : tie.Need-returns-2 invariant-loop decreases-loop
+returns-2 : tie.Need-returns invariant-loop decreases-loop
 returns-2 c =
-    let l = c.before.loop in let st = c.before.before.before in let n = l.invariant.0 in let i : l.i ≡ st.args.have - st.args.from = omega arith in
+    let l = c.before.loop-i in let st = c.before.before.before in let n = l.invariant.0 in let i : l.i ≡ st.args.have - st.args.from = omega arith in
     (refl, moved_all st.args.from st.args.have st.args.read.now l.read st.requires.0 st.requires.1 (subst (λ (k : ℕ). Moved k st.args.from st.args.read.now l.read) i l.invariant.1))
 
 pub forward_spec : {M : Type 1} → statement M

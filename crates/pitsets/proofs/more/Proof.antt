@@ -6,19 +6,19 @@ use lib.ListN.{length}
 use Rattle.pitsets.proofs.more.Statement.{statement}
 use Rattle.pitsets.proofs.more.Tie as tie
 
-sub_read : tie.Need-overflow-sub-read
+sub_read : tie.Need-slice_bounds-read-count
 sub_read c = search rules
 
-part-read-start : tie.Need-slice-bounds-read-start
+part-read-start : tie.Need-slice_bounds-read-start
 part-read-start c = search rules
 
-part-read-end : tie.Need-slice-bounds-read-end
+part-read-end : tie.Need-slice_bounds-read-end
 part-read-end c = search rules
 
 read-requires : tie.Need-read-requires
 read-requires c κs = search rules
 
-same_length : tie.Need-same-length
+same_length : tie.Need-shape_of-read
 same_length c = search rules
 
 returns : tie.Need-returns

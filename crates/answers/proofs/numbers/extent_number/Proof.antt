@@ -14,49 +14,49 @@ use borrow.Author.Rules.{rules}
 use Rattle.answers.proofs.numbers.extent_number.Statement.{statement}
 use Rattle.answers.proofs.numbers.extent_number.Tie as tie
 
-small : (c : tie.After-known-told) → c.before.x.given.0.0 < 2 ^ 63
+small : (c : tie.In-Refused) → c.before.x-1.given.0.0 < 2 ^ 63
 small c = let h = c.«known-told».given in omega arith
 
-enum-known-x : tie.Need-enum-known-x
+enum-known-x : tie.Need-enum_known-x
 enum-known-x c = search rules
 
-cast-result : tie.Need-overflow-cast-result
+cast-result : tie.Need-overflow_cast-result
 cast-result c = search rules
 
-sub-result : tie.Need-overflow-sub-result
-sub-result c = let h = small c in rw (to_z_pos w64 _ h) (lia-fits (pos c.before.x.given.0.0 ∷ []) [] (search lin depth 30) (omega arith))
+sub-result : tie.Need-overflow_sub-result
+sub-result c = let h = small c in rw (to_z_pos w64 _ h) (lia-fits (pos c.before.x-1.given.0.0 ∷ []) [] (search lin depth 30) (omega arith))
 
-enum_told : tie.Need-enum-told
+enum_told : tie.Need-enum_told-1
 enum_told c = search rules
 
-enum-told-2 : tie.Need-enum-told-2
+enum-told-2 : tie.Need-enum_told-in-Empty
 enum-told-2 c = search rules
 
-enum-told-3 : tie.Need-enum-told-3
+enum-told-3 : tie.Need-enum_told-in-Unbounded
 enum-told-3 c = search rules
 
-enum-told-4 : tie.Need-enum-told-4
+enum-told-4 : tie.Need-enum_told-in-TooWide
 enum-told-4 c = search rules
 
-enum-told-5 : tie.Need-enum-told-5
+enum-told-5 : tie.Need-enum_told-in-TooLong
 enum-told-5 c = search rules
 
-returns : tie.Need-returns
-returns c = minus_is _ (small c) ∙ sym (ap (λ (x : Extent). extent_number (extent_is x)) c.before.x.given.1)
+returns : tie.Need-returns-in-Refused
+returns c = minus_is _ (small c) ∙ sym (ap (λ (x : Extent). extent_number (extent_is x)) c.before.x-1.given.1)
 
-returns-2 : tie.Need-returns-2
+returns-2 : tie.Need-returns-in-Value
 returns-2 c = sym (ap (λ (x : Extent). extent_number (extent_is x)) c.«enum_told».given.1)
 
-returns-3 : tie.Need-returns-3
+returns-3 : tie.Need-returns-in-Empty
 returns-3 c = sym (ap (λ (x : Extent). extent_number (extent_is x)) c.«enum-told2».given.1)
 
-returns-4 : tie.Need-returns-4
+returns-4 : tie.Need-returns-in-Unbounded
 returns-4 c = sym (ap (λ (x : Extent). extent_number (extent_is x)) c.«enum-told3».given.1)
 
-returns-5 : tie.Need-returns-5
+returns-5 : tie.Need-returns-in-TooWide
 returns-5 c = sym (ap (λ (x : Extent). extent_number (extent_is x)) c.«enum-told4».given.1)
 
-returns-6 : tie.Need-returns-6
+returns-6 : tie.Need-returns-in-TooLong
 returns-6 c = sym (ap (λ (x : Extent). extent_number (extent_is x)) c.«enum-told5».given.1)
 
 pub extent_number_spec : {M : Type 1} → statement M

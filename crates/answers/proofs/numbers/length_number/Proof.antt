@@ -15,33 +15,33 @@ use borrow.Author.Rules.{rules}
 use Rattle.answers.proofs.numbers.length_number.Statement.{statement}
 use Rattle.answers.proofs.numbers.length_number.Tie as tie
 
-short : (c : tie.After-known-told) → c.before.m.given.0.0 < 2 ^ 63
+short : (c : tie.In-Length) → c.before.m-1.given.0.0 < 2 ^ 63
 short c =
-    let h : c.before.m.given.0.0 ≤ longest_set = subst (λ (m : Outcome). Short (outcome_is m)) c.before.m.given.1 c.before.before.before.requires in omega arith
+    let h : c.before.m.given.0.0 ≤ longest_set = subst (λ (m : Outcome). Short (outcome_is m)) c.before.m-1.given.1 c.before.before.before.requires in omega arith
 
-small : (c : tie.After-known-told2) → c.before.m2.given.0.0 < 2 ^ 63
+small : (c : tie.In-Refused) → c.before.m-in-Refused-1.given.0.0 < 2 ^ 63
 small c = let h = c.«known-told2».given in omega arith
 
-enum-known-m : tie.Need-enum-known-m
+enum-known-m : tie.Need-enum_known-m
 enum-known-m c = search rules
 
-cast-result : tie.Need-overflow-cast-result
+cast-result : tie.Need-overflow_cast-result
 cast-result c = pos-fits _ (short c)
 
-enum-known-m-2 : tie.Need-enum-known-m-2
+enum-known-m-2 : tie.Need-enum_known-m-in-Refused-1
 enum-known-m-2 c = search rules
 
-cast-result-2 : tie.Need-overflow-cast-result-2
+cast-result-2 : tie.Need-overflow_cast-result-in-Refused
 cast-result-2 c = search rules
 
-sub-result : tie.Need-overflow-sub-result
-sub-result c = let h = small c in rw (to_z_pos w64 _ h) (lia-fits (pos c.before.m2.given.0.0 ∷ []) [] (search lin depth 30) (omega arith))
+sub-result : tie.Need-overflow_sub-result
+sub-result c = let h = small c in rw (to_z_pos w64 _ h) (lia-fits (pos c.before.m-in-Refused-1.given.0.0 ∷ []) [] (search lin depth 30) (omega arith))
 
-returns : tie.Need-returns
-returns c = to_z_pos w64 _ (short c) ∙ sym (ap (λ (m : Outcome). length_number (outcome_is m)) c.before.m.given.1)
+returns : tie.Need-returns-in-Length
+returns c = to_z_pos w64 _ (short c) ∙ sym (ap (λ (m : Outcome). length_number (outcome_is m)) c.before.m-1.given.1)
 
-returns-2 : tie.Need-returns-2
-returns-2 c = minus_is _ (small c) ∙ sym (ap (λ (m : Outcome). length_number (outcome_is m)) c.before.m2.given.1)
+returns-2 : tie.Need-returns-in-Refused
+returns-2 c = minus_is _ (small c) ∙ sym (ap (λ (m : Outcome). length_number (outcome_is m)) c.before.m-in-Refused-1.given.1)
 
 pub length_number_spec : {M : Type 1} → statement M
 length_number_spec =

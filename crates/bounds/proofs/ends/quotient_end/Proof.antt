@@ -12,13 +12,13 @@ use borrow.Author.Rules.{rules}
 use Rattle.bounds.proofs.ends.quotient_end.Statement.{statement}
 use Rattle.bounds.proofs.ends.quotient_end.Tie as tie
 
-end-at-requires : tie.Need-end-at-requires
+end-at-requires : tie.Need-end_at-e-requires
 end-at-requires c κs = search rules
 
-cast-floor-div : tie.Need-overflow-cast-floor-div
+cast-floor-div : tie.Need-overflow_cast-d
 cast-floor-div c = search rules
 
-floor-div-requires : tie.Need-floor-div-requires
+floor-div-requires : tie.Need-floor_div-requires
 floor-div-requires c κs =
     let st = c.before.before in let d = st.args.d in
     rw (to_z-nat w64 d 4294967296 st.requires.2 tt) (record { lt = lt→ltb 0 d st.requires.1 })
@@ -26,9 +26,9 @@ floor-div-requires c κs =
 returns : tie.Need-returns
 returns c =
     let x = c.before in let st = x.before.before in let a = st.args in let t = a.t.now in
-    let e = result_is w64 c.floor-div.result c.floor-div.type-inv ∙ c.floor-div.ensures
-    ∙ ap₂ (λ (z w : ℤ). floor_div z (nat_abs w)) (result_is w64 x.end-at.result x.end-at.type-inv) (to_z-nat w64 a.d 4294967296 st.requires.2 tt) in
-    (e ∙ ap (λ (z : ℤ). floor_div z a.d) (x.end-at.ensures.0 ∙ ap (λ (z : ℤ). constant_in t +ℤ z) (gain-back a.k (axes_in t) st.ranges.z st.ranges.from st.ranges.to)), subst (Within 549755813888) (sym e) (floor-within 549755813888 x.end-at.result a.d x.end-at.ensures.1))
+    let e = result_is w64 c.floor_div.result c.floor_div.type-inv ∙ c.floor_div.ensures
+    ∙ ap₂ (λ (z w : ℤ). floor_div z (nat_abs w)) (result_is w64 x.end_at-e.result x.end_at-e.type-inv) (to_z-nat w64 a.d 4294967296 st.requires.2 tt) in
+    record { is = e ∙ ap (λ (z : ℤ). floor_div z a.d) (x.end_at-e.ensures.is ∙ ap (λ (z : ℤ). constant_in t +ℤ z) (gain-back a.k (axes_in t) st.ranges.z st.ranges.from st.ranges.to)); size = subst (Within 549755813888) (sym e) (floor-within 549755813888 x.end_at-e.result a.d x.end_at-e.ensures.size) }
 
 pub quotient_end_spec : {M : Type 1} → statement M
 quotient_end_spec = tie.close (tie.spec end-at-requires cast-floor-div floor-div-requires returns)

@@ -24,37 +24,37 @@ use Rattle.bounds.proofs.Bounds.{settled-quotient, Bounding, bounding-start, bou
 use Rattle.bounds.proofs.holding.bounded.Statement.{statement}
 use Rattle.bounds.proofs.holding.bounded.Tie as tie
 
-abbrev invariant-loop : tie.invariant-loop
+abbrev invariant-loop : tie.invariant-loop-e
 invariant-loop s k low high r ql₀ qh₀ from to at₀ d₀ ql qh at d = Bounding s (start_of r) (box_of low high) at d ql qh
 
-abbrev decreases-loop : tie.decreases-loop
+abbrev decreases-loop : tie.decreases-loop-e
 decreases-loop s k low high r ql₀ qh₀ from to at₀ d₀ ql qh at d = length s - at
 
 axis : (st : tie.Start invariant-loop decreases-loop) → st.args.k < 8
 axis st = let a = st.requires.0.axis in let b = st.requires.1.few in omega arith
 
-gap-requires : tie.Need-gap-requires invariant-loop decreases-loop
+gap-requires : tie.Need-gap-from-requires invariant-loop decreases-loop
 gap-requires c κs =
     let st = c.before in let p = st.requires in let a = axis st in
     (p.0.axis, p.1.lows, omega arith, p.0.row.places, p.0.row.lows st.args.k a)
 
-gap-requires-2 : tie.Need-gap-requires-2 invariant-loop decreases-loop
+gap-requires-2 : tie.Need-gap-to-requires invariant-loop decreases-loop
 gap-requires-2 c κs =
     let st = c.before.before in let p = st.requires in let a = axis st in let q = p.1.same in let h = p.0.axis in
     (omega arith, p.1.highs, omega arith, p.0.row.places, p.0.row.highs st.args.k a)
 
-place-requires : tie.Need-place-requires invariant-loop decreases-loop
+place-requires : tie.Need-place-at-requires invariant-loop decreases-loop
 place-requires c κs = c.before.before.before.requires.0.row.place
 
-loop-holds : tie.Need-loop-init invariant-loop decreases-loop
+loop-holds : tie.Need-loop-e-init invariant-loop decreases-loop
 loop-holds c =
     let st = c.before.before.before.before in let a = st.args in let p = st.requires in let xs = box_of a.low.now a.high.now in
-    subst (λ (x : ℕ). Bounding a.s.now (start_of a.r.now) xs x 0 a.ql.now a.qh.now) (sym c.place.ensures)
+    subst (λ (x : ℕ). Bounding a.s.now (start_of a.r.now) xs x 0 a.ql.now a.qh.now) (sym c.place-at.ensures)
     (bounding-start a.s.now (start_of a.r.now) xs a.ql.now a.qh.now p.0.row.opened p.2 p.4 p.3 p.5)
 
 -- a turn: its start, how far the ends move, the division at its place
-module _ (t : tie.Then1 invariant-loop decreases-loop) where
-  abbrev m : tie.At-loop invariant-loop decreases-loop
+module _ (t : tie.In-loop-e invariant-loop decreases-loop) where
+  abbrev m : tie.At-loop-e invariant-loop decreases-loop
   m = t.before.before
 
   abbrev st : tie.Start invariant-loop decreases-loop
@@ -96,28 +96,28 @@ module _ (t : tie.Then1 invariant-loop decreases-loop) where
   greatest : Within 274877906944 (get_or st.args.r.now (64 + m.loop.d) (pos 0))
   greatest = let a = few in loose.greatest m.loop.d (omega arith)
 
-division-at-requires : tie.Need-division-at-requires invariant-loop decreases-loop
+division-at-requires : tie.Need-division_at-requires invariant-loop decreases-loop
 division-at-requires c κs = search rules
 
-head-requires : tie.Need-head-requires invariant-loop decreases-loop
+head-requires : tie.Need-head-e-requires invariant-loop decreases-loop
 head-requires c κs = (here c).whole
 
-body-requires : tie.Need-body-requires invariant-loop decreases-loop
+body-requires : tie.Need-body-t-requires invariant-loop decreases-loop
 body-requires c κs = (here c.before).whole
 
 -- the divisor and the body, as the calls give them
-divisor-in : (x : tie.After-body invariant-loop decreases-loop) → let d = x.before.head.result in (division_body ≤ length x.body.result.now) × (0 < d) × (d < 4294967296)
+divisor-in : (x : tie.After-body-t invariant-loop decreases-loop) → let d = x.before.head-e.result in (division_body ≤ length x.body-t.result.now) × (0 < d) × (d < 4294967296)
 divisor-in x =
     let h = x.before in let v = here h.before in
-    (subst (λ (u : List ℕ). division_body ≤ length u) (sym x.body.ensures) v.body, subst (λ (d : ℕ). 0 < d) (sym h.head.ensures.0) v.divisor, h.head.ensures.1)
+    (subst (λ (u : List ℕ). division_body ≤ length u) (sym x.body-t.ensures) v.body, subst (λ (d : ℕ). 0 < d) (sym h.head-e.ensures.is) v.divisor, h.head-e.ensures.size)
 
-mul-quotient-end : tie.Need-overflow-mul-quotient-end invariant-loop decreases-loop
+mul-quotient-end : tie.Need-offset_bounds-r-d invariant-loop decreases-loop
 mul-quotient-end c = let f = few c.before.before in omega arith
 
-element-copy-out-quotient-end : tie.Need-element-copy-out-quotient-end invariant-loop decreases-loop
+element-copy-out-quotient-end : tie.Need-bounds-r-d invariant-loop decreases-loop
 element-copy-out-quotient-end c = let f = few c.before.before in omega arith
 
-quotient-end-requires : tie.Need-quotient-end-requires invariant-loop decreases-loop
+quotient-end-requires : tie.Need-quotient_end-l-requires invariant-loop decreases-loop
 quotient-end-requires c κs =
     let x = c.before in let t = x.before.before in let d = divisor-in x in (
       d.0,
@@ -127,16 +127,16 @@ quotient-end-requires c κs =
       back-within (omega arith) (least t),
     )
 
-add-quotient-end : tie.Need-overflow-add-quotient-end invariant-loop decreases-loop
+add-quotient-end : tie.Need-overflow_add-d invariant-loop decreases-loop
 add-quotient-end c = let f = few c.before.before.before.before in omega arith
 
-mul-quotient-end-2 : tie.Need-overflow-mul-quotient-end-2 invariant-loop decreases-loop
+mul-quotient-end-2 : tie.Need-offset_bounds-r-d-in-loop-e invariant-loop decreases-loop
 mul-quotient-end-2 c = let f = few c.before.before.before.before in omega arith
 
-element-copy-out-quotient-end-2 : tie.Need-element-copy-out-quotient-end-2 invariant-loop decreases-loop
+element-copy-out-quotient-end-2 : tie.Need-bounds-r-d-in-loop-e invariant-loop decreases-loop
 element-copy-out-quotient-end-2 c = let f = few c.before.before.before.before in omega arith
 
-quotient-end-requires-2 : tie.Need-quotient-end-requires-2 invariant-loop decreases-loop
+quotient-end-requires-2 : tie.Need-quotient_end-h-requires invariant-loop decreases-loop
 quotient-end-requires-2 c κs =
     let x = c.before.before.before in let t = x.before.before in let d = divisor-in x in (
       d.0,
@@ -146,26 +146,26 @@ quotient-end-requires-2 c κs =
       back-within (omega arith) (greatest t),
     )
 
-mul-l : tie.Need-overflow-mul-l invariant-loop decreases-loop
+mul-l : tie.Need-offset_bounds-ql-d invariant-loop decreases-loop
 mul-l c = let f = few c.before.before.before.before.before.before in omega arith
 
-slice-set-from-l : tie.Need-slice-set-from-l invariant-loop decreases-loop
+slice-set-from-l : tie.Need-bounds-ql-d invariant-loop decreases-loop
 slice-set-from-l c = let t = c.before.before.before.before.before.before in let f = few t in let l = (m t).loop.invariant.lows in omega arith
 
-mul-h : tie.Need-overflow-mul-h invariant-loop decreases-loop
+mul-h : tie.Need-offset_bounds-qh-d invariant-loop decreases-loop
 mul-h c = let f = few c.before.before.before.before.before.before in omega arith
 
-slice-set-from-h : tie.Need-slice-set-from-h invariant-loop decreases-loop
+slice-set-from-h : tie.Need-bounds-qh-d invariant-loop decreases-loop
 slice-set-from-h c = let t = c.before.before.before.before.before.before in let f = few t in let l = (m t).loop.invariant.highs in omega arith
 
-add-d : tie.Need-overflow-add-d invariant-loop decreases-loop
+add-d : tie.Need-overflow_add-d-in-loop-e invariant-loop decreases-loop
 add-d c = let f = few c.before.before.before.before.before.before in omega arith
 
-next-requires : tie.Need-next-requires invariant-loop decreases-loop
+next-requires : tie.Need-next-at-requires invariant-loop decreases-loop
 next-requires c κs = (here c.before.before.before.before.before.before).whole
 
-loop-less : tie.Need-loop-smaller invariant-loop decreases-loop
-loop-less c = let h = (here c.before.before.before.before.before.before.before).whole in let r = h.room in let w = h.known in omega (arith, c.next.ensures)
+loop-less : tie.Need-loop-e-smaller invariant-loop decreases-loop
+loop-less c = let h = (here c.before.before.before.before.before.before.before).whole in let r = h.room in let w = h.known in omega (arith, c.next-at.ensures)
 
 -- an end as a call gives it, in the plain numbers
 plain : (z z' f f' g g' : ℤ) (k d d' : ℕ) (u v : List ℕ) → d ≡ d' → u ≡ v → z ≡ z' → f ≡ f' → g ≡ g'
@@ -175,29 +175,29 @@ plain z z' f f' g g' k d d' u v o e a b c =
     ∙ ap (λ (y : ℤ). floor_div (constant_in v +ℤ (y +ℤ gain k f g (axes_in v))) d') a
     ∙ ap₂ (λ (x y : ℤ). floor_div (constant_in v +ℤ (z' +ℤ gain k x y (axes_in v))) d') b c
 
-loop-again : tie.Need-loop-preserved invariant-loop decreases-loop
+loop-again : tie.Need-loop-e-preserved invariant-loop decreases-loop
 loop-again c =
     let q2 = c.before in let q1 = q2.before.before in let x = q1.before.before in let y = x.before in let t = y.before in let a = (st t).args in let l = (m t).loop in let low = a.low.now in let high = a.high.now in let r = a.r.now in
-    let kl = result_is w64 q1.quotient-end.result q1.quotient-end.type-inv in let kh = result_is w64 q2.quotient-end2.result q2.quotient-end2.type-inv in
-    let pl = kl ∙ q1.quotient-end.ensures.0 ∙ plain _ _ _ _ _ _ a.k _ _ _ _ y.head.ensures.0 x.body.ensures (to_z_of_z {w = w64} (within-fits (omega arith) (least t))) (low-gap t) (high-gap t) in
-    let ph = kh ∙ q2.quotient-end2.ensures.0 ∙ plain _ _ _ _ _ _ a.k _ _ _ _ y.head.ensures.0 x.body.ensures (to_z_of_z {w = w64} (within-fits (omega arith) (greatest t))) (high-gap t) (low-gap t) in
+    let kl = result_is w64 q1.quotient_end-l.result q1.quotient_end-l.type-inv in let kh = result_is w64 q2.quotient_end-h.result q2.quotient_end-h.type-inv in
+    let pl = kl ∙ q1.quotient_end-l.ensures.is ∙ plain _ _ _ _ _ _ a.k _ _ _ _ y.head-e.ensures.is x.body-t.ensures (to_z_of_z {w = w64} (within-fits (omega arith) (least t))) (low-gap t) (high-gap t) in
+    let ph = kh ∙ q2.quotient_end-h.ensures.is ∙ plain _ _ _ _ _ _ a.k _ _ _ _ y.head-e.ensures.is x.body-t.ensures (to_z_of_z {w = w64} (within-fits (omega arith) (greatest t))) (high-gap t) (low-gap t) in
     let f : l.d < 56 = let y = few t in omega arith in
     let o = bounding-form a.s.now (start_of r) (box_of low high) l.at l.d l.ql l.qh l.inv (code t) in
-    subst (λ (p : ℕ). Bounding a.s.now (start_of r) (box_of low high) p (l.d + 1) (set l.ql l.d (to_z w64 (of_z w64 q1.quotient-end.result))) (set l.qh l.d (to_z w64 (of_z w64 q2.quotient-end2.result)))) (sym c.next.ensures)
+    subst (λ (p : ℕ). Bounding a.s.now (start_of r) (box_of low high) p (l.d + 1) (set l.ql l.d (to_z w64 (of_z w64 q1.quotient_end-l.result))) (set l.qh l.d (to_z w64 (of_z w64 q2.quotient_end-h.result)))) (sym c.next-at.ensures)
     (bounding-next a.s.now (start_of r) (box_of low high) l.at l.d l.ql l.qh l.inv (code t) _ _
     (settled-quotient a.s.now a.k low high r (st t).requires.0 (st t).requires.1 l.d f (division_at a.s.now l.at) o ∙ sym (ap₂ side pl ph))
-    (subst (Within 549755813888) (sym kl) q1.quotient-end.ensures.1) (subst (Within 549755813888) (sym kh) q2.quotient-end2.ensures.1))
+    (subst (Within 549755813888) (sym kl) q1.quotient_end-l.ensures.size) (subst (Within 549755813888) (sym kh) q2.quotient_end-h.ensures.size))
 
-same_length : tie.Need-same-length invariant-loop decreases-loop
-same_length c = let m = c.before.before in m.loop.invariant.lows ∙ sym m.before.before.before.before.before.requires.2
+same_length : tie.Need-shape_of-ql invariant-loop decreases-loop
+same_length c = let m = c.before.before in m.loop-e.invariant.lows ∙ sym m.before.before.before.before.before.requires.2
 
-same-length-2 : tie.Need-same-length-2 invariant-loop decreases-loop
-same-length-2 c = let m = c.before.before in m.loop.invariant.highs ∙ sym m.before.before.before.before.before.requires.4
+same-length-2 : tie.Need-shape_of-qh invariant-loop decreases-loop
+same-length-2 c = let m = c.before.before in m.loop-e.invariant.highs ∙ sym m.before.before.before.before.before.requires.4
 
 returns : tie.Need-returns invariant-loop decreases-loop
 returns c =
     let m = c.before.before in let st = m.before.before.before.before.before in let a = st.args in
-    bounding-end a.s.now (start_of a.r.now) (box_of a.low.now a.high.now) m.loop.at m.loop.d m.loop.ql m.loop.qh m.loop.invariant (sym c.before.division-at.ensures ∙ c.if1.false)
+    bounding-end a.s.now (start_of a.r.now) (box_of a.low.now a.high.now) m.loop-e.at m.loop-e.d m.loop-e.ql m.loop-e.qh m.loop-e.invariant (sym c.before.division_at.ensures ∙ c.loop-e-test.false)
 
 pub bounded_spec : {M : Type 1} → statement M
 bounded_spec =

@@ -9,16 +9,16 @@ use Rattle.bounds.proofs.Sides.{fresh-row}
 use Rattle.bounds.proofs.rows.fresh.Statement.{statement}
 use Rattle.bounds.proofs.rows.fresh.Tie as tie
 
-cast-r : tie.Need-overflow-cast-r
+cast-r : tie.Need-overflow_cast-r
 cast-r c = search rules
 
-array-set-from-r : tie.Need-array-set-from-r
+array-set-from-r : tie.Need-bounds-r-128
 array-set-from-r c = search rules
 
 returns : tie.Need-returns
 returns c =
     let e = to_z-nat w64 c.args.start 9223372036854775808 c.requires tt in
-    (ap nat_abs e, λ s n l o. subst (λ (z : ℤ). Row s n (set (replicate 129 (pos 0)) 128 z)) (sym e) (fresh-row s c.args.start n o l))
+    record { place = ap nat_abs e; row = λ s n l o. subst (λ (z : ℤ). Row s n (set (replicate 129 (pos 0)) 128 z)) (sym e) (fresh-row s c.args.start n o l) }
 
 pub fresh_spec : {M : Type 1} → statement M
 fresh_spec = tie.close (tie.spec cast-r array-set-from-r returns)

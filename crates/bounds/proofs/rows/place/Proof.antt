@@ -11,11 +11,11 @@ use Rattle.bounds.specs.Rows.{start_of}
 use Rattle.bounds.proofs.rows.place.Statement.{statement}
 use Rattle.bounds.proofs.rows.place.Tie as tie
 
-element-copy-out-p : tie.Need-element-copy-out-p
+element-copy-out-p : tie.Need-bounds-r-128
 element-copy-out-p c = search rules
 
-cast-result : tie.Need-overflow-cast-result
-cast-result c = let e = c.before.requires in cast-nat w64 _ (start_of c.before.args.r.now) (to_z_of_z (record { sfits = c.p.given }) ∙ e) (let w : start_of c.before.args.r.now ≤ 9223372036854775808 = (fits-within {w = w64} {z = get_or c.before.args.r.now 128 (pos 0)} (record { sfits = c.p.given })).size in omega arith)
+cast-result : tie.Need-overflow_cast-result
+cast-result c = let e = c.before.requires in cast-nat w64 _ (start_of c.before.args.r.now) (to_z_of_z (record { sfits = c.p-1.given }) ∙ e) (let w : start_of c.before.args.r.now ≤ 9223372036854775808 = (fits-within {w = w64} {z = get_or c.before.args.r.now 128 (pos 0)} (record { sfits = c.p-1.given })).size in omega arith)
 
 returns : tie.Need-returns
 returns c = search rules

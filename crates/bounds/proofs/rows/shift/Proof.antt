@@ -19,15 +19,15 @@ use Rattle.bounds.proofs.Shifting.{Shifting, shifting-start, shifting-at, shifti
 use Rattle.bounds.proofs.rows.shift.Statement.{statement}
 use Rattle.bounds.proofs.rows.shift.Tie as tie
 
-abbrev invariant-loop : tie.invariant-loop
+abbrev invariant-loop : tie.invariant-loop-t
 invariant-loop s j from to r₀ at₀ i₀ r at i = Shifting s j (to_z w64 from) (to_z w64 to) r₀ r at i
 
-abbrev decreases-loop : tie.decreases-loop
+abbrev decreases-loop : tie.decreases-loop-t
 decreases-loop s j from to r₀ at₀ i₀ r at i = length s - at
 
 -- a turn: its start, what its place has, the row
-module _ (t : tie.Then1 invariant-loop decreases-loop) where
-  abbrev m : tie.At-loop invariant-loop decreases-loop
+module _ (t : tie.In-loop-t invariant-loop decreases-loop) where
+  abbrev m : tie.At-loop-t invariant-loop decreases-loop
   m = t.before.before
 
   abbrev st : tie.Start invariant-loop decreases-loop
@@ -51,89 +51,89 @@ module _ (t : tie.Then1 invariant-loop decreases-loop) where
   sizes : Within 274877906944 (get_or m.loop.r m.loop.i (pos 0)) × Within 274877906944 (get_or m.loop.r (64 + m.loop.i) (pos 0))
   sizes = shifting-sizes st.args.s.now st.args.j F G st.args.r.now m.loop.r m.loop.at m.loop.i m.loop.inv st.pre.0 pass
 
-place-requires : tie.Need-place-requires invariant-loop decreases-loop
+place-requires : tie.Need-place-at-requires invariant-loop decreases-loop
 place-requires c κs = c.before.before.requires.0.place
 
-loop-holds : tie.Need-loop-init invariant-loop decreases-loop
+loop-holds : tie.Need-loop-t-init invariant-loop decreases-loop
 loop-holds c =
     let st = c.before.before.before in let a = st.args in
-    subst (λ (p : ℕ). Shifting a.s.now a.j (to_z w64 (of_z w64 a.from)) (to_z w64 (of_z w64 a.to)) a.r.now a.r.now p 0) (sym c.place.ensures)
+    subst (λ (p : ℕ). Shifting a.s.now a.j (to_z w64 (of_z w64 a.from)) (to_z w64 (of_z w64 a.to)) a.r.now a.r.now p 0) (sym c.place-at.ensures)
     (shifting-start a.s.now a.j (to_z w64 (of_z w64 a.from)) (to_z w64 (of_z w64 a.to)) a.r.now st.requires.0.opened)
 
-goes-on-requires : tie.Need-goes-on-requires invariant-loop decreases-loop
+goes-on-requires : tie.Need-goes_on-requires invariant-loop decreases-loop
 goes-on-requires c κs = search rules
 
-body-requires : tie.Need-body-requires invariant-loop decreases-loop
+body-requires : tie.Need-body-t-requires invariant-loop decreases-loop
 body-requires c κs = (here c).whole
 
-mul-l : tie.Need-overflow-mul-l invariant-loop decreases-loop
+mul-l : tie.Need-offset_bounds-r-i invariant-loop decreases-loop
 mul-l c = let f = few c.before in omega arith
 
-element-copy-out-l : tie.Need-element-copy-out-l invariant-loop decreases-loop
+element-copy-out-l : tie.Need-bounds-r-i invariant-loop decreases-loop
 element-copy-out-l c = let f = few c.before in omega arith
 
-add-h : tie.Need-overflow-add-h invariant-loop decreases-loop
+add-h : tie.Need-overflow_add-h invariant-loop decreases-loop
 add-h c = let f = few c.before.before in omega arith
 
-mul-h : tie.Need-overflow-mul-h invariant-loop decreases-loop
+mul-h : tie.Need-offset_bounds-r-i-in-loop-t invariant-loop decreases-loop
 mul-h c = let f = few c.before.before in omega arith
 
-element-copy-out-h : tie.Need-element-copy-out-h invariant-loop decreases-loop
+element-copy-out-h : tie.Need-bounds-r-i-in-loop-t invariant-loop decreases-loop
 element-copy-out-h c = let f = few c.before.before in omega arith
 
-room : (c : tie.After-body invariant-loop decreases-loop) → division_body ≤ length c.body.result.now
-room c = subst (λ (t : List ℕ). division_body ≤ length t) (sym c.body.ensures) (here c.before).body
+room : (c : tie.After-body-t invariant-loop decreases-loop) → division_body ≤ length c.body-t.result.now
+room c = subst (λ (t : List ℕ). division_body ≤ length t) (sym c.body-t.ensures) (here c.before).body
 
 moved-requires : tie.Need-moved-requires invariant-loop decreases-loop
 moved-requires c κs =
     let x = c.before.before in let t = x.before in
     (room x, rw (to_z_of_z (st t).ranges.from, to_z_of_z (st t).ranges.to) (st t).requires.1, back-within (omega arith) (sizes t).0)
 
-mul-r : tie.Need-overflow-mul-r invariant-loop decreases-loop
+mul-r : tie.Need-offset_bounds-r-i-in-loop-t-2 invariant-loop decreases-loop
 mul-r c = let f = few c.before.before.before.before in omega arith
 
-element-set-from-r : tie.Need-element-set-from-r invariant-loop decreases-loop
+element-set-from-r : tie.Need-bounds-r-i-in-loop-t-2 invariant-loop decreases-loop
 element-set-from-r c = let f = few c.before.before.before.before in omega arith
 
-moved-requires-2 : tie.Need-moved-requires-2 invariant-loop decreases-loop
+moved-requires-2 : tie.Need-moved-requires-in-loop-t invariant-loop decreases-loop
 moved-requires-2 c κs =
     let x = c.before.before.before in let t = x.before in let p = (st t).requires.1 in
     (room x, rw (to_z_of_z (st t).ranges.from, to_z_of_z (st t).ranges.to) (record { axis = p.axis; from_size = p.to_size; to_size = p.from_size }), back-within (omega arith) (sizes t).1)
 
-add-t17 : tie.Need-overflow-add-t17 invariant-loop decreases-loop
+add-t17 : tie.Need-overflow_add-i invariant-loop decreases-loop
 add-t17 c = let f = few c.before.before.before.before.before in omega arith
 
-mul-t13 : tie.Need-overflow-mul-t13 invariant-loop decreases-loop
+mul-t13 : tie.Need-offset_bounds-r-i-in-loop-t-3 invariant-loop decreases-loop
 mul-t13 c = let f = few c.before.before.before.before.before in omega arith
 
-element-set-from-r-2 : tie.Need-element-set-from-r-2 invariant-loop decreases-loop
+element-set-from-r-2 : tie.Need-bounds-r-i-in-loop-t-3 invariant-loop decreases-loop
 element-set-from-r-2 c = let f = few c.before.before.before.before.before in omega arith
 
-next-requires : tie.Need-next-requires invariant-loop decreases-loop
+next-requires : tie.Need-next-at-requires invariant-loop decreases-loop
 next-requires c κs = (here c.before.before.before.before.before).whole
 
-add-i : tie.Need-overflow-add-i invariant-loop decreases-loop
+add-i : tie.Need-overflow_add-i-in-loop-t invariant-loop decreases-loop
 add-i c = let f = few c.before.before.before.before.before.before in omega arith
 
-loop-less : tie.Need-loop-smaller invariant-loop decreases-loop
-loop-less c = let h = (here c.before.before.before.before.before.before).whole in let r = h.room in let w = h.known in omega (arith, c.next.ensures)
+loop-less : tie.Need-loop-t-smaller invariant-loop decreases-loop
+loop-less c = let h = (here c.before.before.before.before.before.before).whole in let r = h.room in let w = h.known in omega (arith, c.next-at.ensures)
 
-loop-again : tie.Need-loop-preserved invariant-loop decreases-loop
+loop-again : tie.Need-loop-t-preserved invariant-loop decreases-loop
 loop-again c =
     let c2 = c.before in let c1 = c2.before in let x = c1.before.before.before in let t = x.before in let a = (st t).args in
     let j = a.j in let f = F t in let g = G t in let l = (m t).loop in
-    let k1 = result_is w64 c1.moved.result c1.moved.type-inv in let k2 = result_is w64 c2.moved2.result c2.moved2.type-inv in
-    let e1 = k1 ∙ c1.moved.ensures.0 ∙ ap₂ (λ (z : ℤ) (u : List ℕ). z +ℤ gain j f g (axes_in u)) (to_z_of_z (within-fits (omega arith) (sizes t).0)) x.body.ensures in
-    let e2 = k2 ∙ c2.moved2.ensures.0 ∙ ap₂ (λ (z : ℤ) (u : List ℕ). z +ℤ gain j g f (axes_in u)) (to_z_of_z (within-fits (omega arith) (sizes t).1)) x.body.ensures in
+    let k1 = result_is w64 c1.moved.result c1.moved.type-inv in let k2 = result_is w64 c2.moved-in-loop-t.result c2.moved-in-loop-t.type-inv in
+    let e1 = k1 ∙ c1.moved.ensures.is ∙ ap₂ (λ (z : ℤ) (u : List ℕ). z +ℤ gain j f g (axes_in u)) (to_z_of_z (within-fits (omega arith) (sizes t).0)) x.body-t.ensures in
+    let e2 = k2 ∙ c2.moved-in-loop-t.ensures.is ∙ ap₂ (λ (z : ℤ) (u : List ℕ). z +ℤ gain j g f (axes_in u)) (to_z_of_z (within-fits (omega arith) (sizes t).1)) x.body-t.ensures in
     let o : length l.r ≡ 129 = l.inv.is.places ∙ (st t).requires.0.places in
-    subst (λ (w : ℕ). Shifting a.s.now j f g a.r.now (set (set l.r l.i (to_z w64 (of_z w64 c1.moved.result))) (64 + l.i) (to_z w64 (of_z w64 c2.moved2.result))) w (l.i + 1)) (sym c.next.ensures)
-    (shifting-next a.s.now j f g a.r.now l.r l.at l.i l.inv (pass t) o (to_z w64 (of_z w64 c1.moved.result)) (to_z w64 (of_z w64 c2.moved2.result)) e1 e2)
+    subst (λ (w : ℕ). Shifting a.s.now j f g a.r.now (set (set l.r l.i (to_z w64 (of_z w64 c1.moved.result))) (64 + l.i) (to_z w64 (of_z w64 c2.moved-in-loop-t.result))) w (l.i + 1)) (sym c.next-at.ensures)
+    (shifting-next a.s.now j f g a.r.now l.r l.at l.i l.inv (pass t) o (to_z w64 (of_z w64 c1.moved.result)) (to_z w64 (of_z w64 c2.moved-in-loop-t.result)) e1 e2)
 
 returns : tie.Need-returns invariant-loop decreases-loop
 returns c =
     let m = c.before.before in let st = m.before.before.before.before in let a = st.args in
     rw (to_z_of_z st.ranges.from, to_z_of_z st.ranges.to) at
-    (shifting-end a.s.now a.j (to_z w64 (of_z w64 a.from)) (to_z w64 (of_z w64 a.to)) a.r.now m.loop.r m.loop.at m.loop.i m.loop.invariant (sym c.before.goes_on.ensures ∙ c.if1.false))
+    (shifting-end a.s.now a.j (to_z w64 (of_z w64 a.from)) (to_z w64 (of_z w64 a.to)) a.r.now m.loop-t.r m.loop-t.at m.loop-t.i m.loop-t.invariant (sym c.before.goes_on.ensures ∙ c.loop-t-test.false))
 
 pub shift_spec : {M : Type 1} → statement M
 shift_spec =

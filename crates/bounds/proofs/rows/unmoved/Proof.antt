@@ -14,10 +14,10 @@ use Rattle.bounds.proofs.rows.unmoved.Tie as tie
 zero-fits : SFits w64 (pos 0)
 zero-fits = let z : Within 0 (pos 0) = record { size = omega arith } in within-fits (omega arith) z
 
-returns : tie.Need-returns
-returns c = let st = c.before in λ e. (of_z-same st.ranges.from zero-fits c.if1.true, of_z-same st.ranges.to zero-fits (eqb-true _ _ e))
+returns : tie.Need-returns-then-from-eq0
+returns c = let st = c.before in λ e. (of_z-same st.ranges.from zero-fits c.if-from-eq0.true, of_z-same st.ranges.to zero-fits (eqb-true _ _ e))
 
-returns-2 : tie.Need-returns-2
+returns-2 : tie.Need-returns
 returns-2 c = λ e. let z : ◌≡◌ {A = ℕ} 0 1 = cc in absurd (omega arith)
 
 pub unmoved_spec : {M : Type 1} → statement M

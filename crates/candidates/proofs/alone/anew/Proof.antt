@@ -15,21 +15,21 @@ use Rattle.candidates.proofs.alone.put.Reads as put_reads
 use Rattle.carrying.proofs.test_basic.Reads as test-basic-reads
 
 -- the candidate that is made, from its test
-abbrev made : tie.After-test-basic → tie.After-put
+abbrev made : tie.After-test_basic-e → tie.After-put-q
 made c = c.before.before.before.before
 
-put-requires : tie.Need-put-requires
+put-requires : tie.Need-put-q-requires
 put-requires c κs = search rules
 
-slice-aggregate-test-basic : tie.Need-slice-aggregate-test-basic
+slice-aggregate-test-basic : tie.Need-slice_bounds-test_basic-end
 slice-aggregate-test-basic c = search rules
 
-slice-aggregate-test-basic-2 : tie.Need-slice-aggregate-test-basic-2
+slice-aggregate-test-basic-2 : tie.Need-slice_bounds-test_basic-end-2
 slice-aggregate-test-basic-2 c = search rules
 
-test-basic-requires : tie.Need-test-basic-requires
+test-basic-requires : tie.Need-test_basic-e-requires
 test-basic-requires c κs =
-    let p = c.before.before.before.put in
+    let p = c.before.before.before.put-q in
     let s = c.before.before.before.before in
     let r = s.requires.0 in
     let h = r.divs in
@@ -39,10 +39,10 @@ test-basic-requires c κs =
     let n = s.requires.1 in
     (record { divs = omega arith; cons = omega arith; divisions = simp length-map at p.type-inv.1.1.0.1.0.1; constraints = simp length-map at p.type-inv.1.1.1.0.1.0.1 }, (omega arith, (search rules, search rules)))
 
-is-kept-requires : tie.Need-is-kept-requires
+is-kept-requires : tie.Need-is_kept-requires
 is-kept-requires c κs = search rules
 
-same_length : tie.Need-same-length
+same_length : tie.Need-shape_of-spare
 same_length c = search rules
 
 returns : tie.Need-returns
@@ -53,7 +53,7 @@ returns c =
     let l : length s.args.w.constraints ≡ 48 = simp length-map at s.good.0.1.1.1.0.1.0.1 in
     let k = s.pre.0.cons in
     let h : s.args.w.cons ≤ 48 = omega arith in
-    c.is-kept.ensures ∙ ap C.is_kept t.test-basic.ensures.verdict_is ∙ ap C.keeps (p.put.ensures.is ∙ put_last s.args.w l h (constraint_of s.args.o))
+    c.is_kept.ensures ∙ ap C.is_kept t.test_basic-e.ensures.verdict_is ∙ ap C.keeps (p.put-q.ensures.is ∙ put_last s.args.w l h (constraint_of s.args.o))
 
 pub anew_spec : {M : Type 1} → statement M
 anew_spec =

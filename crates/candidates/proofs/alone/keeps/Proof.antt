@@ -10,7 +10,7 @@ use Rattle.candidates.proofs.alone.keeps.Lts as lts
 use Rattle.candidates.proofs.alone.is_kept.Reads as is-kept-reads
 use Rattle.carrying.proofs.test_basic.Reads as test-basic-reads
 
-test-basic-requires : tie.Need-test-basic-requires
+test-basic-requires : tie.Need-test_basic-e-requires
 test-basic-requires c κs =
     let s = c.before.before.before.before.before in
     let d : length s.args.b.divisions ≡ 8 = simp length-map at s.well-formed.0.1.1.0.1.0.1 in
@@ -21,20 +21,20 @@ test-basic-requires c κs =
     let w = t.wide in
     (record { divs = s.requires.0.divs; cons = s.requires.0.cons; divisions = d; constraints = r }, (omega arith, (omega arith, omega arith)))
 
-is-kept-requires : tie.Need-is-kept-requires
+is-kept-requires : tie.Need-is_kept-requires
 is-kept-requires c κs = search rules
 
-same_length : tie.Need-same-length
+same_length : tie.Need-shape_of-rows
 same_length c = search rules
 
-same-length-2 : tie.Need-same-length-2
+same-length-2 : tie.Need-shape_of-place
 same-length-2 c = search rules
 
-same-length-3 : tie.Need-same-length-3
+same-length-3 : tie.Need-shape_of-kinds
 same-length-3 c = search rules
 
 returns : tie.Need-returns
-returns c = c.is-kept.ensures ∙ ap is_kept c.before.before.before.before.before.before.test-basic.ensures.verdict_is
+returns c = c.is_kept.ensures ∙ ap is_kept c.before.before.before.before.before.before.test_basic-e.ensures.verdict_is
 
 pub keeps_spec : {M : Type 1} → statement M
 keeps_spec =

@@ -11,13 +11,13 @@ use Rattle.candidates.proofs.alone.put.Tie as tie
 use Rattle.candidates.proofs.alone.put.Reads as reads
 use Rattle.candidates.proofs.alone.put.Lts as lts
 
-mul-r : tie.Need-overflow-mul-r
+mul-r : tie.Need-offset_bounds-q-at
 mul-r c = search rules
 
-element-set-from-r : tie.Need-element-set-from-r
+element-set-from-r : tie.Need-bounds-q-at
 element-set-from-r c = search rules
 
-add-q : tie.Need-overflow-add-q
+add-q : tie.Need-overflow_add-q
 add-q c = search rules
 
 returns : tie.Need-returns

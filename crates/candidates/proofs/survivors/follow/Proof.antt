@@ -7,32 +7,32 @@ use Rattle.candidates.proofs.survivors.follow.Reads as reads
 use Rattle.candidates.proofs.survivors.follow.Lts as lts
 use Rattle.sharing.proofs.grow.Reads as grow-reads
 
-returns : tie.Need-returns
-returns c = follow-none (not-true _ c.if1.true)
+returns : tie.Need-returns-then-not-joins
+returns c = follow-none (not-true _ c.if-not-joins.true-raw)
 
-returns-2 : tie.Need-returns-2
-returns-2 c = follow-last c.if2.true
+returns-2 : tie.Need-returns-then-left-eq0
+returns-2 c = follow-last c.if-left-eq0.true
 
 grow-requires : tie.Need-grow-requires
 grow-requires c κs = search rules
 
-same_length : tie.Need-same-length
+same_length : tie.Need-shape_of-rows
 same_length c = search rules
 
-same-length-2 : tie.Need-same-length-2
+same-length-2 : tie.Need-shape_of-place
 same-length-2 c = search rules
 
-same-length-3 : tie.Need-same-length-3
+same-length-3 : tie.Need-shape_of-kinds
 same-length-3 c = search rules
 
-same-length-4 : tie.Need-same-length-4
+same-length-4 : tie.Need-shape_of-past
 same-length-4 c = search rules
 
-same-length-5 : tie.Need-same-length-5
+same-length-5 : tie.Need-shape_of-columns
 same-length-5 c = search rules
 
-returns-3 : tie.Need-returns-3
-returns-3 c = follow-on (not-false _ c.before.before.before.before.before.before.before.before.before.before.before.before.before.before.before.if1.false) c.before.before.before.before.before.before.before.before.before.before.before.before.before.before.if2.false c.before.before.before.before.before.before.before.before.grow.ensures
+returns-3 : tie.Need-returns
+returns-3 c = follow-on (not-false _ c.before.before.before.before.before.before.before.before.before.before.before.before.before.before.before.if-not-joins.false-raw) c.before.before.before.before.before.before.before.before.before.before.before.before.before.before.if-left-eq0.false c.before.before.before.before.before.before.before.before.grow.ensures
 
 pub follow_spec : {M : Type 1} → statement M
 follow_spec =

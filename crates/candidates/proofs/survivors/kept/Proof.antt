@@ -20,91 +20,91 @@ use Rattle.joining.proofs.opposite_below.Reads as opposite-below-reads
 use Rattle.joining.proofs.void.Reads as void-reads
 
 -- the start from where the opposite below is made, and that place from its test and its judgement
-abbrev start : tie.After-opposite-below → tie.Start
+abbrev start : tie.After-opposite_below-o → tie.Start
 start c = c.before.before.before.before.before
 
-abbrev lowered : tie.After-candidate → tie.After-opposite-below
+abbrev lowered : tie.After-candidate-v → tie.After-opposite_below-o
 lowered c = c.before.before
 
-abbrev lower : tie.After-is-wide → tie.After-candidate
+abbrev lower : tie.After-is_wide-far → tie.After-candidate-v
 lower c = c.before.before.before
 
 -- the constraint, from there
-abbrev given : tie.After-is-wide → Constraint
+abbrev given : tie.After-is_wide-far → Constraint
 given c = constraint_of (start (lowered (lower c))).args.r
 
-void-requires : tie.Need-void-requires
+void-requires : tie.Need-void-undivided-requires
 void-requires c κs = search rules
 
-opposite-below-requires : tie.Need-opposite-below-requires
+opposite-below-requires : tie.Need-opposite_below-o-requires
 opposite-below-requires c κs =
-    let p = c.before.before.before.before.requires.1.0 in
-    (p.below, p.settled c.void.result c.void.ensures)
+    let p = c.before.before.before.before.requires.opposed.0 in
+    (p.below, p.settled c.void-undivided.result c.void-undivided.ensures)
 
-candidate-requires : tie.Need-candidate-requires
+candidate-requires : tie.Need-candidate-v-requires
 candidate-requires c κs =
     let l = c.before in
     let s = start l in
     let o = C.below (constraint_of s.args.r) in
-    (s.pre.0, (opposite-plain l.opposite-below.result (T.tight o) l.opposite-below.ensures (tight-kind o), s.pre.1.1))
+    record { growing = s.requires.growing; equality_value = (opposite-plain l.opposite_below-o.result (T.tight o) l.opposite_below-o.ensures (tight-kind o), s.requires.opposed.1) }
 
-is-kept-requires : tie.Need-is-kept-requires
+is-kept-requires : tie.Need-is_kept-below-requires
 is-kept-requires c κs = search rules
 
-is-wide-requires : tie.Need-is-wide-requires
+is-wide-requires : tie.Need-is_wide-far-requires
 is-wide-requires c κs = search rules
 
-opposite-above-requires : tie.Need-opposite-above-requires
+opposite-above-requires : tie.Need-opposite_above-p-requires
 opposite-above-requires c κs =
     let l = lowered (lower c.before) in
-    let p = (start l).pre.1.0 in
-    (c.if1.true, p.above (ap kind_is c.if1.true), p.settled l.before.void.result l.before.void.ensures)
+    let p = (start l).requires.opposed.0 in
+    (c.if-equality.true, p.above (ap kind_is c.if-equality.true), p.settled l.before.void-undivided.result l.before.void-undivided.ensures)
 
-candidate-requires-2 : tie.Need-candidate-requires-2
+candidate-requires-2 : tie.Need-candidate-u-requires
 candidate-requires-2 c κs =
     let u = c.before in
     let p = u.before.before in
     let s = start (lowered (lower p)) in
     let o = C.above (given p) in
-    (s.pre.0, (opposite-plain u.opposite-above.result (T.tight o) u.opposite-above.ensures (tight-kind o), (lower p).candidate.auto.1.1.1.1.1.1.1.1.0 ∙ s.pre.1.1))
+    record { growing = s.requires.growing; equality_value = (opposite-plain u.opposite_above-p.result (T.tight o) u.opposite_above-p.ensures (tight-kind o), (lower p).candidate-v.auto.1.1.1.1.1.1.1.1.0 ∙ s.requires.opposed.1) }
 
-is-kept-requires-2 : tie.Need-is-kept-requires-2
+is-kept-requires-2 : tie.Need-is_kept-requires
 is-kept-requires-2 c κs = search rules
 
-is-wide-requires-2 : tie.Need-is-wide-requires-2
+is-wide-requires-2 : tie.Need-is_wide-requires
 is-wide-requires-2 c κs = search rules
 
-same_length : tie.Need-same-length
+same_length : tie.Need-shape_of-spare-then-equality
 same_length c = search rules
 
-returns : tie.Need-returns
+returns : tie.Need-returns-then-equality
 returns c =
     let w = c.before.before.before in
     let u = w.before.before in
     let p = u.before.before in
     let l = lower p in
     let s = start (lowered l) in
-    let eq : is_equality (given p).kind ≡ true = ap (λ (b : Bool). is_equality (kind_is b)) u.before.if1.true in
+    let eq : is_equality (given p).kind ≡ true = ap (λ (b : Bool). is_equality (kind_is b)) u.before.if-equality.true in
     record {
-      is = λ b g n. let z = any_false p.is_IsWide.result c.is-wide2.result n in record {
-        above = c.before.is-kept2.ensures ∙ shared_keeps w.candidate2.ensures s.pre.0.less b g (sym c.is-wide2.ensures ∙ z.1) ∙ ap (λ o. C.keeps (candidate b o)) u.opposite-above.ensures ∙ sym (ap (λ (a : Bool). a && C.keeps (candidate b (T.tight (C.above (given p))))) eq);
-        below = p.before.is-kept.ensures ∙ shared_keeps l.candidate.ensures s.pre.0.less b g (sym p.is_IsWide.ensures ∙ z.0) ∙ ap (λ o. C.keeps (candidate b o)) (lowered l).opposite-below.ensures;
+      is = λ b g n. let z = any_false p.is_IsWide.result c.is_wide.result n in record {
+        above = c.before.is_kept.ensures ∙ shared_keeps w.candidate-u.ensures s.requires.growing.less b g (sym c.is_wide.ensures ∙ z.1) ∙ ap (λ o. C.keeps (candidate b o)) u.opposite_above-p.ensures ∙ sym (ap (λ (a : Bool). a && C.keeps (candidate b (T.tight (C.above (given p))))) eq);
+        below = p.before.is_kept-below.ensures ∙ shared_keeps l.candidate-v.ensures s.requires.growing.less b g (sym p.is_IsWide.ensures ∙ z.0) ∙ ap (λ o. C.keeps (candidate b o)) (lowered l).opposite_below-o.ensures;
       };
     }
 
-same-length-2 : tie.Need-same-length-2
+same-length-2 : tie.Need-shape_of-spare
 same-length-2 c = search rules
 
-returns-2 : tie.Need-returns-2
+returns-2 : tie.Need-returns
 returns-2 c =
     let p = c.before in
     let l = lower p in
     let s = start (lowered l) in
-    let eq : is_equality (given p).kind ≡ false = ap (λ (b : Bool). is_equality (kind_is b)) c.if1.false in
+    let eq : is_equality (given p).kind ≡ false = ap (λ (b : Bool). is_equality (kind_is b)) c.if-equality.false in
     record {
       is = λ b g n. record {
         above = sym (ap (λ (a : Bool). a && C.keeps (candidate b (T.tight (C.above (given p))))) eq);
-        below = p.before.is-kept.ensures ∙ shared_keeps l.candidate.ensures s.pre.0.less b g (sym p.is_IsWide.ensures ∙ n) ∙ ap (λ o. C.keeps (candidate b o)) (lowered l).opposite-below.ensures;
+        below = p.before.is_kept-below.ensures ∙ shared_keeps l.candidate-v.ensures s.requires.growing.less b g (sym p.is_IsWide.ensures ∙ n) ∙ ap (λ o. C.keeps (candidate b o)) (lowered l).opposite_below-o.ensures;
       };
     }
 

@@ -16,67 +16,67 @@ use Rattle.joining.proofs.opposite_below.Reads as opposite-below-reads
 use Rattle.joining.proofs.void.Reads as void-reads
 
 -- where the opposite below is made, from the answer of its test, and the start from there
-abbrev lowered : tie.After-spare → tie.After-opposite-below
+abbrev lowered : tie.After-spare-1 → tie.After-opposite_below-o
 lowered c = c.before.before.before
 
-abbrev start : tie.After-opposite-below → tie.Start
+abbrev start : tie.After-opposite_below-o → tie.Start
 start c = c.before.before
 
 -- the constraint and the working set, from the first answer
-abbrev given : tie.After-spare → Constraint
+abbrev given : tie.After-spare-1 → Constraint
 given c = constraint_of (start (lowered c)).args.r
 
-abbrev working : tie.After-spare → BasicSet
+abbrev working : tie.After-spare-1 → BasicSet
 working c = basic_set_of (start (lowered c)).args.w
 
-void-requires : tie.Need-void-requires
+void-requires : tie.Need-void-undivided-requires
 void-requires c κs = search rules
 
-opposite-below-requires : tie.Need-opposite-below-requires
+opposite-below-requires : tie.Need-opposite_below-o-requires
 opposite-below-requires c κs =
     let p = c.before.requires.1 in
-    (p.below, p.settled c.void.result c.void.ensures)
+    (p.below, p.settled c.void-undivided.result c.void-undivided.ensures)
 
-anew-requires : tie.Need-anew-requires
+anew-requires : tie.Need-anew-below-requires
 anew-requires c κs = let p = (start c.before).requires in (p.0, p.2)
 
-opposite-above-requires : tie.Need-opposite-above-requires
+opposite-above-requires : tie.Need-opposite_above-p-requires
 opposite-above-requires c κs =
     let l = lowered c.before in
     let p = (start l).pre.1 in
-    (c.if1.true, p.above (ap kind_is c.if1.true), p.settled l.before.void.result l.before.void.ensures)
+    (c.if-equality.true, p.above (ap kind_is c.if-equality.true), p.settled l.before.void-undivided.result l.before.void-undivided.ensures)
 
-anew-requires-2 : tie.Need-anew-requires-2
+anew-requires-2 : tie.Need-anew-above-requires
 anew-requires-2 c κs =
     let q = c.before.before.before in
     let p = (start (lowered q)).requires in
-    (p.0, q.before.anew.auto.1.1.0 ∙ p.2)
+    (p.0, q.before.anew-below.auto.1.1.0 ∙ p.2)
 
-same_length : tie.Need-same-length
+same_length : tie.Need-shape_of-spare-then-equality
 same_length c = search rules
 
-returns : tie.Need-returns
+returns : tie.Need-returns-then-equality
 returns c =
     let u = c.before.before.before in
     let q = u.before.before in
     let b = working q in
-    let eq : is_equality (given q).kind ≡ true = ap (λ (e : Bool). is_equality (kind_is e)) u.before.if1.true in
+    let eq : is_equality (given q).kind ≡ true = ap (λ (e : Bool). is_equality (kind_is e)) u.before.if-equality.true in
     record {
-      above = c.before.anew2.ensures ∙ ap (λ o. C.keeps (candidate b o)) u.opposite-above.ensures ∙ sym (ap (λ (a : Bool). a && C.keeps (candidate b (T.tight (C.above (given q))))) eq);
-      below = q.before.anew.ensures ∙ ap (λ o. C.keeps (candidate b o)) (lowered q).opposite-below.ensures;
+      above = c.before.anew-above.ensures ∙ ap (λ o. C.keeps (candidate b o)) u.opposite_above-p.ensures ∙ sym (ap (λ (a : Bool). a && C.keeps (candidate b (T.tight (C.above (given q))))) eq);
+      below = q.before.anew-below.ensures ∙ ap (λ o. C.keeps (candidate b o)) (lowered q).opposite_below-o.ensures;
     }
 
-same-length-2 : tie.Need-same-length-2
+same-length-2 : tie.Need-shape_of-spare
 same-length-2 c = search rules
 
-returns-2 : tie.Need-returns-2
+returns-2 : tie.Need-returns
 returns-2 c =
     let q = c.before in
     let b = working q in
-    let eq : is_equality (given q).kind ≡ false = ap (λ (e : Bool). is_equality (kind_is e)) c.if1.false in
+    let eq : is_equality (given q).kind ≡ false = ap (λ (e : Bool). is_equality (kind_is e)) c.if-equality.false in
     record {
       above = sym (ap (λ (a : Bool). a && C.keeps (candidate b (T.tight (C.above (given q))))) eq);
-      below = q.before.anew.ensures ∙ ap (λ o. C.keeps (candidate b o)) (lowered q).opposite-below.ensures;
+      below = q.before.anew-below.ensures ∙ ap (λ o. C.keeps (candidate b o)) (lowered q).opposite_below-o.ensures;
     }
 
 pub kept_alone_spec : {M : Type 1} → statement M

@@ -16,15 +16,15 @@ use Rattle.carrying.proofs.going.go_on.Reads as go-on-reads
 carry-requires : tie.Need-carry-requires
 carry-requires c κs = let s = c.before.before.before in (s.requires.2, λ k h. (s.requires.0.line k h).long)
 
-go-on-requires : tie.Need-go-on-requires
+go-on-requires : tie.Need-go_on-requires
 go-on-requires c κs =
     let a = c.before.before.before in let s = a.before.before.before.before in
     (a.carry.ensures.sheets, subst (λ (r : List (List ℤ)). S.Fine s.args.n r s.args.place.now s.args.kinds.now) (sym a.carry.ensures.is) s.requires.0, s.requires.1)
 
-same_length : tie.Need-same-length
+same_length : tie.Need-shape_of-place
 same_length c = search rules
 
-same-length-2 : tie.Need-same-length-2
+same-length-2 : tie.Need-shape_of-out
 same-length-2 c = search rules
 
 returns : tie.Need-returns

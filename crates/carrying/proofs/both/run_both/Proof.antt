@@ -21,96 +21,96 @@ use Rattle.carrying.proofs.both.widened.Reads as widened-reads
 use Rattle.simplex.proofs.run.run.Reads as run-reads
 
 -- where the function began, where it has run at 64 bits, and where at 128
-abbrev begun : tie.After-run → tie.Start
+abbrev begun : tie.After-run-e → tie.Start
 begun c = c.before.before.before.before.before
 
-abbrev ran : tie.After-first → tie.After-run
+abbrev ran : tie.After-first-1 → tie.After-run-e
 ran c = c.before.before.before.before
 
-abbrev went : tie.After-struct-known → tie.After-widened
+abbrev went : tie.After-struct_known-1 → tie.After-widened-w
 went c = c.before.before.before.before
 
-abbrev taken : tie.After-widened → tie.Then1
+abbrev taken : tie.After-widened-w → tie.Then-is_wide
 taken c = c.before.before.before
 
 -- how the run at 64 bits ends
-abbrev reached : tie.After-run → S.Ending
+abbrev reached : tie.After-run-e → S.Ending
 reached c = let s = begun c in S.run_table s.args.kinds.now 200 s.args.t.now s.args.place.now
 
-kept : (c : tie.After-run) → let s = begun c in
+kept : (c : tie.After-run-e) → let s = begun c in
     S.Fine s.args.n (reached c).rows (reached c).place s.args.kinds.now
     × (length (reached c).place ≡ length s.args.place.now) × ((reached c).left ≤ 200)
 kept c = let s = begun c in run-keeps {W = 64} (omega arith) s.args.n s.args.kinds.now 200 s.args.t.now s.args.place.now s.pre
 
-wide : (c : tie.Then1) → is_wide (reached (ran c.before.before)).verdict ≡ true
-wide c = ap is_wide (sym (ran c.before.before).run.ensures.verdict_is) ∙ sym c.before.is_IsWide.ensures ∙ c.if1.true
+wide : (c : tie.Then-is_wide) → is_wide (reached (ran c.before.before)).verdict ≡ true
+wide c = ap is_wide (sym (ran c.before.before).run-e.ensures.verdict_is) ∙ sym c.before.is_IsWide.ensures ∙ c.if-is_wide.true
 
-judged : (c : tie.Else1) → is_wide (reached (ran c.before.before)).verdict ≡ false
-judged c = ap is_wide (sym (ran c.before.before).run.ensures.verdict_is) ∙ sym c.before.is_IsWide.ensures ∙ c.if1.false
+judged : (c : tie.Else-is_wide) → is_wide (reached (ran c.before.before)).verdict ≡ false
+judged c = ap is_wide (sym (ran c.before.before).run-e.ensures.verdict_is) ∙ sym c.before.is_IsWide.ensures ∙ c.if-is_wide.false
 
 -- where the run at 128 bits begins: with its table and the pivots left
-fine : (c : tie.After-run) → S.Fine (begun c).args.n c.run.new.0 c.run.new.1.1.0 (begun c).args.kinds.now
+fine : (c : tie.After-run-e) → S.Fine (begun c).args.n c.run-e.new.0 c.run-e.new.1.1.0 (begun c).args.kinds.now
 fine c =
-    let s = begun c in let e = c.run.ensures in
-    subst (λ (t : List (List ℤ)). S.Fine s.args.n t c.run.new.1.1.0 s.args.kinds.now) (sym e.rows_are)
+    let s = begun c in let e = c.run-e.ensures in
+    subst (λ (t : List (List ℤ)). S.Fine s.args.n t c.run-e.new.1.1.0 s.args.kinds.now) (sym e.rows_are)
     (subst (λ (p : List ℕ). S.Fine s.args.n (reached c).rows p s.args.kinds.now) (sym e.place_is) (kept c).0)
 
-from : {A : Type 0} (f : ℕ → List (List ℤ) → List ℕ → A) (c : tie.After-run)
-    → f (200 - c.run.result.ended.pivots) c.run.new.0 c.run.new.1.1.0
+from : {A : Type 0} (f : ℕ → List (List ℤ) → List ℕ → A) (c : tie.After-run-e)
+    → f (200 - c.run-e.result.ended.pivots) c.run-e.new.0 c.run-e.new.1.1.0
     ≡ f (reached c).left (reached c).rows (reached c).place
 from f c =
-    let e = c.run.ensures in let b = (kept c).2 in let p = e.pivots_are in
+    let e = c.run-e.ensures in let b = (kept c).2 in let p = e.pivots_are in
     let q : 200 - c.run.result.ended.pivots ≡ (reached c).left = omega arith in
-    ap (λ (l : ℕ). f l c.run.new.0 c.run.new.1.1.0) q ∙ ap₂ (f (reached c).left) e.rows_are e.place_is
+    ap (λ (l : ℕ). f l c.run-e.new.0 c.run-e.new.1.1.0) q ∙ ap₂ (f (reached c).left) e.rows_are e.place_is
 
-run-requires : tie.Need-run-requires
+run-requires : tie.Need-run-e-requires
 run-requires c κs = search rules
 
-is-wide-requires : tie.Need-is-wide-requires
+is-wide-requires : tie.Need-is_wide-requires
 is-wide-requires c κs = search rules
 
-sub-widened : tie.Need-overflow-sub-widened
+sub-widened : tie.Need-overflow_sub-p
 sub-widened c = search rules
 
-widened-requires : tie.Need-widened-requires
+widened-requires : tie.Need-widened-w-requires
 widened-requires c κs = (fine (ran c.before.before.before.before), omega arith)
 
-add-built : tie.Need-overflow-add-built
+add-built : tie.Need-overflow_add-built
 add-built c =
     let w = went c in let r = ran (taken w).before.before in let s = begun r in let kinds = s.args.kinds.now in
     let h = built-le (bound 64) kinds 200 s.args.t.now s.args.place.now s.pre.count in
-    record { fits = omega (arith, h, went-le w.widened.ensures (fine r).count, r.run.ensures.built_is) }
+    record { fits = omega (arith, h, went-le w.widened-w.ensures (fine r).count, r.run-e.ensures.built_is) }
 
-same_length : tie.Need-same-length
+same_length : tie.Need-shape_of-t-then-is_wide
 same_length c = search rules
 
-same-length-2 : tie.Need-same-length-2
+same-length-2 : tie.Need-shape_of-place-then-is_wide
 same-length-2 c = search rules
 
-returns : tie.Need-returns
+returns : tie.Need-returns-then-is_wide
 unfolding both_table
 returns c =
     let w = went c in let r = ran (taken w).before.before in let kinds = (begun r).args.kinds.now in let o = reached r in
     let q = from (S.run_table_at (bound 128) kinds) r ∙ sym (onward-yes kinds o (wide (taken w))) in
     record {
-      verdict_is = w.widened.ensures.verdict_is ∙ ap (λ o. o.verdict) q;
-      pivots_are = w.widened.ensures.pivots_are ∙ ap (λ o. 200 - o.left) q;
+      verdict_is = w.widened-w.ensures.verdict_is ∙ ap (λ o. o.verdict) q;
+      pivots_are = w.widened-w.ensures.pivots_are ∙ ap (λ o. 200 - o.left) q;
       built_is =
-          ap₂ ◌+◌ r.run.ensures.built_is
-          (w.widened.ensures.built_is ∙ from (S.built_table_at (bound 128) kinds) r
+          ap₂ ◌+◌ r.run-e.ensures.built_is
+          (w.widened-w.ensures.built_is ∙ from (S.built_table_at (bound 128) kinds) r
           ∙ ap (λ (b : Bool). cond b (S.built_table_at (bound 128) kinds o.left o.rows o.place) 0) (sym (wide (taken w))));
     }
 
-same-length-3 : tie.Need-same-length-3
+same-length-3 : tie.Need-shape_of-t
 same-length-3 c = search rules
 
-same-length-4 : tie.Need-same-length-4
+same-length-4 : tie.Need-shape_of-place
 same-length-4 c = search rules
 
-returns-2 : tie.Need-returns-2
+returns-2 : tie.Need-returns
 unfolding both_table
 returns-2 c =
-    let r = ran c.before.before in let e = r.run.ensures in let o = reached r in let kinds = (begun r).args.kinds.now in
+    let r = ran c.before.before in let e = r.run-e.ensures in let o = reached r in let kinds = (begun r).args.kinds.now in
     let q = sym (onward-no kinds o (judged c)) in
     let b = ap (λ (b : Bool). cond b (S.built_table_at (bound 128) kinds o.left o.rows o.place) 0) (judged c) in
     record {

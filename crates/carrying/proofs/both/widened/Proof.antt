@@ -9,16 +9,16 @@ use Rattle.carrying.proofs.both.widened.Reads as reads
 use Rattle.carrying.proofs.both.widened.Lts as lts
 use Rattle.carrying.proofs.both.in_table.Reads as in-table-reads
 
-array-borrow-prefix-out : tie.Need-array-borrow-prefix-out
+array-borrow-prefix-out : tie.Need-slice_bounds-out-end
 array-borrow-prefix-out c = search rules
 
-slice-aggregate-in-table : tie.Need-slice-aggregate-in-table
+slice-aggregate-in-table : tie.Need-slice_bounds-in_table-end
 slice-aggregate-in-table c = let s = c.before.before.before.before in sym (length-take-le _ _ s.requires.0.count)
 
-in-table-requires : tie.Need-in-table-requires
+in-table-requires : tie.Need-in_table-requires
 in-table-requires c κs = let s = c.before.before.before.before in (s.requires.0, s.requires.1, length-take-le _ _ s.requires.0.count)
 
-same_length : tie.Need-same-length
+same_length : tie.Need-shape_of-place
 same_length c = search rules
 
 returns : tie.Need-returns

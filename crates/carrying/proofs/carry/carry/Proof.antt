@@ -15,60 +15,60 @@ use Rattle.carrying.proofs.carry.carry.Tie as tie
 use Rattle.carrying.proofs.carry.carry.Reads as reads
 use Rattle.carrying.proofs.carry.carry.Lts as lts
 
-abbrev invariant-loop : tie.invariant-loop
+abbrev invariant-loop : tie.invariant-loop-k
 invariant-loop rows out₀ k₀ out k = (k ≤ length rows) × (length out ≡ length out₀) × Done k out × (rows_of out ≡ L.up_to (from_list [] rows) k (rows_of out₀))
 
-abbrev decreases-loop : tie.decreases-loop
+abbrev decreases-loop : tie.decreases-loop-k
 decreases-loop rows out₀ k₀ out k = length rows - k
 
-within : (c : tie.In-loop invariant-loop decreases-loop) → c.before.loop.k < length c.before.loop.out
-within c = let l = c.before.loop in let s = c.before.before in omega (arith, c.loop-test.true, l.invariant.1, s.requires.0)
+within : (c : tie.In-loop-k invariant-loop decreases-loop) → c.before.loop-k.k < length c.before.loop-k.out
+within c = let l = c.before.loop-k in let s = c.before.before in omega (arith, c.loop-k-test.true, l.invariant.1, s.requires.0)
 
-loop-holds : tie.Need-loop-init invariant-loop decreases-loop
+loop-holds : tie.Need-loop-k-init invariant-loop decreases-loop
 loop-holds c = (omega arith, refl, done_none _, L.up_to-none _ _)
 
-mul-carry-row : tie.Need-overflow-mul-carry-row invariant-loop decreases-loop
+mul-carry-row : tie.Need-offset_bounds-rows-k invariant-loop decreases-loop
 mul-carry-row c = search rules
 
-shared-slice-element-carry-row : tie.Need-shared-slice-element-carry-row invariant-loop decreases-loop
-shared-slice-element-carry-row c = c.loop-test.true
+shared-slice-element-carry-row : tie.Need-bounds-rows-k invariant-loop decreases-loop
+shared-slice-element-carry-row c = c.loop-k-test.true
 
-mul-carry-row-2 : tie.Need-overflow-mul-carry-row-2 invariant-loop decreases-loop
+mul-carry-row-2 : tie.Need-offset_bounds-out-k invariant-loop decreases-loop
 mul-carry-row-2 c = search rules
 
-index-1-carry-row : tie.Need-bounds-1-carry-row invariant-loop decreases-loop
+index-1-carry-row : tie.Need-bounds-out-k invariant-loop decreases-loop
 index-1-carry-row c = within c.before
 
-carry-row-requires : tie.Need-carry-row-requires invariant-loop decreases-loop
+carry-row-requires : tie.Need-carry_row-requires invariant-loop decreases-loop
 carry-row-requires c κs = let i = c.before.before in let l = i.before.loop in let s = i.before.before in s.requires.1 l.k i.loop-test.true
 
-add-k : tie.Need-overflow-add-k invariant-loop decreases-loop
+add-k : tie.Need-overflow_add-k invariant-loop decreases-loop
 add-k c = search rules
 
-loop-less : tie.Need-loop-smaller invariant-loop decreases-loop
+loop-less : tie.Need-loop-k-smaller invariant-loop decreases-loop
 loop-less c = let i = c.before.before.before in omega (arith, i.loop-test.true)
 
-loop-again : tie.Need-loop-preserved invariant-loop decreases-loop
+loop-again : tie.Need-loop-k-preserved invariant-loop decreases-loop
 loop-again c =
     let i = c.before.before.before in let l = i.before.loop in let s = i.before.before in
     let e = rows-length s.args.out.now in
     let h : l.k < length (rows_of s.args.out.now) = omega (arith, i.loop-test.true, s.requires.0) in (
       omega (arith, i.loop-test.true),
       length-set l.out l.k _ ∙ l.invariant.1,
-      done_next l.k l.out _ (within i) l.invariant.2 c.carry-row.ensures.sheet,
+      done_next l.k l.out _ (within i) l.invariant.2 c.carry_row.ensures.sheet,
       rows-set l.out l.k _
-          ∙ L.up_to-more [] (from_list [] s.args.rows.now) l.k (rows_of s.args.out.now) (rows_of l.out) _ h l.invariant.3 (c.carry-row.ensures.is ∙ sym (from_list-is [] s.args.rows.now l.k _)),
+          ∙ L.up_to-more [] (from_list [] s.args.rows.now) l.k (rows_of s.args.out.now) (rows_of l.out) _ h l.invariant.3 (c.carry_row.ensures.is ∙ sym (from_list-is [] s.args.rows.now l.k _)),
     )
 
-same_length : tie.Need-same-length invariant-loop decreases-loop
-same_length c = c.before.loop.invariant.1
+same_length : tie.Need-shape_of-out invariant-loop decreases-loop
+same_length c = c.before.loop-k.invariant.1
 
 returns : tie.Need-returns invariant-loop decreases-loop
 returns c =
-    let l = c.before.loop in let s = c.before.before in let e = rows-length s.args.out.now in
+    let l = c.before.loop-k in let s = c.before.before in let e = rows-length s.args.out.now in
     record {
-      is = l.invariant.3 ∙ up_to-from [] l.k (rows_of s.args.out.now) s.args.rows.now (omega (arith, c.loop-test.false, s.requires.0)) (e ∙ s.requires.0);
-      sheets = record { at = λ k h. l.invariant.2.at k (let q = l.invariant.1 in omega (arith, c.loop-test.false, s.requires.0)) };
+      is = l.invariant.3 ∙ up_to-from [] l.k (rows_of s.args.out.now) s.args.rows.now (omega (arith, c.loop-k-test.false, s.requires.0)) (e ∙ s.requires.0);
+      sheets = record { at = λ k h. l.invariant.2.at k (let q = l.invariant.1 in omega (arith, c.loop-k-test.false, s.requires.0)) };
     }
 
 pub carry_spec : {M : Type 1} → statement M

@@ -14,20 +14,20 @@ use Rattle.carrying.proofs.choose.choose.Lts as lts
 use Rattle.carrying.proofs.choose.choose_at.Reads as choose-at-reads
 use Rattle.wide_tableau.proofs.violated.Reads as violated-reads
 
-violated-requires : tie.Need-violated-requires
+violated-requires : tie.Need-violated-v-requires
 violated-requires c κs =
     let s = c.before.before in let t = s.args.t.now in
     (s.requires.0, s.requires.1.same, λ v h k. subst (λ (n : ℕ). get_or s.args.place.now v 0 < n) (rows-length t) (s.requires.1.spot v h k))
 
-returns : tie.Need-returns
+returns : tie.Need-returns-then-count-v
 returns c =
     let v = c.before in let s = v.before.before.before in
-    M.choose-point_at (bound 128) (rows_of s.args.t.now) s.args.place.now s.args.kinds.now s.args.left v.violated.result v.violated.ensures c.if1.true
+    M.choose-point_at (bound 128) (rows_of s.args.t.now) s.args.place.now s.args.kinds.now s.args.left v.violated-v.result v.violated-v.ensures c.if-count-v.true
 
-choose-at-requires : tie.Need-choose-at-requires
+choose-at-requires : tie.Need-choose_at-requires
 choose-at-requires c κs = search rules
 
-returns-2 : tie.Need-returns-2
+returns-2 : tie.Need-returns
 returns-2 c = search rules
 
 pub choose_spec : {M : Type 1} → statement M

@@ -18,67 +18,67 @@ use Rattle.carrying.proofs.going.go_on.Lts as lts
 use Rattle.carrying.proofs.choose.choose.Reads as choose-reads
 use Rattle.carrying.proofs.going.pivot.Reads as pivot-reads
 
-abbrev invariant-loop : tie.invariant-loop
+abbrev invariant-loop : tie.invariant-loop-x
 invariant-loop t₀ n place₀ kinds from left₀ built₀ t place left built =
     Sheets t × S.Fine n (rows_of t) place kinds
     × (S.run_table_at (bound 128) kinds left (rows_of t) place ≡ S.run_table_at (bound 128) kinds from (rows_of t₀) place₀)
     × (length t ≡ length t₀) × (length place ≡ length place₀) × (left ≤ 200)
     × (built + S.built_table_at (bound 128) kinds left (rows_of t) place ≡ S.built_table_at (bound 128) kinds from (rows_of t₀) place₀)
 
-abbrev decreases-loop : tie.decreases-loop
+abbrev decreases-loop : tie.decreases-loop-x
 decreases-loop t₀ n place₀ kinds from left₀ built₀ t place left built = left
 
 -- where the function began, and where the turn of the loop that pivots began
-abbrev begun : tie.At-loop invariant-loop decreases-loop → tie.Start invariant-loop decreases-loop
+abbrev begun : tie.At-loop-x invariant-loop decreases-loop → tie.Start invariant-loop decreases-loop
 begun c = c.before.before.before
 
-abbrev turn : tie.After-m2 invariant-loop decreases-loop → tie.At-loop invariant-loop decreases-loop
+abbrev turn : tie.In-Pivot-2 invariant-loop decreases-loop → tie.At-loop-x invariant-loop decreases-loop
 turn c = c.before.before.before.before.before
 
-abbrev choice : tie.After-slice-known2 invariant-loop decreases-loop → tie.After-m2 invariant-loop decreases-loop
+abbrev choice : tie.After-slice_known-in-Pivot-1 invariant-loop decreases-loop → tie.In-Pivot-2 invariant-loop decreases-loop
 choice c = c.before.before.before.before.before.before.before
 
-stops : (c : tie.After-m invariant-loop decreases-loop) →
+stops : (c : tie.In-Stop-2 invariant-loop decreases-loop) →
     let a = c.before.before.before.before.before in let l = a.loop in
-    S.move_at (bound 128) (rows_of l.t) l.place (begun a).args.kinds.now l.left ≡ Stop c.m.given.0.0
-stops c = sym c.before.before.choose.ensures ∙ c.m.given.1
+    S.move_at (bound 128) (rows_of l.t) l.place (begun a).args.kinds.now l.left ≡ Stop c.m-1.given.0.0
+stops c = sym c.before.before.choose-m.ensures ∙ c.m-1.given.1
 
-pivots : (c : tie.After-m2 invariant-loop decreases-loop) →
-    let l = (turn c).loop in let v = c.m2.given.0.0 in let w = c.m2.given.0.1.0 in
+pivots : (c : tie.In-Pivot-2 invariant-loop decreases-loop) →
+    let l = (turn c).loop-x in let v = c.m-in-Pivot-1.given.0.0 in let w = c.m-in-Pivot-1.given.0.1.0 in
     S.move_at (bound 128) (rows_of l.t) l.place (begun (turn c)).args.kinds.now l.left ≡ Pivot v w
-pivots c = sym c.before.before.choose.ensures ∙ c.m2.given.1
+pivots c = sym c.before.before.choose-m.ensures ∙ c.m-in-Pivot-1.given.1
 
-crosses : (c : tie.After-m2 invariant-loop decreases-loop) →
-    let l = (turn c).loop in let v = c.m2.given.0.0 in let w = c.m2.given.0.1.0 in
+crosses : (c : tie.In-Pivot-2 invariant-loop decreases-loop) →
+    let l = (turn c).loop-x in let v = c.m-in-Pivot-1.given.0.0 in let w = c.m-in-Pivot-1.given.0.1.0 in
     S.CrossingAt (bound 128) (begun (turn c)).args.n (rows_of l.t) l.place v w
-crosses c = let l = (turn c).loop in M.crossing_at (bound 128) _ (rows_of l.t) l.place _ l.left _ _ l.inv.1 (pivots c)
+crosses c = let l = (turn c).loop-x in M.crossing_at (bound 128) _ (rows_of l.t) l.place _ l.left _ _ l.inv.1 (pivots c)
 
 -- what is still to be built, before the pivot
-builds : (c : tie.After-m2 invariant-loop decreases-loop) →
-    let l = (turn c).loop in let v = c.m2.given.0.0 in let w = c.m2.given.0.1.0 in let t = rows_of l.t in
+builds : (c : tie.In-Pivot-2 invariant-loop decreases-loop) →
+    let l = (turn c).loop-x in let v = c.m-in-Pivot-1.given.0.0 in let w = c.m-in-Pivot-1.given.0.1.0 in let t = rows_of l.t in
     let still = S.built_table_at (bound 128) (begun (turn c)).args.kinds.now in
     still l.left t l.place ≡ S.pivot_built t l.place w + still (l.left - 1) (S.pivot_rows t l.place v w) (S.pivot_place l.place v w)
-builds c = let l = (turn c).loop in built-pivot (bound 128) _ (rows_of l.t) l.place l.left _ _ (pivots c)
+builds c = let l = (turn c).loop-x in built-pivot (bound 128) _ (rows_of l.t) l.place l.left _ _ (pivots c)
 
-loop-holds : tie.Need-loop-init invariant-loop decreases-loop
+loop-holds : tie.Need-loop-x-init invariant-loop decreases-loop
 loop-holds c = let s = c.before.before in (s.requires.0, s.requires.1, refl, refl, refl, s.requires.2, omega arith)
 
-choose-requires : tie.Need-choose-requires invariant-loop decreases-loop
+choose-requires : tie.Need-choose-m-requires invariant-loop decreases-loop
 choose-requires c κs = let l = c.before.before.loop in (l.invariant.0, l.invariant.1)
 
-enum-known-m : tie.Need-enum-known-m invariant-loop decreases-loop
+enum-known-m : tie.Need-enum_known-m invariant-loop decreases-loop
 enum-known-m c = search rules
 
-sub-t17 : tie.Need-overflow-sub-t17 invariant-loop decreases-loop
+sub-t17 : tie.Need-overflow_sub-ended invariant-loop decreases-loop
 sub-t17 c = c.before.before.before.before.before.before.loop.invariant.5
 
-same_length : tie.Need-same-length invariant-loop decreases-loop
+same_length : tie.Need-shape_of-t-in-Stop invariant-loop decreases-loop
 same_length c = c.before.before.before.before.before.before.loop.invariant.3
 
-same-length-2 : tie.Need-same-length-2 invariant-loop decreases-loop
+same-length-2 : tie.Need-shape_of-place-in-Stop invariant-loop decreases-loop
 same-length-2 c = c.before.before.before.before.before.before.loop.invariant.4
 
-returns : tie.Need-returns invariant-loop decreases-loop
+returns : tie.Need-returns-in-Stop invariant-loop decreases-loop
 returns c =
     let a = c.before.before.before.before.before.before in let l = a.loop in let kinds = (begun a).args.kinds.now in
     let q = sym (M.run-stop_at (bound 128) kinds l.left (rows_of l.t) l.place _ (stops c.before)) ∙ l.invariant.2 in
@@ -89,33 +89,33 @@ returns c =
       place_is = ap (λ o. o.place) q;
     }
 
-enum-known-m-2 : tie.Need-enum-known-m-2 invariant-loop decreases-loop
+enum-known-m-2 : tie.Need-enum_known-m-in-Pivot-1 invariant-loop decreases-loop
 enum-known-m-2 c = search rules
 
-pivot-requires : tie.Need-pivot-requires invariant-loop decreases-loop
-pivot-requires c κs = let m = c.before.before.before in ((turn m).loop.invariant.0, crosses m)
+pivot-requires : tie.Need-pivot-built-requires invariant-loop decreases-loop
+pivot-requires c κs = let m = c.before.before.before in ((turn m).loop-x.invariant.0, crosses m)
 
-add-built : tie.Need-overflow-add-built invariant-loop decreases-loop
+add-built : tie.Need-overflow_add-built invariant-loop decreases-loop
 add-built c =
     let a = turn (choice c) in let s = begun a in
     let h = built-le (bound 128) s.args.kinds.now s.args.from (rows_of s.args.t.now) s.args.place.now s.pre.1.count in
-    record { fits = omega (arith, h, s.pre.2, a.loop.inv.6, builds (choice c), c.before.before.before.pivot.ensures.2) }
+    record { fits = omega (arith, h, s.pre.2, a.loop-x.inv.6, builds (choice c), c.before.before.before.pivot-built.ensures.2) }
 
-sub-left : tie.Need-overflow-sub-left invariant-loop decreases-loop
-sub-left c = let l = (turn (choice c)).loop in M.pivot-left_at (bound 128) _ l.left (rows_of l.t) l.place _ _ (pivots (choice c))
+sub-left : tie.Need-overflow_sub-left invariant-loop decreases-loop
+sub-left c = let l = (turn (choice c)).loop-x in M.pivot-left_at (bound 128) _ l.left (rows_of l.t) l.place _ _ (pivots (choice c))
 
-loop-less : tie.Need-loop-smaller invariant-loop decreases-loop
-loop-less c = let l = (turn (choice c)).loop in let h = M.pivot-left_at (bound 128) _ l.left (rows_of l.t) l.place _ _ (pivots (choice c)) in omega arith
+loop-less : tie.Need-loop-x-smaller invariant-loop decreases-loop
+loop-less c = let l = (turn (choice c)).loop-x in let h = M.pivot-left_at (bound 128) _ l.left (rows_of l.t) l.place _ _ (pivots (choice c)) in omega arith
 
-loop-again : tie.Need-loop-preserved invariant-loop decreases-loop
+loop-again : tie.Need-loop-x-preserved invariant-loop decreases-loop
 loop-again c =
-    let m = choice c in let l = (turn m).loop in let kinds = (begun (turn m)).args.kinds.now in
-    let v = m.m2.given.0.0 in let w = m.m2.given.0.1.0 in
-    let p = c.before.before.before in let et = p.pivot.ensures.0.is in let ep = p.pivot.ensures.1 in let eb = p.pivot.ensures.2 in (
-      p.pivot.ensures.0.sheets,
+    let m = choice c in let l = (turn m).loop-x in let kinds = (begun (turn m)).args.kinds.now in
+    let v = m.m-in-Pivot-1.given.0.0 in let w = m.m-in-Pivot-1.given.0.1.0 in
+    let p = c.before.before.before in let et = p.pivot-built.ensures.0.is in let ep = p.pivot-built.ensures.1 in let eb = p.pivot-built.ensures.2 in (
+      p.pivot-built.ensures.0.sheets,
       rw (et, ep) (M.pivot-fine_at {W = 128} (omega arith) _ (rows_of l.t) l.place kinds v w l.inv.1 (crosses m)),
       rw (et, ep) (M.run-pivot_at (bound 128) kinds l.left (rows_of l.t) l.place v w (pivots m) ∙ l.inv.2),
-      sym (rows-length p.pivot.new.0) ∙ ap length et ∙ M.rows-length (rows_of l.t) l.place v w ∙ rows-length l.t ∙ l.inv.3,
+      sym (rows-length p.pivot-built.new.0) ∙ ap length et ∙ M.rows-length (rows_of l.t) l.place v w ∙ rows-length l.t ∙ l.inv.3,
       ap length ep ∙ M.pivot-length l.place v w ∙ l.inv.4,
       omega (arith, l.inv.5),
       rw (et, ep) (omega (arith, l.inv.6, builds m, eb)),

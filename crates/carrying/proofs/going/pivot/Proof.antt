@@ -9,45 +9,45 @@ use Rattle.carrying.proofs.going.pivot.Reads as reads
 use Rattle.carrying.proofs.going.pivot.Lts as lts
 use Rattle.wide_tableau.proofs.exchange.Reads as exchange-reads
 
-mul-i : tie.Need-overflow-mul-i
+mul-i : tie.Need-offset_bounds-place-v
 mul-i c = search rules
 
-slice-read-i : tie.Need-slice-read-i
+slice-read-i : tie.Need-bounds-place-v
 slice-read-i c = search rules
 
-mul-c : tie.Need-overflow-mul-c
+mul-c : tie.Need-offset_bounds-place-w
 mul-c c = search rules
 
-slice-read-c : tie.Need-slice-read-c
+slice-read-c : tie.Need-bounds-place-w
 slice-read-c c = search rules
 
-sub-exchange : tie.Need-overflow-sub-exchange
+sub-exchange : tie.Need-overflow_sub-c
 sub-exchange c = search rules
 
-exchange-requires : tie.Need-exchange-requires
+exchange-requires : tie.Need-exchange-k-requires
 exchange-requires c κs = search rules
 
-mul-place : tie.Need-overflow-mul-place
+mul-place : tie.Need-offset_bounds-place-v-2
 mul-place c = search rules
 
-slice-write-place : tie.Need-slice-write-place
+slice-write-place : tie.Need-bounds-place-v-2
 slice-write-place c = search rules
 
-mul-place-2 : tie.Need-overflow-mul-place-2
+mul-place-2 : tie.Need-offset_bounds-place-w-2
 mul-place-2 c = search rules
 
-slice-write-place-2 : tie.Need-slice-write-place-2
+slice-write-place-2 : tie.Need-bounds-place-w-2
 slice-write-place-2 c = search rules
 
-same_length : tie.Need-same-length
+same_length : tie.Need-shape_of-t
 same_length c = search rules
 
-same-length-2 : tie.Need-same-length-2
+same-length-2 : tie.Need-shape_of-place
 same-length-2 c = search rules
 
 returns : tie.Need-returns
 unfolding S.pivot_rows S.pivot_place
-returns c = (c.before.exchange.ensures.0, refl, c.before.exchange.ensures.1)
+returns c = (c.before.exchange-k.ensures.0, refl, c.before.exchange-k.ensures.1)
 
 pub pivot_spec : {M : Type 1} → statement M
 pivot_spec =

@@ -12,7 +12,7 @@ abbrev start : tie.After-fill → tie.Start
 start c = c.before.before.before.before.before.before
 
 -- where the table was filled, from where its parts are lent
-abbrev filling : tie.After-slice-known4 → tie.After-fill
+abbrev filling : tie.After-slice_known-4-1 → tie.After-fill
 filling c = c.before.before.before.before.before
 
 abbrev running : tie.After-run-both-arg3 → tie.After-fill
@@ -24,56 +24,56 @@ filled : (c : tie.After-fill) →
     FirstTable b (take (2 * b.divs + b.cons) l.0) l.1.0 l.1.1.0
 filled c = let p = (start c).requires in first-table p.0 c.fill.ensures p.1.1.0 p.1.1.1
 
-mul-m : tie.Need-overflow-mul-m
+mul-m : tie.Need-overflow_mul-m
 mul-m c = search rules
 
-add-m : tie.Need-overflow-add-m
+add-m : tie.Need-overflow_add-m
 add-m c = search rules
 
-add-n : tie.Need-overflow-add-n
+add-n : tie.Need-overflow_add-n
 add-n c = search rules
 
-add-n-2 : tie.Need-overflow-add-n-2
+add-n-2 : tie.Need-overflow_add-n-2
 add-n-2 c = search rules
 
 fill-requires : tie.Need-fill-requires
 fill-requires c κs = search rules
 
-slice-relend-prefix-run-both : tie.Need-slice-relend-prefix-run-both
+slice-relend-prefix-run-both : tie.Need-slice_bounds-run_both-end
 slice-relend-prefix-run-both c = search rules
 
-slice-aggregate-run-both : tie.Need-slice-aggregate-run-both
+slice-aggregate-run-both : tie.Need-slice_bounds-run_both-end-2
 slice-aggregate-run-both c = sym (first_rows _ _ _ _ (filled (filling c.before)))
 
-add-run-both : tie.Need-overflow-add-run-both
+add-run-both : tie.Need-overflow_add-k
 add-run-both c = search rules
 
-slice-relend-prefix-run-both-2 : tie.Need-slice-relend-prefix-run-both-2
+slice-relend-prefix-run-both-2 : tie.Need-slice_bounds-run_both-end-3
 slice-relend-prefix-run-both-2 c = search rules
 
-slice-aggregate-run-both-2 : tie.Need-slice-aggregate-run-both-2
+slice-aggregate-run-both-2 : tie.Need-slice_bounds-run_both-end-4
 slice-aggregate-run-both-2 c = sym (first-places _ _ _ _ (filled (filling c.before.before)))
 
-slice-reshare-prefix-run-both : tie.Need-slice-reshare-prefix-run-both
+slice-reshare-prefix-run-both : tie.Need-slice_bounds-run_both-end-5
 slice-reshare-prefix-run-both c = search rules
 
-slice-aggregate-run-both-3 : tie.Need-slice-aggregate-run-both-3
+slice-aggregate-run-both-3 : tie.Need-slice_bounds-run_both-end-6
 slice-aggregate-run-both-3 c = sym (first-kinds _ _ _ _ (filled (running c)))
 
-run-both-requires : tie.Need-run-both-requires
+run-both-requires : tie.Need-run_both-requires
 run-both-requires c κs = first_fine _ _ _ _ (filled (running c))
 
-same_length : tie.Need-same-length
+same_length : tie.Need-shape_of-rows
 same_length c = search rules
 
-same-length-2 : tie.Need-same-length-2
+same-length-2 : tie.Need-shape_of-place
 same-length-2 c = search rules
 
-same-length-3 : tie.Need-same-length-3
+same-length-3 : tie.Need-shape_of-kinds
 same-length-3 c = search rules
 
 returns : tie.Need-returns
-returns c = let r = c.before.before.before in filled-both _ _ _ _ (filled (running r.before)) _ r.run-both.ensures
+returns c = let r = c.before.before.before in filled-both _ _ _ _ (filled (running r.before)) _ r.run_both.ensures
 
 pub test_counted_spec : {M : Type 1} → statement M
 test_counted_spec =

@@ -11,14 +11,14 @@ use Rattle.wide.proofs.widen.Reads as widen-reads
 widen-requires : tie.Need-widen-requires
 widen-requires c κs = search rules
 
-widen-requires-2 : tie.Need-widen-requires-2
+widen-requires-2 : tie.Need-widen-requires-else-greatest
 widen-requires-2 c κs = search rules
 
-returns : tie.Need-returns
-returns c = c.widen.ensures.0 ∙ sym (ap aim_of c.before.if1.true)
+returns : tie.Need-returns-then-greatest
+returns c = c.widen.ensures.0 ∙ sym (ap aim_of c.before.if-greatest.true)
 
-returns-2 : tie.Need-returns-2
-returns-2 c = c.widen2.ensures.0 ∙ sym (ap aim_of c.before.if1.false)
+returns-2 : tie.Need-returns-else-greatest
+returns-2 c = c.widen-else-greatest.ensures.0 ∙ sym (ap aim_of c.before.if-greatest.false)
 
 pub aim_spec : {M : Type 1} → statement M
 aim_spec = tie.close (tie.spec widen-requires widen-requires-2 returns returns-2)

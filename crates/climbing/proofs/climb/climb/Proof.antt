@@ -24,23 +24,23 @@ use Rattle.climbing.proofs.climb.climb.Lts as lts
 use Rattle.climbing.proofs.climb.step.Reads as step-reads
 use Rattle.climbing.proofs.cross.cross.Reads as cross-reads
 
-abbrev invariant-loop : tie.invariant-loop
+abbrev invariant-loop : tie.invariant-loop-x
 invariant-loop t₀ goal₀ n place₀ kinds greatest from left₀ t goal place left =
     Sheets t × Sheet goal × D.Posed n (rows_of t) (cells goal) place kinds
     × (D.climb_with (bound 128) kinds greatest left (rows_of t) (cells goal) place ≡ D.climb_with (bound 128) kinds greatest from (rows_of t₀) (cells goal₀) place₀)
     × (length t ≡ length t₀) × (length place ≡ length place₀)
 
-abbrev decreases-loop : tie.decreases-loop
+abbrev decreases-loop : tie.decreases-loop-x
 decreases-loop t₀ goal₀ n place₀ kinds greatest from left₀ t goal place left = left
 
 -- where the function began, and where a turn of the loop did
-abbrev begun : tie.At-loop invariant-loop decreases-loop → tie.Start invariant-loop decreases-loop
+abbrev begun : tie.At-loop-x invariant-loop decreases-loop → tie.Start invariant-loop decreases-loop
 begun c = c.before.before.before
 
-abbrev turn : tie.After-step invariant-loop decreases-loop → tie.At-loop invariant-loop decreases-loop
+abbrev turn : tie.After-step-s invariant-loop decreases-loop → tie.At-loop-x invariant-loop decreases-loop
 turn c = c.before.before.before.before
 
-module _ (c : tie.At-loop invariant-loop decreases-loop) where
+module _ (c : tie.At-loop-x invariant-loop decreases-loop) where
   abbrev rows : List (List ℤ)
   rows = rows_of c.loop.t
 
@@ -60,15 +60,15 @@ module _ (c : tie.At-loop invariant-loop decreases-loop) where
   left = c.loop.left
 
 -- the turn that ends it
-abbrev last : tie.After-s invariant-loop decreases-loop → tie.At-loop invariant-loop decreases-loop
+abbrev last : tie.In-Ends-2 invariant-loop decreases-loop → tie.At-loop-x invariant-loop decreases-loop
 last c = turn c.before.before
 
-ends : (c : tie.After-s invariant-loop decreases-loop) → let a = last c in D.step_at (bound 128) (rows a) (goal a) (place a) (kinds a) (greatest a) (left a) ≡ Ends c.s.given.0.0
-ends c = sym c.before.before.step.ensures ∙ c.s.given.1
+ends : (c : tie.In-Ends-2 invariant-loop decreases-loop) → let a = last c in D.step_at (bound 128) (rows a) (goal a) (place a) (kinds a) (greatest a) (left a) ≡ Ends c.s-1.given.0.0
+ends c = sym c.before.before.step-s.ensures ∙ c.s-1.given.1
 
 -- a turn that goes on
-module _ (c : tie.After-s2 invariant-loop decreases-loop) where
-  abbrev here : tie.At-loop invariant-loop decreases-loop
+module _ (c : tie.In-Turns-2 invariant-loop decreases-loop) where
+  abbrev here : tie.At-loop-x invariant-loop decreases-loop
   here = turn c.before.before
 
   abbrev v : ℕ
@@ -83,46 +83,46 @@ module _ (c : tie.After-s2 invariant-loop decreases-loop) where
   crosses : let n = (begun here).args.n in S.CrossingAt (bound 128) n (rows here) (place here) v w × R.FitAt (bound 128) n (goal here) (get_or (place here) w 0 - 64)
   crosses = step-crosses (bound 128) (begun here).args.n (rows here) (goal here) (place here) (kinds here) here.loop.inv.2 (greatest here) (left here) v w turns
 
-abbrev choice : tie.After-slice-known2 invariant-loop decreases-loop → tie.After-s2 invariant-loop decreases-loop
+abbrev choice : tie.After-slice_known-in-Turns-1 invariant-loop decreases-loop → tie.In-Turns-2 invariant-loop decreases-loop
 choice c = c.before.before.before.before.before.before.before.before
 
-loop-holds : tie.Need-loop-init invariant-loop decreases-loop
+loop-holds : tie.Need-loop-x-init invariant-loop decreases-loop
 loop-holds c = let s = c.before.before in (s.requires.0, s.requires.1, s.requires.2, refl, refl, refl)
 
-step-requires : tie.Need-step-requires invariant-loop decreases-loop
+step-requires : tie.Need-step-s-requires invariant-loop decreases-loop
 step-requires c κs = let l = c.before.before.before.loop in (l.invariant.0, l.invariant.1, l.invariant.2)
 
-enum-known-s : tie.Need-enum-known-s invariant-loop decreases-loop
+enum-known-s : tie.Need-enum_known-s invariant-loop decreases-loop
 enum-known-s c = search rules
 
-same_length : tie.Need-same-length invariant-loop decreases-loop
-same_length c = (last c.before).loop.inv.4
+same_length : tie.Need-shape_of-t-in-Ends invariant-loop decreases-loop
+same_length c = (last c.before).loop-x.inv.4
 
-same-length-2 : tie.Need-same-length-2 invariant-loop decreases-loop
-same-length-2 c = (last c.before).loop.inv.5
+same-length-2 : tie.Need-shape_of-place-in-Ends invariant-loop decreases-loop
+same-length-2 c = (last c.before).loop-x.inv.5
 
-returns : tie.Need-returns invariant-loop decreases-loop
+returns : tie.Need-returns-in-Ends invariant-loop decreases-loop
 returns c =
-    let a = last c.before in let l = a.loop in
+    let a = last c.before in let l = a.loop-x in
     let q = sym (climb-ends (bound 128) (kinds a) (greatest a) (rows a) (goal a) (place a) (left a) _ (ends c.before)) ∙ l.inv.3 in
     record { outcome-is = ap (λ (o : D.Climbed). o.outcome) q; goal_is = record { is = ap (λ (o : D.Climbed). o.goal) q; sheet = l.inv.1 } }
 
-enum-known-s-2 : tie.Need-enum-known-s-2 invariant-loop decreases-loop
+enum-known-s-2 : tie.Need-enum_known-s-in-Turns-1 invariant-loop decreases-loop
 enum-known-s-2 c = search rules
 
 cross-requires : tie.Need-cross-requires invariant-loop decreases-loop
 cross-requires c κs = let m = c.before.before.before.before in let l = (here m).loop in (l.inv.0, l.inv.1, (crosses m).0, (crosses m).1)
 
-some_left : (c : tie.After-slice-known2 invariant-loop decreases-loop) → 0 < left (here (choice c))
+some_left : (c : tie.After-slice_known-in-Turns-1 invariant-loop decreases-loop) → 0 < left (here (choice c))
 some_left c = let m = choice c in let a = here m in turns_left (bound 128) (kinds a) (greatest a) (rows a) (goal a) (place a) (left a) (v m) (w m) (turns m)
 
-sub-left : tie.Need-overflow-sub-left invariant-loop decreases-loop
+sub-left : tie.Need-overflow_sub-left invariant-loop decreases-loop
 sub-left c = some_left c
 
-loop-less : tie.Need-loop-smaller invariant-loop decreases-loop
+loop-less : tie.Need-loop-x-smaller invariant-loop decreases-loop
 loop-less c = let h = some_left c in omega arith
 
-loop-again : tie.Need-loop-preserved invariant-loop decreases-loop
+loop-again : tie.Need-loop-x-preserved invariant-loop decreases-loop
 loop-again c =
     let m = choice c in let a = here m in let i = a.loop.inv in
     let p = c.before.before.before in let e = p.cross.ensures in let et = e.0.is in let eg = e.1.is in let ep = e.2 in (

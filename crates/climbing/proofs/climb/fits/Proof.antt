@@ -15,18 +15,18 @@ use Rattle.wide_tableau.proofs.search.row_narrow.Reads as row-narrow-reads
 narrow-requires : tie.Need-narrow-requires
 narrow-requires c κs = search rules
 
-row-narrow-requires : tie.Need-row-narrow-requires
+row-narrow-requires : tie.Need-row_narrow-requires
 row-narrow-requires c κs = search rules
 
-returns : tie.Need-returns
+returns : tie.Need-returns-then-narrow
 returns c =
     let t = c.before in let n = t.before in let s = n.before in
-    c.row-narrow.ensures ∙ sym (ap (λ (b : Bool). b && R.narrow_row_at (bound 128) s.args.j (cells s.args.goal.now)) (sym n.narrow.ensures ∙ t.if1.true))
+    c.row_narrow.ensures ∙ sym (ap (λ (b : Bool). b && R.narrow_row_at (bound 128) s.args.j (cells s.args.goal.now)) (sym n.narrow.ensures ∙ t.if-narrow.true))
 
-returns-2 : tie.Need-returns-2
+returns-2 : tie.Need-returns
 returns-2 c =
     let n = c.before in let s = n.before in
-    sym (ap (λ (b : Bool). b && R.narrow_row_at (bound 128) s.args.j (cells s.args.goal.now)) (sym n.narrow.ensures ∙ c.if1.false))
+    sym (ap (λ (b : Bool). b && R.narrow_row_at (bound 128) s.args.j (cells s.args.goal.now)) (sym n.narrow.ensures ∙ c.if-narrow.false))
 
 pub fits_spec : {M : Type 1} → statement M
 fits_spec = tie.close (tie.spec narrow-requires row-narrow-requires returns returns-2)

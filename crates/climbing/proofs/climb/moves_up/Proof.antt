@@ -19,31 +19,31 @@ use Rattle.wide_tableau.proofs.row.cell_at.Reads as cell-at-reads
 minus_one : (a : ℤ) → negsuc 0 *ℤ a ≡ neg_ℤ a
 minus_one a = negℤ-*ℤ (pos 1) a ∙ ap neg_ℤ (one-*ℤ a)
 
-add-cell-at : tie.Need-overflow-add-cell-at
+add-cell-at : tie.Need-overflow_add-j
 add-cell-at c = search rules
 
-cell-at-requires : tie.Need-cell-at-requires
+cell-at-requires : tie.Need-cell_at-a-requires
 cell-at-requires c κs = search rules
 
-negate-requires : tie.Need-negate-requires
+negate-requires : tie.Need-negate-b-requires
 negate-requires c κs = search rules
 
-is-negative-requires : tie.Need-is-negative-requires
+is-negative-requires : tie.Need-is_negative-requires
 is-negative-requires c κs = search rules
 
-returns : tie.Need-returns
+returns : tie.Need-returns-then-greatest
 returns c =
     let n = c.before in let t = n.before in let e = t.before in let s = e.before in let a = R.entry (cells s.args.goal.now) s.args.j in
-    c.is_negative.ensures ∙ ap (λ (x : ℤ). lt_z x (pos 0)) (n.negate.ensures.0 ∙ ap neg_ℤ e.Cell-at.ensures.0 ∙ sym (minus_one a))
-    ∙ sym (ap (λ (b : Bool). moves_up b a) t.if1.true)
+    c.is_negative.ensures ∙ ap (λ (x : ℤ). lt_z x (pos 0)) (n.negate-b.ensures.0 ∙ ap neg_ℤ e.Cell-at.ensures.0 ∙ sym (minus_one a))
+    ∙ sym (ap (λ (b : Bool). moves_up b a) t.if-greatest.true)
 
-is-negative-requires-2 : tie.Need-is-negative-requires-2
+is-negative-requires-2 : tie.Need-is_negative-requires-2
 is-negative-requires-2 c κs = search rules
 
-returns-2 : tie.Need-returns-2
+returns-2 : tie.Need-returns
 returns-2 c =
     let t = c.before in let e = t.before in let s = e.before in let a = R.entry (cells s.args.goal.now) s.args.j in
-    c.is-negative2.ensures ∙ ap (λ (x : ℤ). lt_z x (pos 0)) (e.Cell-at.ensures.0 ∙ sym (one-*ℤ a)) ∙ sym (ap (λ (b : Bool). moves_up b a) t.if1.false)
+    c.is_negative-2.ensures ∙ ap (λ (x : ℤ). lt_z x (pos 0)) (e.Cell-at.ensures.0 ∙ sym (one-*ℤ a)) ∙ sym (ap (λ (b : Bool). moves_up b a) t.if-greatest.false)
 
 pub moves_up_spec : {M : Type 1} → statement M
 moves_up_spec =

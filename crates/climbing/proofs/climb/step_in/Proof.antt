@@ -27,7 +27,7 @@ use Rattle.climbing.proofs.climb.moves_up.Reads as moves-up-reads
 use Rattle.climbing.proofs.stops.leaving.Reads as leaving-reads
 use Rattle.climbing.proofs.stops.stopping.Reads as stopping-reads
 
-abbrev begun : tie.After-moves-up → tie.Start
+abbrev begun : tie.After-moves_up-up → tie.Start
 begun c = c.before.before.before.before
 
 -- the column that improves the value
@@ -51,57 +51,57 @@ last c b h =
     step-last (bound 128) (rows_of s.args.t.now) (cells s.args.goal.now) s.args.place.now s.args.kinds.now s.args.greatest s.args.left s.args.w
     k.before.moves-up.result k.stopping.result k.before.moves-up.ensures k.stopping.ensures b e.if1.false c.before.if2.false (sym c.fits2.ensures ∙ h)
 
-mul-j : tie.Need-overflow-mul-j
+mul-j : tie.Need-offset_bounds-place-w
 mul-j c = search rules
 
-shared-slice-read-j : tie.Need-shared-slice-read-j
+shared-slice-read-j : tie.Need-bounds-place-w
 shared-slice-read-j c = search rules
 
-sub-j : tie.Need-overflow-sub-j
+sub-j : tie.Need-overflow_sub-j
 sub-j c = search rules
 
-moves-up-requires : tie.Need-moves-up-requires
+moves-up-requires : tie.Need-moves_up-up-requires
 moves-up-requires c κs = let s = c.before.before.before in (s.requires.1, column s)
 
-stopping-requires : tie.Need-stopping-requires
+stopping-requires : tie.Need-stopping-first-requires
 stopping-requires c κs = let s = begun c in (s.pre.0, placed s, column s)
 
-returns : tie.Need-returns
+returns : tie.Need-returns-then-place-first
 returns c =
     let k = c.before in let s = begun k.before in
     step-endless (bound 128) (rows_of s.args.t.now) (cells s.args.goal.now) s.args.place.now s.args.kinds.now s.args.greatest s.args.left s.args.w
-    k.before.moves-up.result k.stopping.result k.before.moves-up.ensures k.stopping.ensures c.if1.true
+    k.before.moves_up-up.result k.stopping-first.result k.before.moves_up-up.ensures k.stopping-first.ensures c.if-place-first.true
 
-returns-2 : tie.Need-returns-2
+returns-2 : tie.Need-returns-then-left-eq0
 returns-2 c =
     let e = c.before in let k = e.before in let s = begun k.before in
     step-long (bound 128) (rows_of s.args.t.now) (cells s.args.goal.now) s.args.place.now s.args.kinds.now s.args.greatest s.args.left s.args.w
-    k.before.moves-up.result k.stopping.result k.before.moves-up.ensures k.stopping.ensures e.if1.false c.if2.true
+    k.before.moves_up-up.result k.stopping-first.result k.before.moves_up-up.ensures k.stopping-first.ensures e.if-place-first.false c.if-left-eq0.true
 
 fits-requires : tie.Need-fits-requires
 fits-requires c κs = let s = begun c.before.before.before in (s.pre.0, s.pre.1, column s, lines s, s.pre.2.line)
 
-returns-3 : tie.Need-returns-3
-returns-3 c = last c.before false (not-true _ c.if3.true)
+returns-3 : tie.Need-returns-then-not-fits
+returns-3 c = last c.before false (not-true _ c.if-not-fits.true-raw)
 
-leaving-requires : tie.Need-leaving-requires
+leaving-requires : tie.Need-leaving-v-requires
 leaving-requires c κs =
     let b = c.before in let k = b.before.before.before in let s = begun k.before in
     let rows = rows_of s.args.t.now in let goal = cells s.args.goal.now in let j = get_or s.args.place.now s.args.w 0 - 64 in
     let x = R.narrow_rows_at (bound 128) j rows in let y = R.narrow_row_at (bound 128) j goal in
-    let h : (x && y) ≡ true = sym b.fits2.ensures ∙ not-false _ c.if3.false in (
+    let h : (x && y) ≡ true = sym b.fits2.ensures ∙ not-false _ c.if-not-fits.false-raw in (
       s.pre.0,
       placed s,
       column s,
-      b.before.before.if1.false,
-      k.stopping.ensures,
-      stops-small rows s.args.place.now s.args.kinds.now j k.before.moves-up.result s.args.n s.pre.2.fine (from-T x (and_left x y (subst T (sym h) tt))),
+      b.before.before.if-place-first.false,
+      k.stopping-first.ensures,
+      stops-small rows s.args.place.now s.args.kinds.now j k.before.moves_up-up.result s.args.n s.pre.2.fine (from-T x (and_left x y (subst T (sym h) tt))),
     )
 
-returns-4 : tie.Need-returns-4
+returns-4 : tie.Need-returns
 returns-4 c =
     let b = c.before.before in
-    ap (λ (v : ℕ). TurnsBy v (begun b.before.before.before.before).args.w) c.leaving.ensures ∙ last b true (not-false _ c.before.if3.false)
+    ap (λ (v : ℕ). TurnsBy v (begun b.before.before.before.before).args.w) c.leaving-v.ensures ∙ last b true (not-false _ c.before.if-not-fits.false-raw)
 
 pub step_in_spec : {M : Type 1} → statement M
 step_in_spec =

@@ -71,34 +71,34 @@ module _ (y : tie.After-wipe) where
   q-is : cells y.wipe.last.0 ≡ set (p pivoted) 0 (pos 0)
   q-is = y.wipe.ensures.is ∙ ap (λ (r : List ℤ). set r 0 (pos 0)) (own pivoted)
 
-mul-i : tie.Need-overflow-mul-i
+mul-i : tie.Need-offset_bounds-place-v
 mul-i c = search rules
 
-slice-read-i : tie.Need-slice-read-i
+slice-read-i : tie.Need-bounds-place-v
 slice-read-i c = search rules
 
-mul-c : tie.Need-overflow-mul-c
+mul-c : tie.Need-offset_bounds-place-w
 mul-c c = search rules
 
-slice-read-c : tie.Need-slice-read-c
+slice-read-c : tie.Need-bounds-place-w
 slice-read-c c = search rules
 
 pivot-requires : tie.Need-pivot-requires
 pivot-requires c κs = search rules
 
-mul-p : tie.Need-overflow-mul-p
+mul-p : tie.Need-offset_bounds-t-i
 mul-p c = search rules
 
-slice-copy-out-p : tie.Need-slice-copy-out-p
+slice-copy-out-p : tie.Need-slice_copy_out-p
 slice-copy-out-p c = there c.before.before.before
 
-cell-at-requires : tie.Need-cell-at-requires
+cell-at-requires : tie.Need-cell_at-m-requires
 cell-at-requires c κs = (own-sheet c.before.before.before.before.before, omega arith)
 
 wipe-requires : tie.Need-wipe-requires
 wipe-requires c κs = own-sheet c.before.before.before.before.before.before.before
 
-sub-rebuild : tie.Need-overflow-sub-rebuild
+sub-rebuild : tie.Need-overflow_sub-c
 sub-rebuild c = search rules
 
 rebuild-requires : tie.Need-rebuild-requires
@@ -112,10 +112,10 @@ rebuild-requires c κs =
           (subst (R.DivisorAt (bound 128) n (R.den (p x))) (sym (q-is y)) (leaving-divisor n (rows x) (place x) s.args.v s.args.w (d x))),
     )
 
-same_length : tie.Need-same-length
+same_length : tie.Need-shape_of-t
 same_length c = search rules
 
-same-length-2 : tie.Need-same-length-2
+same-length-2 : tie.Need-shape_of-place
 same-length-2 c = search rules
 
 returns : tie.Need-returns

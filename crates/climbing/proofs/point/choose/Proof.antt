@@ -19,7 +19,7 @@ use Rattle.climbing.proofs.point.choose.Lts as lts
 use Rattle.carrying.proofs.choose.choose.Reads as choose-reads
 use Rattle.wide_tableau.proofs.search.row_narrow.Reads as row-narrow-reads
 
-abbrev start : tie.After-choose → tie.Start
+abbrev start : tie.After-choose-m → tie.Start
 start c = c.before.before.before
 
 module _ (s : tie.Start) where
@@ -36,7 +36,7 @@ module _ (s : tie.Start) where
   kinds = s.args.kinds.now
 
 -- steps 1 to 4 without the expression's row say Pivot
-module _ (c : tie.After-m2) where
+module _ (c : tie.In-Pivot-2) where
   abbrev s : tie.Start
   s = start c.before.before
 
@@ -52,43 +52,43 @@ module _ (c : tie.After-m2) where
   crosses : S.CrossingAt (bound 128) s.args.n (rows s) (place s) v w
   crosses = M.crossing_at (bound 128) s.args.n (rows s) (place s) (kinds s) s.args.left v w s.pre.2.fine pivots
 
-choose-requires : tie.Need-choose-requires
+choose-requires : tie.Need-choose-m-requires
 choose-requires c κs = search rules
 
-enum-known-m : tie.Need-enum-known-m
+enum-known-m : tie.Need-enum_known-m
 enum-known-m c = search rules
 
-enum-known-m-2 : tie.Need-enum-known-m-2
+enum-known-m-2 : tie.Need-enum_known-m-in-Pivot-1
 enum-known-m-2 c = search rules
 
-mul-j : tie.Need-overflow-mul-j
+mul-j : tie.Need-offset_bounds-place-w
 mul-j c = let m = c.before in omega (arith, (crosses m).other, (s m).requires.2.fine.names)
 
-shared-slice-read-j : tie.Need-shared-slice-read-j
+shared-slice-read-j : tie.Need-bounds-place-w
 shared-slice-read-j c = (crosses c.before.before).other
 
-sub-j : tie.Need-overflow-sub-j
+sub-j : tie.Need-overflow_sub-j
 sub-j c = (crosses c.before.before).column
 
-row-narrow-requires : tie.Need-row-narrow-requires
+row-narrow-requires : tie.Need-row_narrow-requires
 row-narrow-requires c κs =
     let m = c.before.before in let s = s m in
     (s.pre.1, omega (arith, s.pre.2.fine.near (w m) (crosses m).other), s.pre.2.line)
 
-returns : tie.Need-returns
+returns : tie.Need-returns-in-Stop
 returns c =
     let m = c.before in let o = m.before.before in let s = start o in
-    P.move-stops (bound 128) (rows s) (goal s) (place s) (kinds s) s.args.left _ (sym o.choose.ensures ∙ m.m.given.1)
+    P.move-stops (bound 128) (rows s) (goal s) (place s) (kinds s) s.args.left _ (sym o.choose-m.ensures ∙ m.m-1.given.1)
 
-returns-2 : tie.Need-returns-2
+returns-2 : tie.Need-returns-then-row_narrow
 returns-2 c =
     let r = c.before in let m = r.before.before.before in let s = s m in
-    P.move-pivots (bound 128) (rows s) (goal s) (place s) (kinds s) s.args.left (v m) (w m) true (pivots m) (sym r.row-narrow.ensures ∙ c.if1.true)
+    P.move-pivots (bound 128) (rows s) (goal s) (place s) (kinds s) s.args.left (v m) (w m) true (pivots m) (sym r.row_narrow.ensures ∙ c.if-row_narrow.true)
 
-returns-3 : tie.Need-returns-3
+returns-3 : tie.Need-returns-else-row_narrow
 returns-3 c =
     let r = c.before in let m = r.before.before.before in let s = s m in
-    P.move-pivots (bound 128) (rows s) (goal s) (place s) (kinds s) s.args.left (v m) (w m) false (pivots m) (sym r.row-narrow.ensures ∙ c.if1.false)
+    P.move-pivots (bound 128) (rows s) (goal s) (place s) (kinds s) s.args.left (v m) (w m) false (pivots m) (sym r.row_narrow.ensures ∙ c.if-row_narrow.false)
 
 pub choose_spec : {M : Type 1} → statement M
 choose_spec =

@@ -22,23 +22,23 @@ use Rattle.climbing.proofs.point.reach.Lts as lts
 use Rattle.climbing.proofs.point.choose.Reads as choose-reads
 use Rattle.climbing.proofs.cross.cross.Reads as cross-reads
 
-abbrev invariant-loop : tie.invariant-loop
+abbrev invariant-loop : tie.invariant-loop-x
 invariant-loop t₀ goal₀ n place₀ kinds left₀ t goal place left =
     Sheets t × Sheet goal × C.Posed n (rows_of t) (cells goal) place kinds
     × (C.reach_with (bound 128) kinds left (rows_of t) (cells goal) place ≡ C.reach_with (bound 128) kinds 200 (rows_of t₀) (cells goal₀) place₀)
     × (length t ≡ length t₀) × (length place ≡ length place₀) × (left ≤ 200)
 
-abbrev decreases-loop : tie.decreases-loop
+abbrev decreases-loop : tie.decreases-loop-x
 decreases-loop t₀ goal₀ n place₀ kinds left₀ t goal place left = left
 
 -- where the function began, and where a turn of the loop did
-abbrev begun : tie.At-loop invariant-loop decreases-loop → tie.Start invariant-loop decreases-loop
+abbrev begun : tie.At-loop-x invariant-loop decreases-loop → tie.Start invariant-loop decreases-loop
 begun c = c.before.before.before
 
-abbrev turn : tie.After-choose invariant-loop decreases-loop → tie.At-loop invariant-loop decreases-loop
+abbrev turn : tie.After-choose-m invariant-loop decreases-loop → tie.At-loop-x invariant-loop decreases-loop
 turn c = c.before.before.before.before
 
-module _ (c : tie.At-loop invariant-loop decreases-loop) where
+module _ (c : tie.At-loop-x invariant-loop decreases-loop) where
   abbrev rows : List (List ℤ)
   rows = rows_of c.loop.t
 
@@ -55,15 +55,15 @@ module _ (c : tie.At-loop invariant-loop decreases-loop) where
   left = c.loop.left
 
 -- the turn that stops
-abbrev last : tie.After-m invariant-loop decreases-loop → tie.At-loop invariant-loop decreases-loop
+abbrev last : tie.In-Stop-2 invariant-loop decreases-loop → tie.At-loop-x invariant-loop decreases-loop
 last c = turn c.before.before
 
-stops : (c : tie.After-m invariant-loop decreases-loop) → let a = last c in C.move_with (bound 128) (rows a) (goal a) (place a) (kinds a) (left a) ≡ Stop c.m.given.0.0
-stops c = sym c.before.before.choose.ensures ∙ c.m.given.1
+stops : (c : tie.In-Stop-2 invariant-loop decreases-loop) → let a = last c in C.move_with (bound 128) (rows a) (goal a) (place a) (kinds a) (left a) ≡ Stop c.m-1.given.0.0
+stops c = sym c.before.before.choose-m.ensures ∙ c.m-1.given.1
 
 -- a turn that pivots
-module _ (c : tie.After-m2 invariant-loop decreases-loop) where
-  abbrev here : tie.At-loop invariant-loop decreases-loop
+module _ (c : tie.In-Pivot-2 invariant-loop decreases-loop) where
+  abbrev here : tie.At-loop-x invariant-loop decreases-loop
   here = turn c.before.before
 
   abbrev v : ℕ
@@ -78,30 +78,30 @@ module _ (c : tie.After-m2 invariant-loop decreases-loop) where
   crosses : let n = (begun here).args.n in S.CrossingAt (bound 128) n (rows here) (place here) v w × R.FitAt (bound 128) n (goal here) (get_or (place here) w 0 - 64)
   crosses = P.move-crosses (bound 128) (begun here).args.n (rows here) (goal here) (place here) (kinds here) (left here) v w here.loop.inv.2 pivots
 
-abbrev choice : tie.After-slice-known2 invariant-loop decreases-loop → tie.After-m2 invariant-loop decreases-loop
+abbrev choice : tie.After-slice_known-in-Pivot-1 invariant-loop decreases-loop → tie.In-Pivot-2 invariant-loop decreases-loop
 choice c = c.before.before.before.before.before.before.before.before
 
-loop-holds : tie.Need-loop-init invariant-loop decreases-loop
+loop-holds : tie.Need-loop-x-init invariant-loop decreases-loop
 loop-holds c = let s = c.before.before in (s.requires.0, s.requires.1, s.requires.2, refl, refl, refl, omega arith)
 
-choose-requires : tie.Need-choose-requires invariant-loop decreases-loop
+choose-requires : tie.Need-choose-m-requires invariant-loop decreases-loop
 choose-requires c κs = let l = c.before.before.before.loop in (l.invariant.0, l.invariant.1, l.invariant.2)
 
-enum-known-m : tie.Need-enum-known-m invariant-loop decreases-loop
+enum-known-m : tie.Need-enum_known-m invariant-loop decreases-loop
 enum-known-m c = search rules
 
-sub-t16 : tie.Need-overflow-sub-t16 invariant-loop decreases-loop
-sub-t16 c = (last c.before).loop.inv.6
+sub-t16 : tie.Need-overflow_sub-result invariant-loop decreases-loop
+sub-t16 c = (last c.before).loop-x.inv.6
 
-same_length : tie.Need-same-length invariant-loop decreases-loop
-same_length c = (last c.before).loop.inv.4
+same_length : tie.Need-shape_of-t-in-Stop invariant-loop decreases-loop
+same_length c = (last c.before).loop-x.inv.4
 
-same-length-2 : tie.Need-same-length-2 invariant-loop decreases-loop
-same-length-2 c = (last c.before).loop.inv.5
+same-length-2 : tie.Need-shape_of-place-in-Stop invariant-loop decreases-loop
+same-length-2 c = (last c.before).loop-x.inv.5
 
-returns : tie.Need-returns invariant-loop decreases-loop
+returns : tie.Need-returns-in-Stop invariant-loop decreases-loop
 returns c =
-    let a = last c.before in let l = a.loop in
+    let a = last c.before in let l = a.loop-x in
     let q = sym (P.reach-stop (bound 128) (kinds a) (left a) (rows a) (goal a) (place a) _ (stops c.before)) ∙ l.inv.3 in
     record {
       verdict_is = ap (λ (o : C.Ending). o.verdict) q;
@@ -111,19 +111,19 @@ returns c =
       place_is = ap (λ (o : C.Ending). o.place) q;
     }
 
-enum-known-m-2 : tie.Need-enum-known-m-2 invariant-loop decreases-loop
+enum-known-m-2 : tie.Need-enum_known-m-in-Pivot-1 invariant-loop decreases-loop
 enum-known-m-2 c = search rules
 
 cross-requires : tie.Need-cross-requires invariant-loop decreases-loop
 cross-requires c κs = let m = c.before.before.before.before in let l = (here m).loop in (l.inv.0, l.inv.1, (crosses m).0, (crosses m).1)
 
-sub-left : tie.Need-overflow-sub-left invariant-loop decreases-loop
+sub-left : tie.Need-overflow_sub-left invariant-loop decreases-loop
 sub-left c = let m = choice c in let a = here m in P.move-left (bound 128) (kinds a) (left a) (rows a) (goal a) (place a) (v m) (w m) (pivots m)
 
-loop-less : tie.Need-loop-smaller invariant-loop decreases-loop
+loop-less : tie.Need-loop-x-smaller invariant-loop decreases-loop
 loop-less c = let m = choice c in let a = here m in let h = P.move-left (bound 128) (kinds a) (left a) (rows a) (goal a) (place a) (v m) (w m) (pivots m) in omega arith
 
-loop-again : tie.Need-loop-preserved invariant-loop decreases-loop
+loop-again : tie.Need-loop-x-preserved invariant-loop decreases-loop
 loop-again c =
     let m = choice c in let a = here m in let i = a.loop.inv in
     let p = c.before.before.before in let e = p.cross.ensures in let et = e.0.is in let eg = e.1.is in let ep = e.2 in (

@@ -13,11 +13,11 @@ use Rattle.wide.proofs.negate.Reads as negate-reads
 negate-requires : tie.Need-negate-requires
 negate-requires c κs = search rules
 
-returns : tie.Need-returns
-returns c = let s = c.before in sym (ap (λ (b : Bool). moved b (value_of s.args.e)) c.if1.true)
+returns : tie.Need-returns-then-up
+returns c = let s = c.before in sym (ap (λ (b : Bool). moved b (value_of s.args.e)) c.if-up.true)
 
-returns-2 : tie.Need-returns-2
-returns-2 c = let s = c.before.before in c.negate.ensures.0 ∙ sym (ap (λ (b : Bool). moved b (value_of s.args.e)) c.before.if1.false)
+returns-2 : tie.Need-returns-else-up
+returns-2 c = let s = c.before.before in c.negate.ensures.0 ∙ sym (ap (λ (b : Bool). moved b (value_of s.args.e)) c.before.if-up.false)
 
 pub change_spec : {M : Type 1} → statement M
 change_spec = tie.close (tie.spec negate-requires returns returns-2)

@@ -17,43 +17,43 @@ use Rattle.climbing.proofs.stops.over.Lts as lts
 use Rattle.wide.proofs.widen.Reads as widen-reads
 use Rattle.wide_tableau.proofs.row.cell_at.Reads as cell-at-reads
 
-abbrev begun : tie.Else1 → tie.Start
+abbrev begun : tie.Else-kind-eq2 → tie.Start
 begun c = c.before.before.before.before.before
 
 -- where the row stands
-spot : (c : tie.Else1) → let s = begun c in get_or s.args.place.now s.args.v 0 < length s.args.t.now
+spot : (c : tie.Else-kind-eq2) → let s = begun c in get_or s.args.place.now s.args.v 0 < length s.args.t.now
 spot c =
     let s = begun c in
     subst (λ (n : ℕ). get_or s.args.place.now s.args.v 0 < n) (rows-length s.args.t.now) (s.pre.1.spot s.args.v s.pre.2 s.pre.3)
 
-mul-i : tie.Need-overflow-mul-i
+mul-i : tie.Need-offset_bounds-place-v
 mul-i c = search rules
 
-shared-slice-read-i : tie.Need-shared-slice-read-i
+shared-slice-read-i : tie.Need-bounds-place-v
 shared-slice-read-i c = search rules
 
-shared-slice-read-kind : tie.Need-shared-slice-read-kind
+shared-slice-read-kind : tie.Need-bounds-kinds-v
 shared-slice-read-kind c = search rules
 
 widen-requires : tie.Need-widen-requires
 widen-requires c κs = search rules
 
-returns : tie.Need-returns
+returns : tie.Need-returns-then-kind-eq2
 returns c =
     let t = c.before in let s = t.before.before.before.before.before in
     let r = get_or (rows_of s.args.t.now) (get_or s.args.place.now s.args.v 0) [] in
-    c.widen.ensures.0 ∙ sym (ap (λ (b : Bool). cond b (pos 0) (get_or r 1 (pos 0))) (eq-eqb _ 2 t.if1.true))
+    c.widen.ensures.0 ∙ sym (ap (λ (b : Bool). cond b (pos 0) (get_or r 1 (pos 0))) (eq-eqb _ 2 t.if-kind-eq2.true))
 
-mul-cell-at : tie.Need-overflow-mul-cell-at
+mul-cell-at : tie.Need-offset_bounds-t-i
 mul-cell-at c = search rules
 
-shared-slice-element-cell-at : tie.Need-shared-slice-element-cell-at
+shared-slice-element-cell-at : tie.Need-bounds-t-i
 shared-slice-element-cell-at c = spot c
 
-cell-at-requires : tie.Need-cell-at-requires
+cell-at-requires : tie.Need-cell_at-requires
 cell-at-requires c κs = let e = c.before in ((begun e).requires.0.at _ (spot e), lit< tt)
 
-returns-2 : tie.Need-returns-2
+returns-2 : tie.Need-returns
 returns-2 c =
     let e = c.before.before in let s = begun e in
     let i = get_or s.args.place.now s.args.v 0 in let r = get_or (rows_of s.args.t.now) i [] in

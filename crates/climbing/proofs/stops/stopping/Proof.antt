@@ -15,47 +15,47 @@ use Rattle.climbing.proofs.stops.stopping.Reads as reads
 use Rattle.climbing.proofs.stops.stopping.Lts as lts
 use Rattle.climbing.proofs.stops.stops.Reads as stops-reads
 
-abbrev invariant-loop : tie.invariant-loop
+abbrev invariant-loop : tie.invariant-loop-v
 invariant-loop t place kinds j up v₀ v = (v ≤ length place) × (R.first (D.stops_at (rows_of t) place kinds j up) (length place - v) v ≡ R.first (D.stops_at (rows_of t) place kinds j up) (length place) 0)
 
-abbrev decreases-loop : tie.decreases-loop
+abbrev decreases-loop : tie.decreases-loop-v
 decreases-loop t place kinds j up v₀ v = length place - v
 
-abbrev begun : tie.At-loop invariant-loop decreases-loop → tie.Start invariant-loop decreases-loop
+abbrev begun : tie.At-loop-v invariant-loop decreases-loop → tie.Start invariant-loop decreases-loop
 begun c = c.before.before.before
 
 -- the test of a variable
 abbrev test : tie.Start invariant-loop decreases-loop → ℕ → Bool
 test s v = D.stops_at (rows_of s.args.t.now) s.args.place.now s.args.kinds.now s.args.j s.args.up v
 
-loop-holds : tie.Need-loop-init invariant-loop decreases-loop
+loop-holds : tie.Need-loop-v-init invariant-loop decreases-loop
 loop-holds c = (omega arith, Q.first-start _ _)
 
 stops-requires : tie.Need-stops-requires invariant-loop decreases-loop
-stops-requires c κs = let s = begun c.before in (s.pre.0, s.pre.1, s.pre.2, c.loop-test.true)
+stops-requires c κs = let s = begun c.before in (s.pre.0, s.pre.1, s.pre.2, c.loop-v-test.true)
 
-returns : tie.Need-returns invariant-loop decreases-loop
+returns : tie.Need-returns-then-stops invariant-loop decreases-loop
 unfolding D.stopping
 returns c =
-    let h = c.before in let i = h.before in let l = i.before.loop in let s = begun i.before in
-    Q.first-yes (test s) (length s.args.place.now) l.v i.loop-test.true (sym h.stops.ensures ∙ c.if1.true) ∙ l.invariant.1
+    let h = c.before in let i = h.before in let l = i.before.loop-v in let s = begun i.before in
+    Q.first-yes (test s) (length s.args.place.now) l.v i.loop-v-test.true (sym h.stops.ensures ∙ c.if-stops.true) ∙ l.invariant.1
 
-add-v : tie.Need-overflow-add-v invariant-loop decreases-loop
+add-v : tie.Need-overflow_add-v invariant-loop decreases-loop
 add-v c = search rules
 
-loop-less : tie.Need-loop-smaller invariant-loop decreases-loop
+loop-less : tie.Need-loop-v-smaller invariant-loop decreases-loop
 loop-less c = omega arith
 
-loop-again : tie.Need-loop-preserved invariant-loop decreases-loop
+loop-again : tie.Need-loop-v-preserved invariant-loop decreases-loop
 loop-again c =
-    let h = c.before in let i = h.before in let l = i.before.loop in let s = begun i.before in
-    (omega arith, Q.first-no (test s) (length s.args.place.now) l.v i.loop-test.true (sym h.stops.ensures ∙ c.if1.false) ∙ l.invariant.1)
+    let h = c.before in let i = h.before in let l = i.before.loop-v in let s = begun i.before in
+    (omega arith, Q.first-no (test s) (length s.args.place.now) l.v i.loop-v-test.true (sym h.stops.ensures ∙ c.if-stops.false) ∙ l.invariant.1)
 
-returns-2 : tie.Need-returns-2 invariant-loop decreases-loop
+returns-2 : tie.Need-returns invariant-loop decreases-loop
 unfolding D.stopping
 returns-2 c =
-    let l = c.before.loop in let s = begun c.before in
-    Q.first-end (test s) (length s.args.place.now) l.v c.loop-test.false ∙ l.invariant.1
+    let l = c.before.loop-v in let s = begun c.before in
+    Q.first-end (test s) (length s.args.place.now) l.v c.loop-v-test.false ∙ l.invariant.1
 
 pub stopping_spec : {M : Type 1} → statement M
 stopping_spec =

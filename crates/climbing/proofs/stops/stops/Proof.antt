@@ -20,7 +20,7 @@ use Rattle.climbing.proofs.stops.change.Reads as change-reads
 use Rattle.wide_tableau.proofs.row.cell_at.Reads as cell-at-reads
 use Rattle.wide_tableau.proofs.search.is_violated.Reads as is-violated-reads
 
-abbrev begun : tie.Then1 → tie.Start
+abbrev begun : tie.Then-i-lt64 → tie.Start
 begun c = c.before.before.before.before.before
 
 -- the change of a row
@@ -28,53 +28,53 @@ abbrev changed : tie.Start → List ℤ → ℤ
 changed s r = moved s.args.up (R.entry r s.args.j)
 
 -- where the row stands
-spot : (c : tie.Then1) → let s = begun c in get_or s.args.place.now s.args.v 0 < length s.args.t.now
+spot : (c : tie.Then-i-lt64) → let s = begun c in get_or s.args.place.now s.args.v 0 < length s.args.t.now
 spot c =
     let s = begun c in
-    subst (λ (n : ℕ). get_or s.args.place.now s.args.v 0 < n) (rows-length s.args.t.now) (s.pre.1.spot s.args.v s.pre.3 c.if1.true)
+    subst (λ (n : ℕ). get_or s.args.place.now s.args.v 0 < n) (rows-length s.args.t.now) (s.pre.1.spot s.args.v s.pre.3 c.if-i-lt64.true)
 
-mul-i : tie.Need-overflow-mul-i
+mul-i : tie.Need-offset_bounds-place-v
 mul-i c = search rules
 
-shared-slice-read-i : tie.Need-shared-slice-read-i
+shared-slice-read-i : tie.Need-bounds-place-v
 shared-slice-read-i c = search rules
 
-shared-slice-read-kind : tie.Need-shared-slice-read-kind
+shared-slice-read-kind : tie.Need-bounds-kinds-v
 shared-slice-read-kind c = search rules
 
-mul-cell-at : tie.Need-overflow-mul-cell-at
+mul-cell-at : tie.Need-offset_bounds-t-i
 mul-cell-at c = search rules
 
-shared-slice-element-cell-at : tie.Need-shared-slice-element-cell-at
+shared-slice-element-cell-at : tie.Need-bounds-t-i
 shared-slice-element-cell-at c = spot c
 
-add-cell-at : tie.Need-overflow-add-cell-at
+add-cell-at : tie.Need-overflow_add-j
 add-cell-at c = search rules
 
-cell-at-requires : tie.Need-cell-at-requires
+cell-at-requires : tie.Need-cell_at-e-requires
 cell-at-requires c κs = let t = c.before in let s = begun t in (s.pre.0.at _ (spot t), omega (arith, s.pre.2))
 
-change-requires : tie.Need-change-requires
+change-requires : tie.Need-change-x-requires
 change-requires c κs = search rules
 
-is-violated-requires : tie.Need-is-violated-requires
+is-violated-requires : tie.Need-is_violated-requires
 is-violated-requires c κs = search rules
 
-returns : tie.Need-returns
+returns : tie.Need-returns-then-i-lt64
 unfolding stops_at
 returns c =
     let x = c.before in let e = x.before in let t = e.before.before in let s = begun t in
     let i = get_or s.args.place.now s.args.v 0 in let k = get_or s.args.kinds.now s.args.v 0 in
-    c.is-violated.ensures
-    ∙ ap (R.violated_by k) (x.change.ensures ∙ ap (moved s.args.up) e.Cell-at.ensures.0 ∙ ap (changed s) (sym (rows_at s.args.t.now i)))
+    c.is_violated.ensures
+    ∙ ap (R.violated_by k) (x.change-x.ensures ∙ ap (moved s.args.up) e.Cell-at.ensures.0 ∙ ap (changed s) (sym (rows_at s.args.t.now i)))
     ∙ sym (ap (λ (b : Bool). cond b (R.violated_by k (changed s (get_or (rows_of s.args.t.now) i []))) false) (lt-ltb i 64 t.if1.true))
 
-returns-2 : tie.Need-returns-2
+returns-2 : tie.Need-returns
 unfolding stops_at
 returns-2 c =
     let s = c.before.before.before.before.before in
     let i = get_or s.args.place.now s.args.v 0 in let k = get_or s.args.kinds.now s.args.v 0 in
-    sym (ap (λ (b : Bool). cond b (R.violated_by k (changed s (get_or (rows_of s.args.t.now) i []))) false) (le-ltb i 64 c.if1.false))
+    sym (ap (λ (b : Bool). cond b (R.violated_by k (changed s (get_or (rows_of s.args.t.now) i []))) false) (le-ltb i 64 c.if-i-lt64.false))
 
 pub stops_spec : {M : Type 1} → statement M
 stops_spec =

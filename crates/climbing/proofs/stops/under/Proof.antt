@@ -15,22 +15,22 @@ use Rattle.climbing.proofs.stops.under.Reads as reads
 use Rattle.climbing.proofs.stops.under.Lts as lts
 use Rattle.wide_tableau.proofs.row.cell_at.Reads as cell-at-reads
 
-mul-i : tie.Need-overflow-mul-i
+mul-i : tie.Need-offset_bounds-place-v
 mul-i c = search rules
 
-shared-slice-read-i : tie.Need-shared-slice-read-i
+shared-slice-read-i : tie.Need-bounds-place-v
 shared-slice-read-i c = search rules
 
-mul-cell-at : tie.Need-overflow-mul-cell-at
+mul-cell-at : tie.Need-offset_bounds-t-i
 mul-cell-at c = search rules
 
-shared-slice-element-cell-at : tie.Need-shared-slice-element-cell-at
+shared-slice-element-cell-at : tie.Need-bounds-t-i
 shared-slice-element-cell-at c = search rules
 
-add-cell-at : tie.Need-overflow-add-cell-at
+add-cell-at : tie.Need-overflow_add-j
 add-cell-at c = search rules
 
-cell-at-requires : tie.Need-cell-at-requires
+cell-at-requires : tie.Need-cell_at-e-requires
 cell-at-requires c κs = let s = c.before.before.before in (s.requires.0.at _ s.requires.2, omega (arith, s.requires.3))
 
 returns : tie.Need-returns

@@ -5,38 +5,38 @@ use Rattle.codec.proofs.Leading.{Going, going-none, going-few, going_next, going
 use Rattle.codec.proofs.accepting.bare.Statement.{statement}
 use Rattle.codec.proofs.accepting.bare.Tie as tie
 
-abbrev invariant-loop : tie.invariant-loop
+abbrev invariant-loop : tie.invariant-loop-at
 invariant-loop s r₀ at₀ r at = Going s r₀ r at
 
-abbrev decreases-loop : tie.decreases-loop
+abbrev decreases-loop : tie.decreases-loop-at
 decreases-loop s r₀ at₀ r at = length s - at
 
-loop-holds : tie.Need-loop-init invariant-loop decreases-loop
+loop-holds : tie.Need-loop-at-init invariant-loop decreases-loop
 loop-holds c = let st = c.before in going-none st.args.s.now st.args.c st.requires.0
 
-bare-there-requires : tie.Need-bare-there-requires invariant-loop decreases-loop
-bare-there-requires c κs = let i = c.loop.invariant.run.inside in let e = c.loop.invariant.here in omega arith
+bare-there-requires : tie.Need-bare_there-requires invariant-loop decreases-loop
+bare-there-requires c κs = let i = c.loop-at.invariant.run.inside in let e = c.loop-at.invariant.here in omega arith
 
-add-joined : tie.Need-overflow-add-joined invariant-loop decreases-loop
-add-joined c = let i = (c.before.bare-there.ensures c.if1.true).inside in omega arith
+add-joined : tie.Need-overflow_add-at invariant-loop decreases-loop
+add-joined c = let i = (c.before.bare_there.ensures c.loop-at-test.true).inside in omega arith
 
-joined-requires : tie.Need-joined-requires invariant-loop decreases-loop
+joined-requires : tie.Need-joined-d-requires invariant-loop decreases-loop
 joined-requires c κs =
-    let t = c.before in let m = t.before in let st = m.before.before in let h = t.bare-there.ensures c.if1.true in
-    (h.inside, going-few _ st.args.c m.loop.r m.loop.at _ m.loop.invariant h st.requires.1)
+    let t = c.before in let m = t.before in let st = m.before.before in let h = t.bare_there.ensures c.loop-at-test.true in
+    (h.inside, going-few _ st.args.c m.loop-at.r m.loop-at.at _ m.loop-at.invariant h st.requires.1)
 
-loop-less : tie.Need-loop-smaller invariant-loop decreases-loop
+loop-less : tie.Need-loop-at-smaller invariant-loop decreases-loop
 loop-less c =
     let i = c.before in let t = i.before in let m = t.before in let st = m.before.before in
-    going_less _ st.args.c m.loop.r m.loop.at _ m.loop.invariant (t.bare-there.ensures i.if1.true) c.joined.result c.joined.ensures
+    going_less _ st.args.c m.loop-at.r m.loop-at.at _ m.loop-at.invariant (t.bare_there.ensures i.loop-at-test.true) c.joined-d.result c.joined-d.ensures
 
-loop-again : tie.Need-loop-preserved invariant-loop decreases-loop
+loop-again : tie.Need-loop-at-preserved invariant-loop decreases-loop
 loop-again c =
     let i = c.before in let t = i.before in let m = t.before in let st = m.before.before in
-    going_next _ st.args.c m.loop.r m.loop.at _ m.loop.invariant (t.bare-there.ensures i.if1.true) c.joined.result c.joined.ensures
+    going_next _ st.args.c m.loop-at.r m.loop-at.at _ m.loop-at.invariant (t.bare_there.ensures i.loop-at-test.true) c.joined-d.result c.joined-d.ensures
 
 returns : tie.Need-returns invariant-loop decreases-loop
-returns c = c.before.before.loop.invariant.run
+returns c = c.before.before.loop-at.invariant.run
 
 pub bare_spec : {M : Type 1} → statement M
 bare_spec =

@@ -3,16 +3,16 @@ use borrow.Author.Rules.{rules}
 use Rattle.codec.proofs.checking.check.Statement.{statement}
 use Rattle.codec.proofs.checking.check.Tie as tie
 
-accepts-requires : tie.Need-accepts-requires
+accepts-requires : tie.Need-accepts-q-requires
 accepts-requires c κs = search rules
 
-returns : tie.Need-returns
-returns c = sym (c.before.accepts.ensures.none c.if1.true)
+returns : tie.Need-returns-then-q
+returns c = sym (c.before.accepts-q.ensures.none c.if-q.true)
 
 scanned-requires : tie.Need-scanned-requires
 scanned-requires c κs = search rules
 
-returns-2 : tie.Need-returns-2
+returns-2 : tie.Need-returns
 returns-2 c = c.scanned.ensures
 
 pub check_spec : {M : Type 1} → statement M

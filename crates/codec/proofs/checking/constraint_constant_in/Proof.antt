@@ -7,14 +7,14 @@ use Rattle.codec.proofs.Parsing.{equality-test}
 use Rattle.codec.proofs.checking.constraint_constant_in.Statement.{statement}
 use Rattle.codec.proofs.checking.constraint_constant_in.Tie as tie
 
-is-equality-requires : tie.Need-is-equality-requires
+is-equality-requires : tie.Need-is_equality-requires
 is-equality-requires c κs = search rules
 
-returns : tie.Need-returns
-returns c = let a = c.before in let e : is_equality a.before.args.b ≡ true = sym a.is-equality.ensures ∙ c.if1.true in rw e (sym (equality-test _ a.before.requires))
+returns : tie.Need-returns-then-is_equality
+returns c = let a = c.before in let e : is_equality a.before.args.b ≡ true = sym a.is_equality.ensures ∙ c.if-is_equality.true in rw e (sym (equality-test _ a.before.requires))
 
-returns-2 : tie.Need-returns-2
-returns-2 c = let a = c.before in let e : is_equality a.before.args.b ≡ false = sym a.is-equality.ensures ∙ c.if1.false in rw e
+returns-2 : tie.Need-returns
+returns-2 c = let a = c.before in let e : is_equality a.before.args.b ≡ false = sym a.is_equality.ensures ∙ c.if-is_equality.false in rw e
 
 pub constraint_constant_in_spec : {M : Type 1} → statement M
 constraint_constant_in_spec = tie.close (tie.spec is-equality-requires returns returns-2)

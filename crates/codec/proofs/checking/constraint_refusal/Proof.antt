@@ -40,130 +40,130 @@ module _ (st : tie.Start) where
   tests = rule-tests st.args.n k st.args.b st.args.m t
 
 -- ---- what each test has shown, where the code goes on behind it
-abbrev s1 : tie.After-struct-known → tie.Start
+abbrev s1 : tie.After-struct_known-1 → tie.Start
 s1 c = c.before.before.before
 
-abbrev s2 : tie.After-struct-known2 → tie.Start
+abbrev s2 : tie.After-struct_known-2-1 → tie.Start
 s2 c = s1 c.before.before
 
-abbrev s3 : tie.After-is-misnumbered → tie.Start
+abbrev s3 : tie.After-is_misnumbered → tie.Start
 s3 c = s2 c.before.before
 
-abbrev s4 : tie.After-constraint-constant-in → tie.Start
+abbrev s4 : tie.After-constraint_constant_in → tie.Start
 s4 c = s3 c.before.before.before
 
 abbrev s5 : tie.After-plain → tie.Start
 s5 c = s4 c.before.before
 
-abbrev s6 : tie.After-plain2 → tie.Start
+abbrev s6 : tie.After-plain-2 → tie.Start
 s6 c = s5 c.before.before
 
 abbrev s7 : tie.After-zeros → tie.Start
 s7 c = s6 c.before.before
 
-abbrev s8 : tie.After-zeros2 → tie.Start
+abbrev s8 : tie.After-zeros-2 → tie.Start
 s8 c = s7 c.before.before
 
-some : (c : tie.Else1) → ltb 0 (k (s1 c.before)).basics ≡ true
-some c = pos-ltb _ c.if1.false
+some : (c : tie.Else-k-eq0) → ltb 0 (k (s1 c.before)).basics ≡ true
+some c = pos-ltb _ c.if-k-eq0.false
 
-few : (c : tie.Else2) → ltb (k (s2 c.before)).constraints 48 ≡ true
-few c = lt-ltb _ 48 c.if2.false
+few : (c : tie.Else-k-ge-CONSTRAINTS) → ltb (k (s2 c.before)).constraints 48 ≡ true
+few c = lt-ltb _ 48 c.if-k-ge-CONSTRAINTS.false
 
-numbered : (c : tie.Else3) → is_misnumbered (s3 c.before).args.b (s3 c.before).args.m ≡ false
-numbered c = sym c.before.is-misnumbered.ensures ∙ c.if3.false
+numbered : (c : tie.Else-is_misnumbered) → is_misnumbered (s3 c.before).args.b (s3 c.before).args.m ≡ false
+numbered c = sym c.before.is_misnumbered.ensures ∙ c.if-is_misnumbered.false
 
-constant-is : (c : tie.After-constraint-constant-in) → constant (s4 c) ≡ c.constraint-constant-in.result
-constant-is c = ap (λ (x : ℕ). constant_fits (kind_of (s4 c).args.b) (signed 4 x)) (sym c.before.u32-at.ensures.0) ∙ sym c.constraint-constant-in.ensures
+constant-is : (c : tie.After-constraint_constant_in) → constant (s4 c) ≡ c.constraint_constant_in.result
+constant-is c = ap (λ (x : ℕ). constant_fits (kind_of (s4 c).args.b) (signed 4 x)) (sym c.before.u32_at.ensures.is) ∙ sym c.constraint_constant_in.ensures
 
-constant-in : (c : tie.Else4) → constant (s4 c.before) ≡ true
-constant-in c = constant-is c.before ∙ not-false _ c.if4.false
+constant-in : (c : tie.Else-not-constraint_constant_in) → constant (s4 c.before) ≡ true
+constant-in c = constant-is c.before ∙ not-false _ c.if-not-constraint_constant_in.false-raw
 
-axes-in : (c : tie.Else5) → axes (s5 c.before) ≡ true
-axes-in c = sym c.before.plain.ensures ∙ not-false _ c.if5.false
+axes-in : (c : tie.Else-not-plain) → axes (s5 c.before) ≡ true
+axes-in c = sym c.before.plain.ensures ∙ not-false _ c.if-not-plain.false-raw
 
-divisions-in : (c : tie.Else6) → divisions (s6 c.before) ≡ true
-divisions-in c = sym c.before.plain2.ensures ∙ not-false _ c.if6.false
+divisions-in : (c : tie.Else-not-plain-2) → divisions (s6 c.before) ≡ true
+divisions-in c = sym c.before.plain-2.ensures ∙ not-false _ c.if-not-plain-2.false-raw
 
-numbers-in : (c : tie.Else6) → let st = s6 c.before in (constant st && (axes st && divisions st)) ≡ true
+numbers-in : (c : tie.Else-not-plain-2) → let st = s6 c.before in (constant st && (axes st && divisions st)) ≡ true
 numbers-in c = let e5 = c.before.before in both (constant-in e5.before.before) (both (axes-in e5) (divisions-in c))
 
 axes-zero : (c : tie.After-zeros) → zero-axes (s7 c) ≡ c.zeros.result
 axes-zero c = let st = s7 c in absent-of st.args.n 4 (t st) st.pre.1 ∙ sym c.zeros.ensures
 
-divisions-zero : (c : tie.After-zeros2) → zero-divisions (s8 c) ≡ c.zeros2.result
-divisions-zero c = let st = s8 c in absent-of (k st).divisions 20 (t st) st.pre.2 ∙ sym c.zeros2.ensures
+divisions-zero : (c : tie.After-zeros-2) → zero-divisions (s8 c) ≡ c.zeros-2.result
+divisions-zero c = let st = s8 c in absent-of (k st).divisions 20 (t st) st.pre.2 ∙ sym c.zeros-2.ensures
 
 -- ---- the answers
-returns : tie.Need-returns
-returns c = let none : ltb 0 (k (s1 c.before)).basics ≡ false = ap (ltb 0) c.if1.true in simp (tests (s1 c.before), none)
+returns : tie.Need-returns-then-k-eq0
+returns c = let none : ltb 0 (k (s1 c.before)).basics ≡ false = ap (ltb 0) c.if-k-eq0.true in simp (tests (s1 c.before), none)
 
-returns-2 : tie.Need-returns-2
-returns-2 c = simp (tests (s2 c.before), some c.before.before, le-ltb _ 48 c.if2.true)
+returns-2 : tie.Need-returns-then-k-ge-CONSTRAINTS
+returns-2 c = simp (tests (s2 c.before), some c.before.before, le-ltb _ 48 c.if-k-ge-CONSTRAINTS.true)
 
-is-misnumbered-requires : tie.Need-is-misnumbered-requires
+is-misnumbered-requires : tie.Need-is_misnumbered-requires
 is-misnumbered-requires c κs = search rules
 
-returns-3 : tie.Need-returns-3
+returns-3 : tie.Need-returns-then-is_misnumbered
 returns-3 c =
     let y = c.before in let e2 = y.before in
-    simp (some e2.before.before, few e2, sym y.is-misnumbered.ensures ∙ c.if3.true)
+    simp (some e2.before.before, few e2, sym y.is_misnumbered.ensures ∙ c.if-is_misnumbered.true)
 
-u32-at-requires : tie.Need-u32-at-requires
+u32-at-requires : tie.Need-u32_at-requires
 u32-at-requires c κs = search rules
 
-constraint-constant-in-requires : tie.Need-constraint-constant-in-requires
+constraint-constant-in-requires : tie.Need-constraint_constant_in-requires
 constraint-constant-in-requires c κs = search rules
 
 -- past 4, 9 and 17
-past : (c : tie.Else3) → let st = s3 c.before in refusal st.args.n (k st) (read_rule st.args.b st.args.m (t st)) ≡ first_failing ((constant st && (axes st && divisions st), 7) ∷ (zero-axes st && zero-divisions st, 8) ∷ [])
+past : (c : tie.Else-is_misnumbered) → let st = s3 c.before in refusal st.args.n (k st) (read_rule st.args.b st.args.m (t st)) ≡ first_failing ((constant st && (axes st && divisions st), 7) ∷ (zero-axes st && zero-divisions st, 8) ∷ [])
 past c = let y = c.before in let e2 = y.before in simp (some e2.before.before, few e2, numbered c)
 
-returns-4 : tie.Need-returns-4
+returns-4 : tie.Need-returns-then-not-constraint_constant_in
 returns-4 c =
     let y = c.before in let st = s4 y in
-    simp (past y.before.before, first-no (axes st && divisions st) (constant-is y ∙ not-true _ c.if4.true))
+    simp (past y.before.before, first-no (axes st && divisions st) (constant-is y ∙ not-true _ c.if-not-constraint_constant_in.true-raw))
 
 plain-requires : tie.Need-plain-requires
 plain-requires c κs = search rules
 
-returns-5 : tie.Need-returns-5
+returns-5 : tie.Need-returns-then-not-plain
 returns-5 c =
     let y = c.before in let e4 = y.before in
-    simp (past e4.before.before.before, second-no (constant-in e4) (first-no (divisions (s5 y)) (sym y.plain.ensures ∙ not-true _ c.if5.true)))
+    simp (past e4.before.before.before, second-no (constant-in e4) (first-no (divisions (s5 y)) (sym y.plain.ensures ∙ not-true _ c.if-not-plain.true-raw)))
 
 plain-requires-2 : tie.Need-plain-requires-2
 plain-requires-2 c κs = search rules
 
-returns-6 : tie.Need-returns-6
+returns-6 : tie.Need-returns-then-not-plain-2
 returns-6 c =
     let y = c.before in let e5 = y.before in let e4 = e5.before.before in
-    simp (past e4.before.before.before, second-no (constant-in e4) (second-no (axes-in e5) (sym y.plain2.ensures ∙ not-true _ c.if6.true)))
+    simp (past e4.before.before.before, second-no (constant-in e4) (second-no (axes-in e5) (sym y.plain-2.ensures ∙ not-true _ c.if-not-plain-2.true-raw)))
 
 zeros-requires : tie.Need-zeros-requires
 zeros-requires c κs = search rules
 
 -- past 7
-abbrev else3 : tie.Else6 → tie.Else3
+abbrev else3 : tie.Else-not-plain-2 → tie.Else-is_misnumbered
 else3 c = c.before.before.before.before.before.before.before
 
-returns-7 : tie.Need-returns-7
+returns-7 : tie.Need-returns-then-not-zeros
 returns-7 c =
     let y = c.before in let e6 = y.before in
-    simp (past (else3 e6), numbers-in e6, first-no (zero-divisions (s7 y)) (axes-zero y ∙ not-true _ c.if7.true))
+    simp (past (else3 e6), numbers-in e6, first-no (zero-divisions (s7 y)) (axes-zero y ∙ not-true _ c.if-not-zeros.true-raw))
 
 zeros-requires-2 : tie.Need-zeros-requires-2
 zeros-requires-2 c κs = search rules
 
-returns-8 : tie.Need-returns-8
+returns-8 : tie.Need-returns-then-not-zeros-2
 returns-8 c =
     let y = c.before in let e7 = y.before in let e6 = e7.before.before in
-    simp (past (else3 e6), numbers-in e6, second-no (axes-zero e7.before ∙ not-false _ e7.if7.false) (divisions-zero y ∙ not-true _ c.if8.true))
+    simp (past (else3 e6), numbers-in e6, second-no (axes-zero e7.before ∙ not-false _ e7.if-not-zeros.false-raw) (divisions-zero y ∙ not-true _ c.if-not-zeros-2.true-raw))
 
-returns-9 : tie.Need-returns-9
+returns-9 : tie.Need-returns
 returns-9 c =
     let y = c.before in let e7 = y.before in let e6 = e7.before.before in
-    simp (past (else3 e6), numbers-in e6, both (axes-zero e7.before ∙ not-false _ e7.if7.false) (divisions-zero y ∙ not-false _ c.if8.false))
+    simp (past (else3 e6), numbers-in e6, both (axes-zero e7.before ∙ not-false _ e7.if-not-zeros.false-raw) (divisions-zero y ∙ not-false _ c.if-not-zeros-2.false-raw))
 
 pub constraint_refusal_spec : {M : Type 1} → statement M
 constraint_refusal_spec =

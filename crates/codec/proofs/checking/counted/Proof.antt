@@ -7,30 +7,30 @@ use Rattle.codec.proofs.Parsing.{read-division, counted-rule}
 use Rattle.codec.proofs.checking.counted.Statement.{statement}
 use Rattle.codec.proofs.checking.counted.Tie as tie
 
-add-t4 : tie.Need-overflow-add-t4
+add-t4 : tie.Need-overflow_add-result
 add-t4 c = search rules
 
-returns : tie.Need-returns
-returns c = λ t. rw c.before.if1.true
+returns : tie.Need-returns-then-b-eq-OPENS
+returns c = λ t. rw c.before.if-b-eq-OPENS.true
 
-is-division-requires : tie.Need-is-division-requires
+is-division-requires : tie.Need-is_division-requires
 is-division-requires c κs = search rules
 
-add-t6 : tie.Need-overflow-add-t6
+add-t6 : tie.Need-overflow_add-result-then-is_division
 add-t6 c = search rules
 
-returns-2 : tie.Need-returns-2
+returns-2 : tie.Need-returns-then-is_division
 returns-2 c =
     let y = c.before in let d = y.before in let a = d.before.before.args in
-    λ t. sym (ap (counted (counts_of a.k)) (read-division a.b t (sym d.is-division.ensures ∙ y.if2.true)))
+    λ t. sym (ap (counted (counts_of a.k)) (read-division a.b t (sym d.is_division.ensures ∙ y.if-is_division.true)))
 
-add-t7 : tie.Need-overflow-add-t7
+add-t7 : tie.Need-overflow_add-result-2
 add-t7 c = search rules
 
-returns-3 : tie.Need-returns-3
+returns-3 : tie.Need-returns
 returns-3 c =
     let y = c.before in let d = y.before in let a = d.before.before.args in
-    λ t. sym (counted-rule a.b t d.before.if1.false (sym d.is-division.ensures ∙ y.if2.false) (counts_of a.k))
+    λ t. sym (counted-rule a.b t d.before.if-b-eq-OPENS.false (sym d.is_division.ensures ∙ y.if-is_division.false) (counts_of a.k))
 
 pub counted_spec : {M : Type 1} → statement M
 counted_spec =

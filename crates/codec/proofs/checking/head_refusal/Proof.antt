@@ -13,29 +13,29 @@ use Rattle.codec.proofs.Parsing.{head-unknown, head-cut, head_at, read-opens, re
 use Rattle.codec.proofs.checking.head_refusal.Statement.{statement}
 use Rattle.codec.proofs.checking.head_refusal.Tie as tie
 
-shared-slice-read-b : tie.Need-shared-slice-read-b
+shared-slice-read-b : tie.Need-bounds-s-at
 shared-slice-read-b c = search rules
 
-width-requires : tie.Need-width-requires
+width-requires : tie.Need-width-w-requires
 width-requires c κs = search rules
 
-abbrev start : tie.After-width → tie.Start
+abbrev start : tie.After-width-w → tie.Start
 start w = w.before.before.before.before
 
-returns : tie.Need-returns
-returns c = let w = c.before in let a = (start w).args in sym (head-unknown a.n (counts_of a.k) _ _ (sym w.width.ensures ∙ c.if1.true))
+returns : tie.Need-returns-then-w-eq0
+returns c = let w = c.before in let a = (start w).args in sym (head-unknown a.n (counts_of a.k) _ _ (sym w.width-w.ensures ∙ c.if-w-eq0.true))
 
-sub-if2 : tie.Need-overflow-sub-if2
+sub-if2 : tie.Need-overflow_sub-s
 sub-if2 c = search rules
 
-returns-2 : tie.Need-returns-2
-returns-2 c = let e1 = c.before in let w = e1.before in let st = start w in let a = st.args in sym (head-cut a.n (counts_of a.k) _ a.s.now a.at _ st.pre.0 w.width.ensures e1.if1.false c.if2.true)
+returns-2 : tie.Need-returns-then-s-at
+returns-2 c = let e1 = c.before in let w = e1.before in let st = start w in let a = st.args in sym (head-cut a.n (counts_of a.k) _ a.s.now a.at _ st.pre.0 w.width-w.ensures e1.if-w-eq0.false c.if-s-at.true)
 
-opens-refusal-requires : tie.Need-opens-refusal-requires
+opens-refusal-requires : tie.Need-opens_refusal-requires
 opens-refusal-requires c κs = search rules
 
 -- a command that is known and whole
-module _ (c : tie.Else2) where
+module _ (c : tie.Else-s-at) where
   abbrev st : tie.Start
   st = start c.before.before
 
@@ -63,52 +63,52 @@ module _ (c : tie.Else2) where
   refuses : B.head_refusal st.args.n k b (drop (at + 1) s) ≡ B.refusal st.args.n k (B.read_command b (drop (at + 1) s))
   refuses = head_at st.args.n k b s at _ st.pre.0 c.before.before.width.ensures c.before.if1.false c.if2.false
 
-returns-3 : tie.Need-returns-3
+returns-3 : tie.Need-returns-then-b-eq-OPENS
 returns-3 c =
     let y = c.before in let e = y.before in
-    c.opens-refusal.ensures ∙ ap (B.refusal (st e).args.n (k e)) (sym (read-opens (b e) (drop (at e + 1) (s e)) y.if3.true)) ∙ sym (refuses e)
+    c.opens_refusal.ensures ∙ ap (B.refusal (st e).args.n (k e)) (sym (read-opens (b e) (drop (at e + 1) (s e)) y.if-b-eq-OPENS.true)) ∙ sym (refuses e)
 
-body-requires : tie.Need-body-requires
+body-requires : tie.Need-body-t-requires
 body-requires c κs = whole c.before
 
-is-division-requires : tie.Need-is-division-requires
+is-division-requires : tie.Need-is_division-requires
 is-division-requires c κs = search rules
 
-head-requires : tie.Need-head-requires
+head-requires : tie.Need-head-m-requires
 head-requires c κs = whole c.before.before
 
 -- a division
-division-refusal-requires : tie.Need-division-refusal-requires
+division-refusal-requires : tie.Need-division_refusal-requires
 division-refusal-requires c κs =
     let d = c.before in let o = d.before.before in let e = o.before.before in
-    (subst (λ (t : List ℕ). division_body ≤ length t) (sym o.body.ensures) (body-room (b e) (s e) (at e) division_body (width-division (b e) (sym d.is-division.ensures ∙ c.if4.true)) (room e)), (st e).requires.1, (st e).requires.3)
+    (subst (λ (t : List ℕ). division_body ≤ length t) (sym o.body-t.ensures) (body-room (b e) (s e) (at e) division_body (width-division (b e) (sym d.is_division.ensures ∙ c.if-is_division.true)) (room e)), (st e).requires.1, (st e).requires.3)
 
-returns-4 : tie.Need-returns-4
+returns-4 : tie.Need-returns-then-is_division
 returns-4 c =
     let y = c.before in let d = y.before in let h = d.before in let o = h.before in let e = o.before.before in
-    c.division-refusal.ensures
-    ∙ ap₂ (λ (m : ℕ) (t : List ℕ). B.refusal (st e).args.n (k e) (B.division (B.read_division m t))) h.head.ensures.0 o.body.ensures
-    ∙ ap (B.refusal (st e).args.n (k e)) (sym (read-division (b e) (drop (at e + 1) (s e)) (sym d.is-division.ensures ∙ y.if4.true))) ∙ sym (refuses e)
+    c.division_refusal.ensures
+    ∙ ap₂ (λ (m : ℕ) (t : List ℕ). B.refusal (st e).args.n (k e) (B.division (B.read_division m t))) h.head-m.ensures.is o.body-t.ensures
+    ∙ ap (B.refusal (st e).args.n (k e)) (sym (read-division (b e) (drop (at e + 1) (s e)) (sym d.is_division.ensures ∙ y.if-is_division.true))) ∙ sym (refuses e)
 
 -- a rule
-module _ (c : tie.Else4) where
-  abbrev o : tie.After-body
+module _ (c : tie.Else-is_division) where
+  abbrev o : tie.After-body-t
   o = c.before.before.before
 
   other : is_division (b o.before.before) ≡ false
   other = sym c.before.is-division.ensures ∙ c.if4.false
 
-constraint-refusal-requires : tie.Need-constraint-refusal-requires
+constraint-refusal-requires : tie.Need-constraint_refusal-requires
 constraint-refusal-requires c κs =
     let e = (o c).before.before in let n = (o c).before.if3.false in
     let w = width-constraint (b e) n (other c) (other-code (b e) n (other c) (some e)) in
     (subst (λ (t : List ℕ). constraint_body ≤ length t) (sym (o c).body.ensures) (body-room (b e) (s e) (at e) constraint_body w (room e)), (st e).pre.1, (st e).pre.2, (st e).pre.3)
 
-returns-5 : tie.Need-returns-5
+returns-5 : tie.Need-returns
 returns-5 c =
     let y = c.before in let e = (o y).before.before in
-    c.constraint-refusal.ensures
-    ∙ ap₂ (λ (m : ℕ) (t : List ℕ). B.refusal (st e).args.n (k e) (B.read_rule (b e) m t)) y.before.before.head.ensures.0 (o y).body.ensures
+    c.constraint_refusal.ensures
+    ∙ ap₂ (λ (m : ℕ) (t : List ℕ). B.refusal (st e).args.n (k e) (B.read_rule (b e) m t)) y.before.before.head-m.ensures.is (o y).body.ensures
     ∙ ap (B.refusal (st e).args.n (k e)) (sym (read-rule (b e) (drop (at e + 1) (s e)) (o y).before.if3.false (other y))) ∙ sym (refuses e)
 
 pub head_refusal_spec : {M : Type 1} → statement M

@@ -12,50 +12,50 @@ use Rattle.codec.proofs.Parsing.{coefficient-yes, coefficient-not}
 use Rattle.codec.proofs.checking.plain.Statement.{statement}
 use Rattle.codec.proofs.checking.plain.Tie as tie
 
-abbrev invariant-loop : tie.invariant-loop
+abbrev invariant-loop : tie.invariant-loop-i
 invariant-loop t p ok₀ i₀ ok i = (i ≤ 8) × ((ok && from coefficient t p i) ≡ all coefficient (signed_list 8 (drop p t)))
 
-abbrev decreases-loop : tie.decreases-loop
+abbrev decreases-loop : tie.decreases-loop-i
 decreases-loop t p ok₀ i₀ ok i = 8 - i
 
 -- src/checking.rt:32:5
-loop-holds : tie.Need-loop-init invariant-loop decreases-loop
+loop-holds : tie.Need-loop-i-init invariant-loop decreases-loop
 loop-holds c = let a = c.before.args in (omega arith, from_start coefficient a.t.now a.p)
 
 -- src/checking.rt:33:31
-mul-u16-at : tie.Need-overflow-mul-u16-at invariant-loop decreases-loop
-mul-u16-at c = let h = c.loop-test.true in omega arith
+mul-u16-at : tie.Need-overflow_mul-i invariant-loop decreases-loop
+mul-u16-at c = let h = c.loop-i-test.true in omega arith
 
 -- src/checking.rt:33:27
-add-u16-at : tie.Need-overflow-add-u16-at invariant-loop decreases-loop
-add-u16-at c = let h = c.loop-test.true in let l = c.before.before.before.requires in search rules
+add-u16-at : tie.Need-overflow_add-p invariant-loop decreases-loop
+add-u16-at c = let h = c.loop-i-test.true in let l = c.before.before.before.requires in search rules
 
 -- src/checking.rt:33:13
-u16-at-requires : tie.Need-u16-at-requires invariant-loop decreases-loop
-u16-at-requires c κs = let h = c.loop-test.true in let l = c.before.before.before.requires in omega arith
+u16-at-requires : tie.Need-u16_at-v-requires invariant-loop decreases-loop
+u16-at-requires c κs = let h = c.loop-i-test.true in let l = c.before.before.before.requires in omega arith
 
 -- src/checking.rt:37:9
-add-i : tie.Need-overflow-add-i invariant-loop decreases-loop
-add-i c = let h = c.before.before.loop-test.true in omega arith
+add-i : tie.Need-overflow_add-i invariant-loop decreases-loop
+add-i c = let h = c.before.before.loop-i-test.true in omega arith
 
 -- src/checking.rt:32:5
-loop-less : tie.Need-loop-smaller invariant-loop decreases-loop
-loop-less c = let h = c.before.before.loop-test.true in omega arith
+loop-less : tie.Need-loop-i-smaller invariant-loop decreases-loop
+loop-less c = let h = c.before.before.loop-i-test.true in omega arith
 
 -- src/checking.rt:32:5
-loop-again : tie.Need-loop-preserved invariant-loop decreases-loop
+loop-again : tie.Need-loop-i-preserved invariant-loop decreases-loop
 loop-again c =
-    let u = c.before in let b = u.before in let m = b.before in let a = m.before.before.args in let h = b.loop-test.true in let e = u.u16-at.ensures.0 in (
+    let u = c.before in let b = u.before in let m = b.before in let a = m.before.before.args in let h = b.loop-i-test.true in let e = u.u16_at-v.ensures.is in (
       omega arith,
       ⊎_elim
-          (λ w. ap (λ (o : Bool). o && from coefficient a.t.now a.p (m.loop.i + 1)) w.1 ∙ sym (failed coefficient a.t.now a.p m.loop.i _ h e m.loop.ok (coefficient-not _ w.0.taken)) ∙ m.loop.invariant.1)
-          (λ w. ap (λ (o : Bool). o && from coefficient a.t.now a.p (m.loop.i + 1)) w.1 ∙ sym (passed coefficient a.t.now a.p m.loop.i _ h e m.loop.ok (coefficient-yes _ u.u16-at.ensures.1 w.0.left)) ∙ m.loop.invariant.1)
-          c.if1.branch,
+          (λ w. ap (λ (o : Bool). o && from coefficient a.t.now a.p (m.loop-i.i + 1)) w.1 ∙ sym (failed coefficient a.t.now a.p m.loop-i.i _ h e m.loop-i.ok (coefficient-not _ w.0.taken)) ∙ m.loop-i.invariant.1)
+          (λ w. ap (λ (o : Bool). o && from coefficient a.t.now a.p (m.loop-i.i + 1)) w.1 ∙ sym (passed coefficient a.t.now a.p m.loop-i.i _ h e m.loop-i.ok (coefficient-yes _ u.u16_at-v.ensures.small w.0.left)) ∙ m.loop-i.invariant.1)
+          c.if-v-eq32768.branch,
     )
 
 -- src/checking.rt:26:1
 returns : tie.Need-returns invariant-loop decreases-loop
-returns c = let m = c.before in let a = m.before.before.args in let h = c.loop-test.false in sym (from_end coefficient a.t.now a.p m.loop.ok m.loop.i (omega arith)) ∙ m.loop.invariant.1
+returns c = let m = c.before in let a = m.before.before.args in let h = c.loop-i-test.false in sym (from_end coefficient a.t.now a.p m.loop-i.ok m.loop-i.i (omega arith)) ∙ m.loop-i.invariant.1
 
 pub plain_spec : {M : Type 1} → statement M
 plain_spec =

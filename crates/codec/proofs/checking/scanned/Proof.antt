@@ -4,22 +4,22 @@ use borrow.Author.Rules.{rules}
 use Rattle.codec.proofs.checking.scanned.Statement.{statement}
 use Rattle.codec.proofs.checking.scanned.Tie as tie
 
-returns : tie.Need-returns
-returns c = let st = c.before.before in sym (decode-bad _ st.args.s.now (axes-zero _ c.if1.true))
+returns : tie.Need-returns-then-n-eq0
+returns c = let st = c.before.before in sym (decode-bad _ st.args.s.now (axes-zero _ c.if-n-eq0.true))
 
-returns-2 : tie.Need-returns-2
-returns-2 c = let st = c.before.before.before in sym (decode-bad _ st.args.s.now (axes-over _ c.if2.true))
+returns-2 : tie.Need-returns-then-n-gt-AXES
+returns-2 c = let st = c.before.before.before in sym (decode-bad _ st.args.s.now (axes-over _ c.if-n-gt-AXES.true))
 
-allowed-requires : tie.Need-allowed-requires
+allowed-requires : tie.Need-allowed-bits-requires
 allowed-requires c κs = search rules
 
-slice-aggregate-scan : tie.Need-slice-aggregate-scan
+slice-aggregate-scan : tie.Need-slice_bounds-scan-end
 slice-aggregate-scan c = search rules
 
 scan-requires : tie.Need-scan-requires
 scan-requires c κs = search rules
 
-returns-3 : tie.Need-returns-3
+returns-3 : tie.Need-returns
 returns-3 c = search rules
 
 pub scanned_spec : {M : Type 1} → statement M

@@ -7,11 +7,11 @@ use Rattle.codec.proofs.layout.bare_at.Tie as tie
 code-requires : tie.Need-code-requires
 code-requires c κs = search rules
 
-is-bare-requires : tie.Need-is-bare-requires
+is-bare-requires : tie.Need-is_bare-requires
 is-bare-requires c κs = search rules
 
 returns : tie.Need-returns
-returns c = c.is-bare.ensures ∙ ap is_bare c.before.code.ensures
+returns c = c.is_bare.ensures ∙ ap is_bare c.before.code.ensures
 
 pub bare_at_spec : {M : Type 1} → statement M
 bare_at_spec = tie.close (tie.spec code-requires is-bare-requires returns)

@@ -24,54 +24,51 @@ check-requires c κs = search rules
 part-requires : tie.Need-part-requires
 part-requires c κs = search rules
 
-returns : tie.Need-returns
+returns : tie.Need-returns-then-check-ne0
 returns c = let h = c.before.before in let a = h.before.before.args in
-    let e = part-refused a.n a.set.now a.k (λ z. c.before.if1.true (h.check.ensures ∙ z)) in
-    (c.part.ensures.0 ∙ ap (λ (p : Part). held p a.set.now) (sym e), c.part.ensures.1 ∙ ap (λ (p : Part). (a.set.ref_ptr.0, a.set.ref_ptr.1 + p.place)) (sym e))
+    let e = part-refused a.n a.set.now a.k (λ z. c.before.if-check-ne0.true (h.check.ensures ∙ z)) in
+    record { bytes = c.part.ensures.bytes ∙ ap (λ (p : Part). held p a.set.now) (sym e); place = c.part.ensures.place ∙ ap (λ (p : Part). (a.set.ref_ptr.0, a.set.ref_ptr.1 + p.place)) (sym e) }
 
-part-requires-2 : tie.Need-part-requires-2
+part-requires-2 : tie.Need-part-requires-then-k-eq0
 part-requires-2 c κs = search rules
 
-returns-2 : tie.Need-returns-2
+returns-2 : tie.Need-returns-then-k-eq0
 returns-2 c = let h = c.before.before.before in let a = h.before.before.args in
-    let e : part_of a.n a.set.now a.k ≡ nowhere = ap (part_of a.n a.set.now) c.before.if2.true ∙ part-zero a.n a.set.now in
-    (c.part2.ensures.0 ∙ ap (λ (p : Part). held p a.set.now) (sym e), c.part2.ensures.1 ∙ ap (λ (p : Part). (a.set.ref_ptr.0, a.set.ref_ptr.1 + p.place)) (sym e))
+    let e : part_of a.n a.set.now a.k ≡ nowhere = ap (part_of a.n a.set.now) c.before.if-k-eq0.true ∙ part-zero a.n a.set.now in
+    record { bytes = c.part-then-k-eq0.ensures.bytes ∙ ap (λ (p : Part). held p a.set.now) (sym e); place = c.part-then-k-eq0.ensures.place ∙ ap (λ (p : Part). (a.set.ref_ptr.0, a.set.ref_ptr.1 + p.place)) (sym e) }
 
-sub-start-of : tie.Need-overflow-sub-start-of
+sub-start-of : tie.Need-overflow_sub-k
 sub-start-of c = search rules
 
-start-of-requires : tie.Need-start-of-requires
-start-of-requires c κs = let h = c.before.before in let a = h.before.before.args in record { n = a.n; accepted = sym h.check.ensures ∙ c.before.if1.false }
+start-of-requires : tie.Need-start_of-at-requires
+start-of-requires c κs = let h = c.before.before in let a = h.before.before.args in record { n = a.n; accepted = sym h.check.ensures ∙ c.before.if-check-ne0.false }
 
-part-requires-3 : tie.Need-part-requires-3
+part-requires-3 : tie.Need-part-requires-then-set-at
 part-requires-3 c κs = search rules
 
-returns-3 : tie.Need-returns-3
+returns-3 : tie.Need-returns-then-set-at
 returns-3 c = let o = c.before.before in let h = o.before.before.before in let g = h.before in let a = g.before.args in let s = a.set.now in
     let q : a.k - 1 + 1 ≡ a.k = omega arith in
-    let z : number (decode a.n s) ≡ 0 = sym h.check.ensures ∙ o.before.before.if1.false in
-    let e : part_of a.n s a.k ≡ nowhere = ap (part_of a.n s) (sym q) ∙ started_none s (a.k - 1) o.start_of_lem.result (bytes_of s (λ x. omega (arith, g.shared-slice-known.given x))) o.start_of_lem.ensures a.n z c.before.if3.true in
-    (c.part3.ensures.0 ∙ ap (λ (p : Part). held p s) (sym e), c.part3.ensures.1 ∙ ap (λ (p : Part). (a.set.ptr.0, a.set.ptr.1 + p.place)) (sym e))
+    let z : number (decode a.n s) ≡ 0 = sym h.check.ensures ∙ o.before.before.if-check-ne0.false in
+    let e : part_of a.n s a.k ≡ nowhere = ap (part_of a.n s) (sym q) ∙ started_none s (a.k - 1) o.start_of_lem.result (bytes_of s (λ x. omega (arith, g.shared_slice_known-1.given x))) o.start_of_lem.ensures a.n z c.before.if-set-at.true in
+    record { bytes = c.part-then-set-at.ensures.bytes ∙ ap (λ (p : Part). held p s) (sym e); place = c.part-then-set-at.ensures.place ∙ ap (λ (p : Part). (a.set.ptr.0, a.set.ptr.1 + p.place)) (sym e) }
 
-add-end-of : tie.Need-overflow-add-end-of
+add-end-of : tie.Need-overflow_add-at
 add-end-of c = search rules
 
-end-of-requires : tie.Need-end-of-requires
-end-of-requires c κs = let o = c.before in let s = o.before.before.before.before.before.args.set.now in let t = o.start_of_lem.ensures in boundary-opened t.n s o.start_of_lem.result t.there c.if3.false
+end-of-requires : tie.Need-end_of-end-requires
+end-of-requires c κs = let o = c.before in let s = o.before.before.before.before.before.args.set.now in let t = o.start_of_lem.ensures in boundary-opened t.n s o.start_of_lem.result t.there c.if-set-at.false
 
-part-requires-4 : tie.Need-part-requires-4
+part-requires-4 : tie.Need-part-requires-2
 part-requires-4 c κs = let o = c.before.before in let s = o.before.before.before.before.before.args.set.now in let t = o.start_of_lem.ensures in
-    let i = (boundary-next t.n s o.start_of_lem.result t.there c.before.if3.false).here.inside in let e = c.end_of_lem.ensures in (omega arith, omega arith)
+    let i = (boundary-next t.n s o.start_of_lem.result t.there c.before.if-set-at.false).here.inside in let e = c.end_of_lem.ensures in (omega arith, omega arith)
 
-returns-4 : tie.Need-returns-4
+returns-4 : tie.Need-returns
 returns-4 c = let d = c.before in let o = d.before.before in let h = o.before.before.before in let g = h.before in let a = g.before.args in let s = a.set.now in let at = o.start_of_lem.result in
     let q : a.k - 1 + 1 ≡ a.k = omega arith in
-    let z : number (decode a.n s) ≡ 0 = sym h.check.ensures ∙ o.before.before.if1.false in
+    let z : number (decode a.n s) ≡ 0 = sym h.check.ensures ∙ o.before.before.if-check-ne0.false in
     let e : part_of a.n s a.k ≡ record { place = at; size = end_of s (at + 1) - at } =
-    ap (part_of a.n s) (sym q) ∙ started-part s (a.k - 1) at (bytes_of s (λ x. omega (arith, g.shared-slice-known.given x))) o.start_of_lem.ensures a.n z d.before.if3.false in (
-      c.part4.ensures.0 ∙ ap (λ (x : ℕ). take (x - at) (drop at s)) d.end_of_lem.ensures ∙ ap (λ (p : Part). held p s) (sym e),
-      c.part4.ensures.1 ∙ ap (λ (p : Part). (a.set.ptr.0, a.set.ptr.1 + p.place)) (sym e),
-    )
+    ap (part_of a.n s) (sym q) ∙ started-part s (a.k - 1) at (bytes_of s (λ x. omega (arith, g.shared_slice_known-1.given x))) o.start_of_lem.ensures a.n z d.before.if-set-at.false in record { bytes = c.part-2.ensures.bytes ∙ ap (λ (x : ℕ). take (x - at) (drop at s)) d.end_of_lem.ensures ∙ ap (λ (p : Part). held p s) (sym e); place = c.part-2.ensures.place ∙ ap (λ (p : Part). (a.set.ptr.0, a.set.ptr.1 + p.place)) (sym e) }
 
 pub basic_spec : {M : Type 1} → statement M
 basic_spec =

@@ -5,17 +5,17 @@ use borrow.Author.Rules.{rules}
 use Rattle.codec.proofs.parts.part.Statement.{statement}
 use Rattle.codec.proofs.parts.part.Tie as tie
 
-sub-result : tie.Need-overflow-sub-result
+sub-result : tie.Need-slice_bounds-result-count
 sub-result c = search rules
 
-part-result-start : tie.Need-slice-bounds-result-start
+part-result-start : tie.Need-slice_bounds-result-start
 part-result-start c = search rules
 
-part-result-end : tie.Need-slice-bounds-result-end
+part-result-end : tie.Need-slice_bounds-result-end
 part-result-end c = search rules
 
 returns : tie.Need-returns
-returns c = let a = c.before.args in (refl, ap (λ (j : ℕ). (a.s.ptr.0, j)) (add_comm a.from a.s.ptr.1))
+returns c = let a = c.before.args in record { bytes = refl; place = ap (λ (j : ℕ). (a.s.ptr.0, j)) (add_comm a.from a.s.ptr.1) }
 
 pub part_spec : {M : Type 1} → statement M
 part_spec = tie.close (tie.spec sub-result part-result-start part-result-end returns)

@@ -9,19 +9,19 @@ use Rattle.integers.specs.Size.{fits-within, within-fits}
 use Rattle.codec.proofs.readers.s16_at.Statement.{statement}
 use Rattle.codec.proofs.readers.s16_at.Tie as tie
 
-i16-at-requires : tie.Need-i16-at-requires
+i16-at-requires : tie.Need-i16_at-requires
 i16-at-requires c κs = search rules
 
-cast-result : tie.Need-overflow-cast-result
+cast-result : tie.Need-overflow_cast-result
 cast-result c =
-    let f : SFits w16 c.i16-at.result = record { sfits = c.i16-at.type-inv } in
+    let f : SFits w16 c.i16-at.result = record { sfits = c.i16_at.type-inv } in
     rw (to_z_of_z f) (within-fits (omega arith) (fits-within f))
 
 returns : tie.Need-returns
 returns c =
-    let f : SFits w16 c.i16-at.result = record { sfits = c.i16-at.type-inv } in
+    let f : SFits w16 c.i16-at.result = record { sfits = c.i16_at.type-inv } in
     let e = to_z_of_z (cast-result c) ∙ to_z_of_z f in
-    (e ∙ c.i16-at.ensures, subst (Within 32768) (sym e) (fits-within f))
+    record { is = e ∙ c.i16_at.ensures; size = subst (Within 32768) (sym e) (fits-within f) }
 
 pub s16_at_spec : {M : Type 1} → statement M
 s16_at_spec = tie.close (tie.spec i16-at-requires cast-result returns)

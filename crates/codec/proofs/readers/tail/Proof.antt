@@ -7,13 +7,13 @@ use borrow.Author.Rules.{rules}
 use Rattle.codec.proofs.readers.tail.Statement.{statement}
 use Rattle.codec.proofs.readers.tail.Tie as tie
 
-sub-result : tie.Need-overflow-sub-result
+sub-result : tie.Need-slice_bounds-result-count
 sub-result c = search rules
 
-part-result-start : tie.Need-slice-bounds-result-start
+part-result-start : tie.Need-slice_bounds-result-start
 part-result-start c = search rules
 
-part-result-end : tie.Need-slice-bounds-result-end
+part-result-end : tie.Need-slice_bounds-result-end
 part-result-end c = search rules
 
 returns : tie.Need-returns

@@ -15,16 +15,16 @@ use borrow.Author.Rules.{rules}
 use Rattle.commands.proofs.commands.assign.Statement.{statement}
 use Rattle.commands.proofs.commands.assign.Tie as tie
 
-answer-requires : tie.Need-answer-requires
+answer-requires : tie.Need-answer-a-requires
 answer-requires c κs = search rules
 
-enum-known-a : tie.Need-enum-known-a
+enum-known-a : tie.Need-enum_known-a
 enum-known-a c = search rules
 
-refused-line-requires : tie.Need-refused-line-requires
+refused-line-requires : tie.Need-refused_line-requires
 refused-line-requires c κs = search rules
 
-enum-known-a-2 : tie.Need-enum-known-a-2
+enum-known-a-2 : tie.Need-enum_known-a-in-Length-1
 enum-known-a-2 c = search rules
 
 byte-requires : tie.Need-byte-requires
@@ -48,46 +48,43 @@ slice-aggregate-word c = search rules
 word-requires : tie.Need-word-requires
 word-requires c κs = search rules
 
-same_length : tie.Need-same-length
+same_length : tie.Need-shape_of-tables-in-Refused
 same_length c = search rules
 
-same-length-2 : tie.Need-same-length-2
+same-length-2 : tie.Need-shape_of-lengths-in-Refused
 same-length-2 c = search rules
 
-same-length-3 : tie.Need-same-length-3
+same-length-3 : tie.Need-shape_of-res-in-Refused
 same-length-3 c = search rules
 
-same-length-4 : tie.Need-same-length-4
+same-length-4 : tie.Need-shape_of-out-in-Refused
 same-length-4 c = search rules
 
-returns : tie.Need-returns
+returns : tie.Need-returns-in-Refused
 returns c =
     let at_a = c.before.before.before.before.before in let at-answer = at_a.before.before.before.before in
     let st = at-answer.before.before.before.before.before.before.before.before.before in
     let x = subst
     (λ (o : Answer ℕ). Result room (answer_of (state_in st.args.axes st.args.tables.now st.args.lengths.now) st.args.b st.args.s.now) o
     at-answer.answer.new.1.1.1.1.1.0)
-    (ap outcome_is at_a.a.given.1) at-answer.answer.ensures in
-    let e = answered-refused _ x in (
-      writes-same (omega arith) (ap (tells done_line) (sym e)) c.before.before.refused-line.ensures,
-      kept-refused
+    (ap outcome_is at_a.a-1.given.1) at-answer.answer.ensures in
+    let e = answered-refused _ x in record { told = writes-same (omega arith) (ap (tells done_line) (sym e)) c.before.before.refused_line.ensures; kept = kept-refused
           (memory st.args.tables.now st.args.lengths.now st.args.res.now) (get_or st.args.s.now 0 0)
-          (answer_of (state_in st.args.axes st.args.tables.now st.args.lengths.now) st.args.b st.args.s.now) _ _ e x.bytes,
-    )
+          (answer_of (state_in st.args.axes st.args.tables.now st.args.lengths.now) st.args.b st.args.s.now) _ _ e x.bytes }
 
-same-length-5 : tie.Need-same-length-5
+same-length-5 : tie.Need-shape_of-tables-in-Length
 same-length-5 c = search rules
 
-same-length-6 : tie.Need-same-length-6
+same-length-6 : tie.Need-shape_of-lengths-in-Length
 same-length-6 c = search rules
 
-same-length-7 : tie.Need-same-length-7
+same-length-7 : tie.Need-shape_of-res-in-Length
 same-length-7 c = search rules
 
-same-length-8 : tie.Need-same-length-8
+same-length-8 : tie.Need-shape_of-out-in-Length
 same-length-8 c = search rules
 
-returns-2 : tie.Need-returns-2
+returns-2 : tie.Need-returns-in-Length
 returns-2 c =
     let at-keep = c.before.before.before.before.before.before.before.before.before in let at_byte = at-keep.before.before in let at-a2 = at_byte.before.before.before.before in
     let at-answer = at-a2.before.before.before.before in let st = at-answer.before.before.before.before.before.before.before.before.before in
@@ -95,12 +92,9 @@ returns-2 c =
     (λ (o : Answer ℕ). Result room (answer_of (state_in st.args.axes st.args.tables.now st.args.lengths.now) st.args.b st.args.s.now) o
     at-answer.answer.new.1.1.1.1.1.0)
     (ap outcome_is at-a2.a2.given.1) at-answer.answer.ensures in
-    let g = answered-gives _ x in (
-      writes-same (omega arith) (ap (tells done_line) (sym g.is)) c.before.before.word.ensures,
-      kept-given (memory st.args.tables.now st.args.lengths.now st.args.res.now)
+    let g = answered-gives _ x in record { told = writes-same (omega arith) (ap (tells done_line) (sym g.is)) c.before.before.word.ensures; kept = kept-given (memory st.args.tables.now st.args.lengths.now st.args.res.now)
           (get_or st.args.s.now 0 0) (answer_of (state_in st.args.axes st.args.tables.now st.args.lengths.now) st.args.b st.args.s.now) _ _ _ _ _ at_byte.byte.ensures.0 g
-          x.bytes at-keep.keep.ensures.0 at-keep.keep.ensures.1,
-    )
+          x.bytes at-keep.keep.ensures.0 at-keep.keep.ensures.1 }
 
 pub assign_spec : {M : Type 1} → statement M
 assign_spec =

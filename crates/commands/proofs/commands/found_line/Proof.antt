@@ -12,74 +12,74 @@ use borrow.Author.Rules.{rules}
 use Rattle.commands.proofs.commands.found_line.Statement.{statement}
 use Rattle.commands.proofs.commands.found_line.Tie as tie
 
-cast-k : tie.Need-overflow-cast-k
+cast-k : tie.Need-overflow_cast-k
 cast-k c = search rules
 
-enum_told : tie.Need-enum-told
+enum_told : tie.Need-enum_told-1
 enum_told c = search rules
 
-at-line-requires : tie.Need-at-line-requires
+at-line-requires : tie.Need-at_line-requires
 at-line-requires c κs = search rules
 
-enum-told-2 : tie.Need-enum-told-2
+enum-told-2 : tie.Need-enum_told-in-Nothing
 enum-told-2 c = search rules
 
 slice-aggregate-counted-line : tie.Need-slice-aggregate-counted-line
 slice-aggregate-counted-line c = search rules
 
-counted-line-requires : tie.Need-counted-line-requires
+counted-line-requires : tie.Need-counted_line-requires
 counted-line-requires c κs = search rules
 
-enum-told-3 : tie.Need-enum-told-3
+enum-told-3 : tie.Need-enum_told-in-Spent
 enum-told-3 c = search rules
 
 slice-aggregate-counted-line-2 : tie.Need-slice-aggregate-counted-line-2
 slice-aggregate-counted-line-2 c = search rules
 
-counted-line-requires-2 : tie.Need-counted-line-requires-2
+counted-line-requires-2 : tie.Need-counted_line-requires-in-Spent
 counted-line-requires-2 c κs = search rules
 
-enum-known-seen : tie.Need-enum-known-seen
+enum-known-seen : tie.Need-enum_known-seen
 enum-known-seen c = search rules
 
-refused-line-requires : tie.Need-refused-line-requires
+refused-line-requires : tie.Need-refused_line-requires
 refused-line-requires c κs = search rules
 
-same_length : tie.Need-same-length
+same_length : tie.Need-shape_of-out-in-At
 same_length c = search rules
 
-returns : tie.Need-returns
+returns : tie.Need-returns-in-At
 returns c =
     let at-enum-told = c.before.before.before.before in let st = at-enum-told.before.before.before.before.before in
-    writes-same (omega arith) (ap (λ (x : Outcome). tells search_line (found_by st.args.n st.args.f x)) (sym at-enum-told.enum_told.given.1)) c.before.before.at-line.ensures
+    writes-same (omega arith) (ap (λ (x : Outcome). tells search_line (found_by st.args.n st.args.f x)) (sym at-enum-told.enum_told.given.1)) c.before.before.at_line.ensures
 
-same-length-2 : tie.Need-same-length-2
+same-length-2 : tie.Need-shape_of-out-in-Nothing
 same-length-2 c = search rules
 
-returns-2 : tie.Need-returns-2
+returns-2 : tie.Need-returns-in-Nothing
 returns-2 c =
     let at-enum-told2 = c.before.before.before.before.before in let st = at-enum-told2.before.before.before.before.before in
     writes-same (omega arith)
     (one_number (codes "none") st.args.f.tested ∙ ap (λ (x : Outcome). tells search_line (found_by st.args.n st.args.f x)) (sym at-enum-told2.enum-told2.given.1))
-    c.before.before.counted-line.ensures
+    c.before.before.counted_line.ensures
 
-same-length-3 : tie.Need-same-length-3
+same-length-3 : tie.Need-shape_of-out-in-Spent
 same-length-3 c = search rules
 
-returns-3 : tie.Need-returns-3
+returns-3 : tie.Need-returns-in-Spent
 returns-3 c =
     let at-enum-told3 = c.before.before.before.before.before in let st = at-enum-told3.before.before.before.before.before in
     writes-same (omega arith)
     (one_number (codes "spent") st.args.f.tested ∙ ap (λ (x : Outcome). tells search_line (found_by st.args.n st.args.f x)) (sym at-enum-told3.enum-told3.given.1))
-    c.before.before.counted-line2.ensures
+    c.before.before.counted_line-in-Spent.ensures
 
-same-length-4 : tie.Need-same-length-4
+same-length-4 : tie.Need-shape_of-out-in-Refused
 same-length-4 c = search rules
 
-returns-4 : tie.Need-returns-4
+returns-4 : tie.Need-returns-in-Refused
 returns-4 c =
     let at_seen = c.before.before.before.before.before in let st = at_seen.before.before.before.before.before in
-    writes-same (omega arith) (ap (λ (x : Outcome). tells search_line (found_by st.args.n st.args.f x)) (sym at_seen.seen.given.1)) c.before.before.refused-line.ensures
+    writes-same (omega arith) (ap (λ (x : Outcome). tells search_line (found_by st.args.n st.args.f x)) (sym at_seen.seen-1.given.1)) c.before.before.refused_line.ensures
 
 pub found_line_spec : {M : Type 1} → statement M
 found_line_spec =

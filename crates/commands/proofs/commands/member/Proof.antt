@@ -14,10 +14,10 @@ use Rattle.commands.proofs.commands.member.Tie as tie
 point-requires : tie.Need-point-requires
 point-requires c κs = search rules
 
-member-requires : tie.Need-member-requires
+member-requires : tie.Need-member-m-requires
 member-requires c κs = search rules
 
-enum_told : tie.Need-enum-told
+enum_told : tie.Need-enum_told-1
 enum_told c = search rules
 
 slice-aggregate-word : tie.Need-slice-aggregate-word
@@ -26,25 +26,25 @@ slice-aggregate-word c = search rules
 word-requires : tie.Need-word-requires
 word-requires c κs = search rules
 
-enum-told-2 : tie.Need-enum-told-2
+enum-told-2 : tie.Need-enum_told-in-Out
 enum-told-2 c = search rules
 
 slice-aggregate-word-2 : tie.Need-slice-aggregate-word-2
 slice-aggregate-word-2 c = search rules
 
-word-requires-2 : tie.Need-word-requires-2
+word-requires-2 : tie.Need-word-requires-in-Out
 word-requires-2 c κs = search rules
 
-enum-known-m : tie.Need-enum-known-m
+enum-known-m : tie.Need-enum_known-m
 enum-known-m c = search rules
 
-refused-line-requires : tie.Need-refused-line-requires
+refused-line-requires : tie.Need-refused_line-requires
 refused-line-requires c κs = search rules
 
-same_length : tie.Need-same-length
+same_length : tie.Need-shape_of-out-in-In
 same_length c = search rules
 
-returns : tie.Need-returns
+returns : tie.Need-returns-in-In
 returns c =
     let at-enum-told = c.before.before.before.before.before in let at-member = at-enum-told.before.before in let at-point = at-member.before in
     let st = at-point.before.before.before.before in
@@ -53,28 +53,28 @@ returns c =
     (at-member.member.ensures ∙ ap (member_bytes st.args.axes st.args.set.now) at-point.point.ensures))
     c.before.before.word.ensures
 
-same-length-2 : tie.Need-same-length-2
+same-length-2 : tie.Need-shape_of-out-in-Out
 same-length-2 c = search rules
 
-returns-2 : tie.Need-returns-2
+returns-2 : tie.Need-returns-in-Out
 returns-2 c =
     let at-enum-told2 = c.before.before.before.before.before in let at-member = at-enum-told2.before.before in let at-point = at-member.before in
     let st = at-point.before.before.before.before in
     writes-same (omega arith)
     (ap (λ (m : Membership). tells member_line (member_is m)) (sym at-enum-told2.enum-told2.given.1) ∙ ap (tells member_line)
     (at-member.member.ensures ∙ ap (member_bytes st.args.axes st.args.set.now) at-point.point.ensures))
-    c.before.before.word2.ensures
+    c.before.before.word-in-Out.ensures
 
-same-length-3 : tie.Need-same-length-3
+same-length-3 : tie.Need-shape_of-out-in-Refused
 same-length-3 c = search rules
 
-returns-3 : tie.Need-returns-3
+returns-3 : tie.Need-returns-in-Refused
 returns-3 c =
     let at-m = c.before.before.before.before.before in let at-member = at-m.before.before in let at-point = at-member.before in let st = at-point.before.before.before.before in
     writes-same (omega arith)
     (ap (λ (m : Membership). tells member_line (member_is m)) (sym at-m.m.given.1) ∙ ap (tells member_line)
     (at-member.member.ensures ∙ ap (member_bytes st.args.axes st.args.set.now) at-point.point.ensures))
-    c.before.before.refused-line.ensures
+    c.before.before.refused_line.ensures
 
 pub member_spec : {M : Type 1} → statement M
 member_spec =

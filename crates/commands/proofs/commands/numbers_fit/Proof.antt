@@ -14,47 +14,47 @@ use borrow.Author.Rules.{rules}
 use Rattle.commands.proofs.commands.numbers_fit.Statement.{statement}
 use Rattle.commands.proofs.commands.numbers_fit.Tie as tie
 
-abbrev invariant-loop : tie.invariant-loop
+abbrev invariant-loop : tie.invariant-loop-i
 invariant-loop s k i₀ i = (i ≤ k) × (all (λ (m : ℕ). leb m 3) (drop i (take k s)) ≡ all (λ (m : ℕ). leb m 3) (take k s))
 
-abbrev decreases-loop : tie.decreases-loop
+abbrev decreases-loop : tie.decreases-loop-i
 decreases-loop s k i₀ i = k - i
 
-loop-holds : tie.Need-loop-init invariant-loop decreases-loop
+loop-holds : tie.Need-loop-i-init invariant-loop decreases-loop
 loop-holds c = (omega arith, refl)
 
-shared-slice-read-if1 : tie.Need-shared-slice-read-if1 invariant-loop decreases-loop
+shared-slice-read-if1 : tie.Need-bounds-s-i invariant-loop decreases-loop
 shared-slice-read-if1 c = search rules
 
-returns : tie.Need-returns invariant-loop decreases-loop
+returns : tie.Need-returns-then-s-i-gt-LAST_SET invariant-loop decreases-loop
 returns c =
     let in-loop = c.before.before.before in let st = in-loop.before in
     sym
-    (sym in-loop.loop.invariant.1 ∙ fits-at st.args.k in-loop.loop.i st.args.s.now c.before.before.loop-test.true st.requires ∙ ap
-    (λ (x : Bool). x && all (λ (m : ℕ). leb m 3) (drop (in-loop.loop.i + 1) (take st.args.k st.args.s.now))) (lt-leb _ _ c.if1.true))
+    (sym in-loop.loop.invariant.1 ∙ fits-at st.args.k in-loop.loop.i st.args.s.now c.before.before.loop-i-test.true st.requires ∙ ap
+    (λ (x : Bool). x && all (λ (m : ℕ). leb m 3) (drop (in-loop.loop.i + 1) (take st.args.k st.args.s.now))) (lt-leb _ _ c.if-s-i-gt-LAST_SET.true))
 
-add-i : tie.Need-overflow-add-i invariant-loop decreases-loop
+add-i : tie.Need-overflow_add-i invariant-loop decreases-loop
 add-i c = search rules
 
-loop-less : tie.Need-loop-smaller invariant-loop decreases-loop
+loop-less : tie.Need-loop-i-smaller invariant-loop decreases-loop
 loop-less c = search rules
 
-loop-again : tie.Need-loop-preserved invariant-loop decreases-loop
+loop-again : tie.Need-loop-i-preserved invariant-loop decreases-loop
 loop-again c =
     let in-loop = c.before.before.before in let st = in-loop.before in (
       omega arith,
       sym
-          (fits-at st.args.k in-loop.loop.i st.args.s.now c.before.before.loop-test.true st.requires ∙ ap
-          (λ (x : Bool). x && all (λ (m : ℕ). leb m 3) (drop (in-loop.loop.i + 1) (take st.args.k st.args.s.now))) (le-leb _ _ c.if1.false))
+          (fits-at st.args.k in-loop.loop.i st.args.s.now c.before.before.loop-i-test.true st.requires ∙ ap
+          (λ (x : Bool). x && all (λ (m : ℕ). leb m 3) (drop (in-loop.loop.i + 1) (take st.args.k st.args.s.now))) (le-leb _ _ c.if-s-i-gt-LAST_SET.false))
           ∙ in-loop.loop.invariant.1,
     )
 
-returns-2 : tie.Need-returns-2 invariant-loop decreases-loop
+returns-2 : tie.Need-returns invariant-loop decreases-loop
 returns-2 c =
     let st = c.before.before in
     let l = length-take-le st.args.k st.args.s.now st.requires in
     let h : length (take st.args.k st.args.s.now) ≤ c.before.loop.i = omega arith in
-    sym (sym c.before.loop.invariant.1 ∙ ap (all (λ (m : ℕ). leb m 3)) (drop_of_length-le (take st.args.k st.args.s.now) h))
+    sym (sym c.before.loop-i.invariant.1 ∙ ap (all (λ (m : ℕ). leb m 3)) (drop_of_length-le (take st.args.k st.args.s.now) h))
 
 pub numbers_fit_spec : {M : Type 1} → statement M
 numbers_fit_spec =

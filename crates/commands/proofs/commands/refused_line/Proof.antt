@@ -10,14 +10,14 @@ use Rattle.commands.proofs.commands.refused_line.Tie as tie
 slice-aggregate-counted-line : tie.Need-slice-aggregate-counted-line
 slice-aggregate-counted-line c = search rules
 
-counted-line-requires : tie.Need-counted-line-requires
+counted-line-requires : tie.Need-counted_line-requires
 counted-line-requires c κs = search rules
 
-same_length : tie.Need-same-length
+same_length : tie.Need-shape_of-out
 same_length c = search rules
 
 returns : tie.Need-returns
-returns c = writes-same (omega arith) (one_number (codes "refused") c.before.before.before.before.before.before.args.k) c.before.before.counted-line.ensures
+returns c = writes-same (omega arith) (one_number (codes "refused") c.before.before.before.before.before.before.args.k) c.before.before.counted_line.ensures
 
 pub refused_line_spec : {M : Type 1} → statement M
 refused_line_spec =

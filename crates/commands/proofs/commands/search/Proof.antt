@@ -22,19 +22,19 @@ point-requires c κs = search rules
 point-requires-2 : tie.Need-point-requires-2
 point-requires-2 c κs = search rules
 
-u32-at-requires : tie.Need-u32-at-requires
+u32-at-requires : tie.Need-u32_at-requires
 u32-at-requires c κs = search rules
 
-cast-first-point : tie.Need-overflow-cast-first-point
+cast-first-point : tie.Need-overflow_cast-u32_at
 cast-first-point c = search rules
 
-first-point-requires : tie.Need-first-point-requires
+first-point-requires : tie.Need-first_point-f-requires
 first-point-requires c κs = search rules
 
-found-line-requires : tie.Need-found-line-requires
+found-line-requires : tie.Need-found_line-requires
 found-line-requires c κs = search rules
 
-same_length : tie.Need-same-length
+same_length : tie.Need-shape_of-out
 same_length c = search rules
 
 returns : tie.Need-returns
@@ -54,7 +54,7 @@ returns c =
     (f.first-point.ensures ∙ ap₂ (λ (x y : List ℤ). answer_of (search_bytes n a x y u.u32-at.result)) l.point.ensures h.point2.ensures ∙ ap
     (λ (k : ℕ). answer_of (search_bytes n a (coordinates 8 (drop 5 s)) (coordinates 8 (drop 37 s)) k)) u.u32-at.ensures.0)
     ∙ found-is n a (coordinates 8 (drop 5 s)) (coordinates 8 (drop 37 s)) (value_of (take 4 (drop 1 s))) refl refl))
-    c.before.before.found-line.ensures
+    c.before.before.found_line.ensures
 
 pub search_spec : {M : Type 1} → statement M
 search_spec =

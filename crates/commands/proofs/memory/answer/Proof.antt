@@ -8,15 +8,15 @@ use Rattle.commands.proofs.memory.answer.Statement.{statement}
 use Rattle.commands.proofs.memory.answer.Tie as tie
 
 tail-requires : tie.Need-tail-requires
-tail-requires c κs = let f = load-operands _ c.if1.true in let e = c.before.before.before.before.before.requires.1.enough in omega arith
+tail-requires c κs = let f = load-operands _ c.if-b-eq64.true in let e = c.before.before.before.before.before.requires.1.enough in omega arith
 
 load-requires : tie.Need-load-requires
 load-requires c κs = search rules
 
-same_length : tie.Need-same-length
+same_length : tie.Need-shape_of-res-then-b-eq64
 same_length c = search rules
 
-returns : tie.Need-returns
+returns : tie.Need-returns-then-b-eq64
 returns c =
     let at_tail = c.before.before.before.before in let at-if1 = at_tail.before in let st = at-if1.before.before.before.before.before in
     result-same refl (answer-load st.args.n st.args.tables.now st.args.lengths.now st.args.b st.args.s.now _ at-if1.if1.true at_tail.tail.ensures)
@@ -29,20 +29,20 @@ byte-requires c κs =
     let e = st.requires.1.enough in
     omega arith
 
-table-requires : tie.Need-table-requires
+table-requires : tie.Need-table-first-requires
 table-requires c κs =
     let st = c.before.before.before.before.before.before in
-    let g = number-good _ 1 st.args.s.now st.requires.1.good (two-numbers _ st.requires.2 c.before.if1.false) in
-    let e = c.byte.ensures.0 in
+    let g = number-good _ 1 st.args.s.now st.requires.1.good (two-numbers _ st.requires.2 c.before.if-b-eq64.false) in
+    let e = c.byte.ensures.is in
     (st.requires.0, omega arith)
 
 complement-requires : tie.Need-complement-requires
 complement-requires c κs = search rules
 
-same-length-2 : tie.Need-same-length-2
+same-length-2 : tie.Need-shape_of-res-then-b-eq68
 same-length-2 c = search rules
 
-returns-2 : tie.Need-returns-2
+returns-2 : tie.Need-returns-then-b-eq68
 returns-2 c =
     let at-if2 = c.before.before.before.before in let at_table = at-if2.before in let at_byte = at_table.before in let at-if1 = at_byte.before in
     let st = at-if1.before.before.before.before.before in
@@ -54,24 +54,24 @@ returns-2 c =
 byte-requires-2 : tie.Need-byte-requires-2
 byte-requires-2 c κs =
     let st = c.before.before.before.before.before.before.before.before in
-    let f = third-operand st.args.b st.requires.2 c.if2.false in
+    let f = third-operand st.args.b st.requires.2 c.if-b-eq68.false in
     let e = st.requires.1.enough in
     omega arith
 
-table-requires-2 : tie.Need-table-requires-2
+table-requires-2 : tie.Need-table-second-requires
 table-requires-2 c κs =
     let at-if1 = c.before.before.before.before in let st = at-if1.before.before.before.before.before in
-    let g = number-good _ 2 st.args.s.now st.requires.1.good (three-numbers _ st.requires.2 at-if1.if1.false c.before.if2.false) in
-    let e = c.byte2.ensures.0 in
+    let g = number-good _ 2 st.args.s.now st.requires.1.good (three-numbers _ st.requires.2 at-if1.if1.false c.before.if-b-eq68.false) in
+    let e = c.byte-2.ensures.is in
     (st.requires.0, omega arith)
 
 union-requires : tie.Need-union-requires
 union-requires c κs = search rules
 
-same-length-3 : tie.Need-same-length-3
+same-length-3 : tie.Need-shape_of-res-then-b-eq65
 same-length-3 c = search rules
 
-returns-3 : tie.Need-returns-3
+returns-3 : tie.Need-returns-then-b-eq65
 returns-3 c =
     let at-if3 = c.before.before.before.before in let at-table2 = at-if3.before in let at-byte2 = at-table2.before in let at-if2 = at-byte2.before in let at_table = at-if2.before in
     let at_byte = at_table.before in let at-if1 = at_byte.before in let st = at-if1.before.before.before.before.before in
@@ -84,10 +84,10 @@ returns-3 c =
 intersection-requires : tie.Need-intersection-requires
 intersection-requires c κs = search rules
 
-same-length-4 : tie.Need-same-length-4
+same-length-4 : tie.Need-shape_of-res-then-b-eq66
 same-length-4 c = search rules
 
-returns-4 : tie.Need-returns-4
+returns-4 : tie.Need-returns-then-b-eq66
 returns-4 c =
     let at-if4 = c.before.before.before.before in let at-table2 = at-if4.before.before in let at-byte2 = at-table2.before in let at-if2 = at-byte2.before in
     let at_table = at-if2.before in let at_byte = at_table.before in let at-if1 = at_byte.before in let st = at-if1.before.before.before.before.before in
@@ -100,10 +100,10 @@ returns-4 c =
 difference-requires : tie.Need-difference-requires
 difference-requires c κs = search rules
 
-same-length-5 : tie.Need-same-length-5
+same-length-5 : tie.Need-shape_of-res
 same-length-5 c = search rules
 
-returns-5 : tie.Need-returns-5
+returns-5 : tie.Need-returns
 returns-5 c =
     let at-if4 = c.before.before.before.before in let at-if3 = at-if4.before in let at-table2 = at-if3.before in let at-byte2 = at-table2.before in let at-if2 = at-byte2.before in
     let at_table = at-if2.before in let at_byte = at_table.before in let at-if1 = at_byte.before in let st = at-if1.before.before.before.before.before in

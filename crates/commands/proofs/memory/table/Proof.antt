@@ -6,25 +6,25 @@ use borrow.Author.Rules.{rules}
 use Rattle.commands.proofs.memory.table.Statement.{statement}
 use Rattle.commands.proofs.memory.table.Tie as tie
 
-mul_at : tie.Need-overflow-mul-at
+mul_at : tie.Need-overflow_mul-at
 mul_at c = search rules
 
-mul-end : tie.Need-overflow-mul-end
+mul-end : tie.Need-offset_bounds-lengths-m
 mul-end c = search rules
 
-shared-slice-read-end : tie.Need-shared-slice-read-end
+shared-slice-read-end : tie.Need-bounds-lengths-m
 shared-slice-read-end c = search rules
 
-add-end : tie.Need-overflow-add-end
+add-end : tie.Need-overflow_add-end
 add-end c = let f = c.before.requires.0.fit c.before.args.m in omega arith
 
-sub-result : tie.Need-overflow-sub-result
+sub-result : tie.Need-slice_bounds-result-count
 sub-result c = search rules
 
-part-result-start : tie.Need-slice-bounds-result-start
+part-result-start : tie.Need-slice_bounds-result-start
 part-result-start c = search rules
 
-part-result-end : tie.Need-slice-bounds-result-end
+part-result-end : tie.Need-slice_bounds-result-end
 part-result-end c = let f = c.before.requires.0.fit c.before.args.m in let t = c.before.requires.0.tables_long in omega arith
 
 returns : tie.Need-returns

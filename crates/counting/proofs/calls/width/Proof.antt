@@ -24,64 +24,64 @@ module _ (a b : ℤ) (fa : SFits w32 a) (fb : SFits w32 b) where
   few : a ≤ℤ b → nat_abs (b -ℤ a) < 4294967296
   few l = lia-nat (pos (nat_abs (b -ℤ a)) ∷ a ∷ b ∷ []) (eq (nat_abs-nonneg (sub-nonneg l)) ∷ fits fa ∷ fits fb ∷ []) (search lin depth 30) (omega arith)
 
-mul-a : tie.Need-overflow-mul-a
+mul-a : tie.Need-offset_bounds-low-i
 mul-a c = search rules
 
-array-copy-out-a : tie.Need-array-copy-out-a
+array-copy-out-a : tie.Need-bounds-low-i
 array-copy-out-a c = search rules
 
-low_fits : (c : tie.After-a) → SFits w32 (get_or c.before.args.t1 c.before.args.i (pos 0))
-low_fits c = record { sfits = c.a.given }
+low_fits : (c : tie.After-a-1) → SFits w32 (get_or c.before.args.t1 c.before.args.i (pos 0))
+low_fits c = record { sfits = c.a-1.given }
 
-cast-a : tie.Need-overflow-cast-a
+cast-a : tie.Need-overflow_cast-a
 cast-a c = long (low_fits c)
 
-mul-b : tie.Need-overflow-mul-b
+mul-b : tie.Need-offset_bounds-high-i
 mul-b c = search rules
 
-array-copy-out-b : tie.Need-array-copy-out-b
+array-copy-out-b : tie.Need-bounds-high-i
 array-copy-out-b c = search rules
 
-high_fits : (c : tie.After-b) → SFits w32 (get_or c.before.before.args.t2 c.before.before.args.i (pos 0))
-high_fits c = record { sfits = c.b.given }
+high_fits : (c : tie.After-b-1) → SFits w32 (get_or c.before.before.args.t2 c.before.before.args.i (pos 0))
+high_fits c = record { sfits = c.b-1.given }
 
-cast-b : tie.Need-overflow-cast-b
+cast-b : tie.Need-overflow_cast-b
 cast-b c = long (high_fits c)
 
-returns : tie.Need-returns
+returns : tie.Need-returns-then-b-a
 returns c =
     let b = c.before in let a = b.before in let st = a.before in
     let h : length st.args.t1 ≡ 8 = search rules in let k : length st.args.t2 ≡ 8 = search rules in
-    width-shut st.args.t1 st.args.t2 st.args.i (omega arith) (omega arith) (is_lt (reads (high_fits b)) (reads (low_fits a)) c.if1.true)
+    width-shut st.args.t1 st.args.t2 st.args.i (omega arith) (omega arith) (is_lt (reads (high_fits b)) (reads (low_fits a)) c.if-b-a.true)
 
-ordered : (c : tie.Else1) → let st = c.before.before.before in get_or st.args.t1 st.args.i (pos 0) ≤ℤ get_or st.args.t2 st.args.i (pos 0)
-ordered c = is_ge (reads (high_fits c.before)) (reads (low_fits c.before.before)) c.if1.false
+ordered : (c : tie.Else-b-a) → let st = c.before.before.before in get_or st.args.t1 st.args.i (pos 0) ≤ℤ get_or st.args.t2 st.args.i (pos 0)
+ordered c = is_ge (reads (high_fits c.before)) (reads (low_fits c.before.before)) c.if-b-a.false
 
-sub-result : tie.Need-overflow-sub-result
+sub-result : tie.Need-overflow_sub-result
 sub-result c =
     let b = c.before in let a = b.before in
     ask (reads (high_fits b)) (reads (low_fits a)) ◌-ℤ◌ (difference _ _ (low_fits a) (high_fits b))
 
 -- what is cast and counted on
-abbrev gap : tie.Else1 → ℤ
+abbrev gap : tie.Else-b-a → ℤ
 gap c = let st = c.before.before.before in get_or st.args.t2 st.args.i (pos 0) -ℤ get_or st.args.t1 st.args.i (pos 0)
 
-is-gap : (c : tie.Else1) → let st = c.before.before.before in
+is-gap : (c : tie.Else-b-a) → let st = c.before.before.before in
     to_z w64 (of_z w64 (to_z w64 (of_z w64 (to_z w32 (of_z w32 (get_or st.args.t2 st.args.i (pos 0))))) -ℤ to_z w64 (of_z w64 (to_z w32 (of_z w32 (get_or st.args.t1 st.args.i (pos 0))))))) ≡ gap c
 is-gap c =
     let b = c.before in let a = b.before in
     (b-op (reads (high_fits b)) (reads (low_fits a)) ◌-ℤ◌ (difference _ _ (low_fits a) (high_fits b))).is
 
-small : (c : tie.Else1) → nat_abs (gap c) < 4294967296
+small : (c : tie.Else-b-a) → nat_abs (gap c) < 4294967296
 small c = let b = c.before in let a = b.before in few _ _ (low_fits a) (high_fits b) (ordered c)
 
-cast-result : tie.Need-overflow-cast-result
+cast-result : tie.Need-overflow_cast-result
 cast-result c = cast-nat w64 _ (nat_abs (gap c)) (is-gap c ∙ sym (nat_abs-nonneg (sub-nonneg (ordered c)))) (let s = small c in omega arith)
 
-add-result : tie.Need-overflow-add-result
+add-result : tie.Need-overflow_add-result
 add-result c = record { fits = omega (arith, small c, ap nat_abs (is-gap c)) }
 
-returns-2 : tie.Need-returns-2
+returns-2 : tie.Need-returns
 returns-2 c =
     let st = c.before.before.before in
     let h : length st.args.t1 ≡ 8 = search rules in let k : length st.args.t2 ≡ 8 = search rules in

@@ -38,22 +38,22 @@ abbrev callees : ℕ → lts.Claims
 callees t =
     (span-of-reads.Asked, span-of-reads.Learnt, climb-reads.Asked, climb-reads.Learnt, counted-reads.Asked, counted-reads.Learnt, worth-reads.Asked, worth-reads.Learnt, gathered-reads.Asked, gathered-reads.Learnt, below t, level.Post)
 
-abbrev invariant-loop : lts.invariant-loop
+abbrev invariant-loop : lts.invariant-loop-i
 invariant-loop s p tested c rows₀ each₀ k span whole₀ t₀ i₀ rows each whole t i = Going s p tested c each₀ each whole t i × Rowed s p.n p.count rows
 
-abbrev decreases-loop : lts.decreases-loop
+abbrev decreases-loop : lts.decreases-loop-i
 decreases-loop s p tested c rows₀ each₀ k span whole₀ t₀ i₀ rows each whole t i = suc (span_at p) - i
 
-span-of-requires : (t : ℕ) → lts.Need-span-of-requires (callees t) (at t) level.Post invariant-loop decreases-loop
+span-of-requires : (t : ℕ) → lts.Need-span_of-span-requires (callees t) (at t) level.Post invariant-loop decreases-loop
 span-of-requires t c κs =
     let st = c.before.before.before.before in let g = st.requires.1.0.standing in let a = g.axes in let b = g.left in
     (omega arith, g.low_size, g.high_size, g.ordered st.args.p.k)
 
-loop-holds : (t : ℕ) → lts.Need-loop-init (callees t) (at t) level.Post invariant-loop decreases-loop
+loop-holds : (t : ℕ) → lts.Need-loop-i-init (callees t) (at t) level.Post invariant-loop decreases-loop
 loop-holds t c = let st = c.before.before.before.before.before in (going_start st.requires.1.0, st.requires.1.1)
 
 -- where a turn begins
-module _ (t : ℕ) (m : lts.At-loop (callees t) (at t) level.Post invariant-loop decreases-loop) where
+module _ (t : ℕ) (m : lts.At-loop-i (callees t) (at t) level.Post invariant-loop decreases-loop) where
   abbrev st : lts.Start (callees t) (at t) level.Post invariant-loop decreases-loop
   st = m.before.before.before.before.before.before
 
@@ -72,12 +72,12 @@ module _ (t : ℕ) (m : lts.At-loop (callees t) (at t) level.Post invariant-loop
   ready : Ready s p m.loop.t
   ready = let d = st.pre.1.0 in record { standing = d.standing; within = going.inside; fits = d.fits; lives = d.lives }
 
-climb-requires : (t : ℕ) → lts.Need-climb-requires (callees t) (at t) level.Post invariant-loop decreases-loop
+climb-requires : (t : ℕ) → lts.Need-climb-x-requires (callees t) (at t) level.Post invariant-loop decreases-loop
 climb-requires t c κs = let m = c.before.before in (ready t m, m.loop.invariant.1)
 
 -- once the values were climbed
-module _ (t : ℕ) (c : lts.After-climb (callees t) (at t) level.Post invariant-loop decreases-loop) where
-  abbrev m : lts.At-loop (callees t) (at t) level.Post invariant-loop decreases-loop
+module _ (t : ℕ) (c : lts.After-climb-x (callees t) (at t) level.Post invariant-loop decreases-loop) where
+  abbrev m : lts.At-loop-i (callees t) (at t) level.Post invariant-loop decreases-loop
   m = c.before.before.before
 
   abbrev r : Stop
@@ -89,51 +89,51 @@ module _ (t : ℕ) (c : lts.After-climb (callees t) (at t) level.Post invariant-
   fits : m.loop.t + c.climb.result.tested < 4294967296
   fits = let h = climbed-most (s t m) (p t m) m.loop.i m.loop.t r climbed in let l = (st t m).pre.1.0.fits in omega arith
 
-add-t : (t : ℕ) → lts.Need-overflow-add-t (callees t) (at t) level.Post invariant-loop decreases-loop
+add-t : (t : ℕ) → lts.Need-overflow_add-t (callees t) (at t) level.Post invariant-loop decreases-loop
 add-t t c = let h = fits t c.before in omega arith
 
 counted-requires : (t : ℕ) → lts.Need-counted-requires (callees t) (at t) level.Post invariant-loop decreases-loop
 counted-requires t c κs = search rules
 
-same_length : (t : ℕ) → lts.Need-same-length (callees t) (at t) level.Post invariant-loop decreases-loop
+same_length : (t : ℕ) → lts.Need-shape_of-each-then-x-eq0 (callees t) (at t) level.Post invariant-loop decreases-loop
 same_length t c = (going t (m t c.before.before.before.before)).added.places
 
-returns : (t : ℕ) → lts.Need-returns (callees t) (at t) level.Post invariant-loop decreases-loop
+returns : (t : ℕ) → lts.Need-returns-then-x-eq0 (callees t) (at t) level.Post invariant-loop decreases-loop
 returns t c =
     let e = c.before in let k = e.before.before.before in let x = st t (m t k) in
     (subst (λ (u : Sum). Summed x.args.p.limit x.args.tested x.args.c (members_at x.args.s.now x.args.p) x.args.each.now u (m t k).loop.each) (sym c.counted.ensures) (going-past (going t (m t k)) (ready t (m t k)) (r t k) (climbed t k) e.if1.true), k.climb.ensures.1)
 
-counted-requires-2 : (t : ℕ) → lts.Need-counted-requires-2 (callees t) (at t) level.Post invariant-loop decreases-loop
+counted-requires-2 : (t : ℕ) → lts.Need-counted-requires-then-x-eq2 (callees t) (at t) level.Post invariant-loop decreases-loop
 counted-requires-2 t c κs = search rules
 
-same-length-2 : (t : ℕ) → lts.Need-same-length-2 (callees t) (at t) level.Post invariant-loop decreases-loop
+same-length-2 : (t : ℕ) → lts.Need-shape_of-each-then-x-eq2 (callees t) (at t) level.Post invariant-loop decreases-loop
 same-length-2 t c = (going t (m t c.before.before.before.before.before.before)).added.places
 
-returns-2 : (t : ℕ) → lts.Need-returns-2 (callees t) (at t) level.Post invariant-loop decreases-loop
+returns-2 : (t : ℕ) → lts.Need-returns-then-x-eq2 (callees t) (at t) level.Post invariant-loop decreases-loop
 returns-2 t c =
     let e = c.before in let k = e.before.before.before.before.before in let x = st t (m t k) in
     (subst (λ (u : Sum). Summed x.args.p.limit x.args.tested x.args.c (members_at x.args.s.now x.args.p) x.args.each.now u (m t k).loop.each) (sym c.counted2.ensures) (going-spent (going t (m t k)) (ready t (m t k)) (r t k) (climbed t k) e.if2.true), k.climb.ensures.1)
 
 -- where a value passed
-module _ (t : ℕ) (e : lts.Else2 (callees t) (at t) level.Post invariant-loop decreases-loop) where
-  abbrev k : lts.After-climb (callees t) (at t) level.Post invariant-loop decreases-loop
+module _ (t : ℕ) (e : lts.Else-x-eq2 (callees t) (at t) level.Post invariant-loop decreases-loop) where
+  abbrev k : lts.After-climb-x (callees t) (at t) level.Post invariant-loop decreases-loop
   k = e.before.before.before.before.before
 
-  abbrev turn : lts.At-loop (callees t) (at t) level.Post invariant-loop decreases-loop
+  abbrev turn : lts.At-loop-i (callees t) (at t) level.Post invariant-loop decreases-loop
   turn = m t k
 
   fewer : suc (span_at (p t turn)) - (r t k).next < suc (span_at (p t turn)) - turn.loop.i
   fewer = climbed-fewer (s t turn) (p t turn) turn.loop.i turn.loop.t (r t k) (climbed t k) e.before.before.if1.left e.if2.left
 
 -- at a point
-module _ (t : ℕ) (c : lts.After-struct-known5 (callees t) (at t) level.Post invariant-loop decreases-loop) where
-  abbrev point : lts.Then3 (callees t) (at t) level.Post invariant-loop decreases-loop
+module _ (t : ℕ) (c : lts.After-struct_known-then-x-eq1-1 (callees t) (at t) level.Post invariant-loop decreases-loop) where
+  abbrev point : lts.Then-x-eq1 (callees t) (at t) level.Post invariant-loop decreases-loop
   point = c.before.before
 
-  abbrev passed : lts.Else2 (callees t) (at t) level.Post invariant-loop decreases-loop
+  abbrev passed : lts.Else-x-eq2 (callees t) (at t) level.Post invariant-loop decreases-loop
   passed = point.before.before.before
 
-  abbrev now : lts.At-loop (callees t) (at t) level.Post invariant-loop decreases-loop
+  abbrev now : lts.At-loop-i (callees t) (at t) level.Post invariant-loop decreases-loop
   now = turn t passed
 
   abbrev stop : Stop
@@ -145,29 +145,29 @@ module _ (t : ℕ) (c : lts.After-struct-known5 (callees t) (at t) level.Post in
   first : Ready (s t now) (p t now) (now.loop.t + stop.tested - 1)
   first = let d = ready t now in let h = met.room in record { standing = d.standing; within = omega arith; fits = d.fits; lives = d.lives }
 
-sub-j : (t : ℕ) → lts.Need-overflow-sub-j (callees t) (at t) level.Post invariant-loop decreases-loop
+sub-j : (t : ℕ) → lts.Need-overflow_sub-j (callees t) (at t) level.Post invariant-loop decreases-loop
 sub-j t c = let h = (met t c).some in omega arith
 
-sub-worth : (t : ℕ) → lts.Need-overflow-sub-worth (callees t) (at t) level.Post invariant-loop decreases-loop
+sub-worth : (t : ℕ) → lts.Need-overflow_sub-span (callees t) (at t) level.Post invariant-loop decreases-loop
 sub-worth t c = let h = (met t c).here in let e = span-is t (now t c) in omega arith
 
-worth-requires : (t : ℕ) → lts.Need-worth-requires (callees t) (at t) level.Post invariant-loop decreases-loop
+worth-requires : (t : ℕ) → lts.Need-worth-ask-requires (callees t) (at t) level.Post invariant-loop decreases-loop
 worth-requires t c κs = search rules
 
-sub-gathered : (t : ℕ) → lts.Need-overflow-sub-gathered (callees t) (at t) level.Post invariant-loop decreases-loop
+sub-gathered : (t : ℕ) → lts.Need-overflow_sub-t (callees t) (at t) level.Post invariant-loop decreases-loop
 sub-gathered t c = let h = (met t c.before).one in omega arith
 
-gathered-requires : (t : ℕ) → lts.Need-gathered-requires (callees t) (at t) level.Post invariant-loop decreases-loop
+gathered-requires : (t : ℕ) → lts.Need-gathered-m-requires (callees t) (at t) level.Post invariant-loop decreases-loop
 gathered-requires t c κs =
     let e = c.before.before.before in let x = now t e in let pre = (st t x).pre.1 in let d = met t e in let o = d.one in
     let a = going-most (going t x) pre.4 in
     (first t e, (k t (passed t e)).climb.ensures.1, d.here, d.room, d.passes, pre.2, pre.3, record { at = λ j. let h = a.at j in omega arith })
 
-module _ (t : ℕ) (c : lts.After-slice-known2 (callees t) (at t) level.Post invariant-loop decreases-loop) where
-  abbrev gathered : lts.After-gathered (callees t) (at t) level.Post invariant-loop decreases-loop
+module _ (t : ℕ) (c : lts.After-slice_known-then-x-eq1-1 (callees t) (at t) level.Post invariant-loop decreases-loop) where
+  abbrev gathered : lts.After-gathered-m (callees t) (at t) level.Post invariant-loop decreases-loop
   gathered = c.before.before
 
-  abbrev found : lts.After-struct-known5 (callees t) (at t) level.Post invariant-loop decreases-loop
+  abbrev found : lts.After-struct_known-then-x-eq1-1 (callees t) (at t) level.Post invariant-loop decreases-loop
   found = gathered.before.before.before.before
 
   abbrev many : ℕ
@@ -179,30 +179,30 @@ module _ (t : ℕ) (c : lts.After-slice-known2 (callees t) (at t) level.Post inv
   lasts : Lasting (s t (now t found)) (p t (now t found)) ((stop t found).next - 1) ((now t found).loop.t + (stop t found).tested - 1) many
   lasts = gathered.gathered.ensures.0.lasts
 
-add-whole : (t : ℕ) → lts.Need-overflow-add-whole (callees t) (at t) level.Post invariant-loop decreases-loop
+add-whole : (t : ℕ) → lts.Need-overflow_add-whole (callees t) (at t) level.Post invariant-loop decreases-loop
 add-whole t c = let g = counted t c in let a = g.many in let b = g.sum in let d = g.few in let h = g.inside in let f = (st t (now t (found t c))).pre.1.0.fits in omega arith
 
-sub-t : (t : ℕ) → lts.Need-overflow-sub-t (callees t) (at t) level.Post invariant-loop decreases-loop
+sub-t : (t : ℕ) → lts.Need-overflow_sub-t-then-x-eq1 (callees t) (at t) level.Post invariant-loop decreases-loop
 sub-t t c = let h = (met t (found t c)).one in omega arith
 
-add-t-2 : (t : ℕ) → lts.Need-overflow-add-t-2 (callees t) (at t) level.Post invariant-loop decreases-loop
+add-t-2 : (t : ℕ) → lts.Need-overflow_add-t-then-x-eq1 (callees t) (at t) level.Post invariant-loop decreases-loop
 add-t-2 t c = let h = (lasts t c).room in let f = (st t (now t (found t c))).pre.1.0.fits in omega arith
 
-cast-i : (t : ℕ) → lts.Need-overflow-cast-i (callees t) (at t) level.Post invariant-loop decreases-loop
+cast-i : (t : ℕ) → lts.Need-overflow_cast-i (callees t) (at t) level.Post invariant-loop decreases-loop
 cast-i t c = let h = (lasts t c).room in let f = (st t (now t (found t c))).pre.1.0.fits in omega arith
 
-add-i : (t : ℕ) → lts.Need-overflow-add-i (callees t) (at t) level.Post invariant-loop decreases-loop
+add-i : (t : ℕ) → lts.Need-overflow_add-i (callees t) (at t) level.Post invariant-loop decreases-loop
 add-i t c = let h = (lasting-along (first t (found t c)) (lasts t c)).few in omega arith
 
-loop-less : (t : ℕ) → lts.Need-loop-smaller (callees t) (at t) level.Post invariant-loop decreases-loop
+loop-less : (t : ℕ) → lts.Need-loop-i-smaller-then-x-eq1 (callees t) (at t) level.Post invariant-loop decreases-loop
 loop-less t c = let d = met t (found t c) in let a = d.here in let b = d.later in let h = (lasts t c).some in omega arith
 
-loop-again : (t : ℕ) → lts.Need-loop-preserved (callees t) (at t) level.Post invariant-loop decreases-loop
+loop-again : (t : ℕ) → lts.Need-loop-i-preserved-then-x-eq1 (callees t) (at t) level.Post invariant-loop decreases-loop
 loop-again t c = (counted t c, (gathered t c).gathered.ensures.1)
 
 -- above a prefix to go below
-module _ (t : ℕ) (c : lts.Else3 (callees t) (at t) level.Post invariant-loop decreases-loop) where
-  abbrev over : lts.Else2 (callees t) (at t) level.Post invariant-loop decreases-loop
+module _ (t : ℕ) (c : lts.Else-x-eq1 (callees t) (at t) level.Post invariant-loop decreases-loop) where
+  abbrev over : lts.Else-x-eq2 (callees t) (at t) level.Post invariant-loop decreases-loop
   over = c.before.before.before
 
   three : (r t (k t over)).way ≡ 3
@@ -211,61 +211,61 @@ module _ (t : ℕ) (c : lts.Else3 (callees t) (at t) level.Post invariant-loop d
   descends : Descends (s t (turn t over)) (p t (turn t over)) (turn t over).loop.t (r t (k t over))
   descends = climbed-below (s t (turn t over)) (p t (turn t over)) (turn t over).loop.i (turn t over).loop.t (ready t (turn t over)) (r t (k t over)) (climbed t (k t over)) three
 
-level-requires : (t : ℕ) → lts.Need-level-requires (callees t) (at t) level.Post invariant-loop decreases-loop
+level-requires : (t : ℕ) → lts.Need-level-r-requires (callees t) (at t) level.Post invariant-loop decreases-loop
 level-requires t c κs =
     let e = c.before.before in let x = turn t (over t e) in let d = descends t e in let pre = (st t x).pre in let h = d.deeper in let q = pre.0 in
     let a = going-most (going t x) pre.1.4 in
     (omega arith, (d.ready, subst₂ (λ (n b : ℕ). Rowed (s t x) n b (k t (over t e)).climb.last.1.1.1.1.0) (sym d.axes) (sym d.count) (k t (over t e)).climb.ensures.1, pre.1.2, pre.1.3, record { at = λ j. let h = a.at j in omega arith }))
 
 -- once the level below ended
-module _ (t : ℕ) (c : lts.After-slice-known3 (callees t) (at t) level.Post invariant-loop decreases-loop) where
-  abbrev under : lts.After-level (callees t) (at t) level.Post invariant-loop decreases-loop
+module _ (t : ℕ) (c : lts.After-slice_known-else-x-eq1-1 (callees t) (at t) level.Post invariant-loop decreases-loop) where
+  abbrev under : lts.After-level-r (callees t) (at t) level.Post invariant-loop decreases-loop
   under = c.before.before
 
-  abbrev high : lts.Else3 (callees t) (at t) level.Post invariant-loop decreases-loop
+  abbrev high : lts.Else-x-eq1 (callees t) (at t) level.Post invariant-loop decreases-loop
   high = under.before.before.before
 
-  abbrev start : lts.At-loop (callees t) (at t) level.Post invariant-loop decreases-loop
+  abbrev start : lts.At-loop-i (callees t) (at t) level.Post invariant-loop decreases-loop
   start = turn t (over t high)
 
   rowed : Rowed (s t start) (p t start).n (p t start).count under.level.last.1.1.1.1.0
   rowed = subst₂ (λ (n b : ℕ). Rowed (s t start) n b under.level.last.1.1.1.1.0) (descends t high).axes (descends t high).count under.level.ensures.1
 
-same-length-3 : (t : ℕ) → lts.Need-same-length-3 (callees t) (at t) level.Post invariant-loop decreases-loop
+same-length-3 : (t : ℕ) → lts.Need-shape_of-each-then-out (callees t) (at t) level.Post invariant-loop decreases-loop
 same-length-3 t c = (under t c.before).level.kept.1.1.1.1.1.0 ∙ (going t (start t c.before)).added.places
 
-returns-3 : (t : ℕ) → lts.Need-returns-3 (callees t) (at t) level.Post invariant-loop decreases-loop
+returns-3 : (t : ℕ) → lts.Need-returns-then-out (callees t) (at t) level.Post invariant-loop decreases-loop
 returns-3 t c =
     let l = c.before in let y = k t (over t (high t l)) in
     (going-out (going t (start t l)) (ready t (start t l)) (r t y) (climbed t y) (three t (high t l)) (under t l).level.result _ (under t l).level.ensures.0 c.if4.true, rowed t l)
 
-module _ (t : ℕ) (c : lts.Else4 (callees t) (at t) level.Post invariant-loop decreases-loop) where
-  abbrev ended : lts.After-slice-known3 (callees t) (at t) level.Post invariant-loop decreases-loop
+module _ (t : ℕ) (c : lts.Else-out (callees t) (at t) level.Post invariant-loop decreases-loop) where
+  abbrev ended : lts.After-slice_known-else-x-eq1-1 (callees t) (at t) level.Post invariant-loop decreases-loop
   ended = c.before
 
-  abbrev climb : lts.After-climb (callees t) (at t) level.Post invariant-loop decreases-loop
+  abbrev climb : lts.After-climb-x (callees t) (at t) level.Post invariant-loop decreases-loop
   climb = k t (over t (high t ended))
 
   summed : Going (s t (start t ended)) (p t (start t ended)) (st t (start t ended)).args.tested (st t (start t ended)).args.c (st t (start t ended)).args.each.now (under t ended).level.last.1.1.1.1.1.0 ((start t ended).loop.whole + (under t ended).level.result.whole) (under t ended).level.result.tested (r t climb).next
   summed = going-below (going t (start t ended)) (ready t (start t ended)) (r t climb) (climbed t climb) (three t (high t ended)) (under t ended).level.result _ (under t ended).level.ensures.0 c.if4.false
 
-add-whole-2 : (t : ℕ) → lts.Need-overflow-add-whole-2 (callees t) (at t) level.Post invariant-loop decreases-loop
+add-whole-2 : (t : ℕ) → lts.Need-overflow_add-whole-else-x-eq1 (callees t) (at t) level.Post invariant-loop decreases-loop
 add-whole-2 t c = let e = c.before in let g = summed t e in let a = g.many in let b = g.sum in let d = g.few in let h = g.inside in let f = (st t (start t (ended t e))).pre.1.0.fits in omega arith
 
-loop-less-2 : (t : ℕ) → lts.Need-loop-smaller-2 (callees t) (at t) level.Post invariant-loop decreases-loop
+loop-less-2 : (t : ℕ) → lts.Need-loop-i-smaller (callees t) (at t) level.Post invariant-loop decreases-loop
 loop-less-2 t c = fewer t (over t (high t (ended t c.before)))
 
-loop-again-2 : (t : ℕ) → lts.Need-loop-preserved-2 (callees t) (at t) level.Post invariant-loop decreases-loop
+loop-again-2 : (t : ℕ) → lts.Need-loop-i-preserved (callees t) (at t) level.Post invariant-loop decreases-loop
 loop-again-2 t c = (summed t c.before, rowed t (ended t c.before))
 
 -- once the side is at its end
-counted-requires-3 : (t : ℕ) → lts.Need-counted-requires-3 (callees t) (at t) level.Post invariant-loop decreases-loop
+counted-requires-3 : (t : ℕ) → lts.Need-counted-requires-2 (callees t) (at t) level.Post invariant-loop decreases-loop
 counted-requires-3 t c κs = search rules
 
-same-length-4 : (t : ℕ) → lts.Need-same-length-4 (callees t) (at t) level.Post invariant-loop decreases-loop
+same-length-4 : (t : ℕ) → lts.Need-shape_of-each (callees t) (at t) level.Post invariant-loop decreases-loop
 same-length-4 t c = (going t c.before.before).added.places
 
-returns-4 : (t : ℕ) → lts.Need-returns-4 (callees t) (at t) level.Post invariant-loop decreases-loop
+returns-4 : (t : ℕ) → lts.Need-returns (callees t) (at t) level.Post invariant-loop decreases-loop
 returns-4 t c =
     let l = c.before in let m = l.before in let x = st t m in let e = span-is t m in let o = l.loop-test.false in
     (subst (λ (u : Sum). Summed x.args.p.limit x.args.tested x.args.c (members_at x.args.s.now x.args.p) x.args.each.now u m.loop.each) (sym c.counted3.ensures) (going_end (going t m) (ready t m) (omega arith)), m.loop.invariant.1)

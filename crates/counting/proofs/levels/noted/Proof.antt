@@ -8,10 +8,10 @@ use Rattle.bounds.proofs.Extremes.{back-within}
 use Rattle.counting.proofs.levels.noted.Statement.{statement}
 use Rattle.counting.proofs.levels.noted.Tie as tie
 
-mul-v : tie.Need-overflow-mul-v
+mul-v : tie.Need-offset_bounds-point-a
 mul-v c = search rules
 
-array-copy-out-v : tie.Need-array-copy-out-v
+array-copy-out-v : tie.Need-bounds-point-a
 array-copy-out-v c = search rules
 
 raise-requires : tie.Need-raise-requires
@@ -24,7 +24,7 @@ returns c =
     let n = c.before.before in let st = n.before.before.before.before.before in let p = st.requires in
     n.raise.ensures.notes st.args.c st.args.t2 (sym (to_z_of_z {w = w64} (within-fits (omega arith) p.1))) (sym (to_z_of_z {w = w64} (within-fits (omega arith) (p.2.at st.args.c.axis))))
 
-same_length : tie.Need-same-length
+same_length : tie.Need-shape_of-each
 same_length c = (returns c).places
 
 pub noted_spec : {M : Type 1} → statement M

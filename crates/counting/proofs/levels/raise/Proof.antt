@@ -40,11 +40,11 @@ module _ (st : tie.Start) where
   back : apart ≡ value -ℤ first
   back = ap₂ ◌-ℤ◌ (to_z_of_z value-fits) (to_z_of_z first_fits)
 
-sub-j : tie.Need-overflow-sub-j
+sub-j : tie.Need-overflow_sub-j
 sub-j c = rw (back c.before) (within-fits (omega arith) (size c.before))
 
 -- from the first value on
-module _ (c : tie.Then1) where
+module _ (c : tie.Then-f-v) where
   abbrev v : tie.Start
   v = c.before
 
@@ -65,44 +65,44 @@ module _ (c : tie.Then1) where
       lia-eq (first v ∷ value v ∷ pos f ∷ []) (eq far-is ∷ []) {b = first v +ℤ pos f} (search lin depth 30) (omega arith)
       ∙ ap (λ (n : ℕ). first v +ℤ pos n) (sym place_is)
 
-cast-j : tie.Need-overflow-cast-j
+cast-j : tie.Need-overflow_cast-j
 cast-j c = cast-nat w64 _ (nat_abs (value (v c) -ℤ first (v c))) (to_z_of_z (sub-j c) ∙ back (v c) ∙ sym (far-is c)) (let s = (size (v c)).size in omega arith)
 
-mul-each : tie.Need-overflow-mul-each
+mul-each : tie.Need-offset_bounds-each-j
 mul-each c = search rules
 
-slice-read-each : tie.Need-slice-read-each
+slice-read-each : tie.Need-bounds-each-j
 slice-read-each c = search rules
 
-add-each : tie.Need-overflow-add-each
+add-each : tie.Need-overflow_add-each
 add-each c = let t = c.before.before in let h = (v t).requires.2.at (place t) in omega arith
 
-mul-each-2 : tie.Need-overflow-mul-each-2
+mul-each-2 : tie.Need-offset_bounds-each-j-then-j-each
 mul-each-2 c = search rules
 
-slice-write-each : tie.Need-slice-write-each
+slice-write-each : tie.Need-bounds-each-j-then-j-each
 slice-write-each c = search rules
 
-same_length : tie.Need-same-length
+same_length : tie.Need-shape_of-each
 same_length c = search rules
 
-returns : tie.Need-returns
+returns : tie.Need-returns-then-j-each
 returns c =
     let t = c.before.before in let a = (v t).args in record {
-      notes = λ d p ef ev. noted-at d p a.m a.each.now (place t) c.before.if2.true (ev ∙ value-is t ∙ ap (λ (z : ℤ). z +ℤ pos (place t)) (sym ef));
+      notes = λ d p ef ev. noted-at d p a.m a.each.now (place t) c.before.if-j-each.true (ev ∙ value-is t ∙ ap (λ (z : ℤ). z +ℤ pos (place t)) (sym ef));
     }
 
-returns-2 : tie.Need-returns-2
+returns-2 : tie.Need-returns-else-j-each
 returns-2 c =
-    let t = c.before in let a = (v t).args in let l = c.if2.false in record {
+    let t = c.before in let a = (v t).args in let l = c.if-j-each.false in record {
       notes = λ d p ef ev. noted-none d p a.m a.each.now
           (λ j h q. let y = sym ev ∙ q ∙ ap (λ (z : ℤ). z +ℤ pos j) ef in
           let z : j ≡ place t = lia-nat (first (v t) ∷ value (v t) ∷ pos j ∷ pos (place t) ∷ []) (eq y ∷ eq (value-is t) ∷ []) (search lin depth 30) (omega arith) in omega arith);
     }
 
-returns-3 : tie.Need-returns-3
+returns-3 : tie.Need-returns-else-f-v
 returns-3 c =
-    let s = c.before in let a = s.args in let l : value s <ℤ first s = is_gt (b-of (first_fits s)) (b-of (value-fits s)) c.if1.false in record {
+    let s = c.before in let a = s.args in let l : value s <ℤ first s = is_gt (b-of (first_fits s)) (b-of (value-fits s)) c.if-f-v.false in record {
       notes = λ d p ef ev. noted-none d p a.m a.each.now
           (λ j h q. let y = sym ev ∙ q ∙ ap (λ (z : ℤ). z +ℤ pos j) ef in lia-no (first s ∷ value s ∷ pos j ∷ []) (lt l ∷ eq y ∷ le (pos-nonneg j) ∷ []) (search lin depth 30) (omega arith));
     }

@@ -14,7 +14,7 @@ use Rattle.coverage.proofs.Told.{told-refused, told_over, told-given}
 use Rattle.coverage.proofs.ranges.box_range.Statement.{statement}
 use Rattle.coverage.proofs.ranges.box_range.Tie as tie
 
-range-refusal-requires : tie.Need-range-refusal-requires
+range-refusal-requires : tie.Need-range_refusal-k-requires
 range-refusal-requires c κs = search rules
 
 refuse-requires : tie.Need-refuse-requires
@@ -23,73 +23,73 @@ refuse-requires c κs = search rules
 plain-requires : tie.Need-plain-requires
 plain-requires c κs = search rules
 
-same_length : tie.Need-same-length
+same_length : tie.Need-shape_of-out-then-k-ne0
 same_length c = search rules
 
-returns : tie.Need-returns
+returns : tie.Need-returns-then-k-ne0
 returns c =
     let x = c.before.before.before in let i = x.before.before in let k = i.before in let a = k.before.before.before.args in
-    told-refused a.n a.set.now a.lows a.highs a.inside a.outside (length a.out.now) k.range-refusal.result _ _ (k.range-refusal.ensures.ranges i.if1.taken (length a.out.now))
+    told-refused a.n a.set.now a.lows a.highs a.inside a.outside (length a.out.now) k.range_refusal-k.result _ _ (k.range_refusal-k.ensures.ranges i.if-k-ne0.taken (length a.out.now))
     c.plain.ensures x.refuse.ensures.bytes
 
-abbrev begun : tie.Else1 → tie.Start
+abbrev begun : tie.Else-k-ne0 → tie.Start
 begun c = c.before.before.before.before
 
-asking : (c : tie.Else1) → let a = (begun c).args in Asking a.n a.set.now a.lows a.highs a.inside a.outside
-asking c = c.before.range-refusal.ensures.asking c.if1.left
+asking : (c : tie.Else-k-ne0) → let a = (begun c).args in Asking a.n a.set.now a.lows a.highs a.inside a.outside
+asking c = c.before.range_refusal-k.ensures.asking c.if-k-ne0.left
 
-taken-requires : tie.Need-taken-requires
+taken-requires : tie.Need-taken-o-requires
 taken-requires c κs = (asking c.before).boxed
 
-enum-known-o : tie.Need-enum-known-o
+enum-known-o : tie.Need-enum_known-o
 enum-known-o c = search rules
 
-plain-requires-2 : tie.Need-plain-requires-2
+plain-requires-2 : tie.Need-plain-requires-in-Refused
 plain-requires-2 c κs = search rules
 
-enum-known-o-2 : tie.Need-enum-known-o-2
+enum-known-o-2 : tie.Need-enum_known-o-in-Length-1
 enum-known-o-2 c = search rules
 
 -- past the match: the difference is in the table
-abbrev at-taken : tie.After-o2 → tie.After-taken
+abbrev at-taken : tie.In-Length-2 → tie.After-taken-o
 at-taken c = c.before.before.before.before
 
-abbrev at-else : tie.After-o2 → tie.Else1
+abbrev at-else : tie.In-Length-2 → tie.Else-k-ne0
 at-else c = (at-taken c).before.before
 
 eight : (c : tie.Start) → (length c.args.lows ≡ 8) × (length c.args.highs ≡ 8)
 eight c = (search rules, search rules)
 
-given : (c : tie.After-o2) → let a = (begun (at-else c)).args in
-    Result (length a.out.now) (outside_result a.n (length a.out.now) a.lows a.highs (set_from a.set.now 0)) (gives c.o2.given.0.0) (at-taken c).taken.last.1.1.1.1.0
+given : (c : tie.In-Length-2) → let a = (begun (at-else c)).args in
+    Result (length a.out.now) (outside_result a.n (length a.out.now) a.lows a.highs (set_from a.set.now 0)) (gives c.o-in-Length-1.given.0.0) (at-taken c).taken-o.last.1.1.1.1.0
 given c =
     let x = at-taken c in let a = (begun (at-else c)).args in
-    subst (λ (o : Outcome). Result (length a.out.now) (outside_result a.n (length a.out.now) a.lows a.highs (set_from a.set.now 0)) (outcome_is o) x.taken.last.1.1.1.1.0) c.o2.given.1
-    x.taken.ensures
+    subst (λ (o : Outcome). Result (length a.out.now) (outside_result a.n (length a.out.now) a.lows a.highs (set_from a.set.now 0)) (outcome_is o) x.taken-o.last.1.1.1.1.0) c.o-in-Length-1.given.1
+    x.taken-o.ensures
 
 searched-requires : tie.Need-searched-requires
 searched-requires c κs =
     let o = c.before.before in let e = at-else o in let st = begun e in let a = st.args in let q = asking e in (
       q,
       taken-table a.n a.set.now a.lows a.highs q.boxed (length a.out.now) o.o2.given.0.0 _ (given o)
-          (bytes_of a.set.now (λ i. (e.before.before.before.shared-slice-known.given i).fits)) (eight st).0 (eight st).1,
+          (bytes_of a.set.now (λ i. (e.before.before.before.shared_slice_known-1.given i).fits)) (eight st).0 (eight st).1,
     )
 
-same-length-2 : tie.Need-same-length-2
+same-length-2 : tie.Need-shape_of-out-in-Refused
 same-length-2 c = search rules
 
-returns-2 : tie.Need-returns-2
+returns-2 : tie.Need-returns-in-Refused
 returns-2 c =
     let o = c.before.before in let x = o.before.before.before.before in let e = x.before.before in let a = (begun e).args in
-    told_over a.n a.set.now a.lows a.highs a.inside a.outside (length a.out.now) (asking e) o.o.given.0.0 _ _
-    (subst (λ (y : Outcome). Result (length a.out.now) (outside_result a.n (length a.out.now) a.lows a.highs (set_from a.set.now 0)) (outcome_is y) x.taken.last.1.1.1.1.0) o.o.given.1
-    x.taken.ensures)
-    c.plain2.ensures
+    told_over a.n a.set.now a.lows a.highs a.inside a.outside (length a.out.now) (asking e) o.o-1.given.0.0 _ _
+    (subst (λ (y : Outcome). Result (length a.out.now) (outside_result a.n (length a.out.now) a.lows a.highs (set_from a.set.now 0)) (outcome_is y) x.taken-o.last.1.1.1.1.0) o.o-1.given.1
+    x.taken-o.ensures)
+    c.plain-in-Refused.ensures
 
-same-length-3 : tie.Need-same-length-3
+same-length-3 : tie.Need-shape_of-out-in-Length
 same-length-3 c = search rules
 
-returns-3 : tie.Need-returns-3
+returns-3 : tie.Need-returns-in-Length
 returns-3 c =
     let o = c.before.before.before in let x = at-taken o in let e = at-else o in let a = (begun e).args in
     told-given a.n a.set.now a.lows a.highs a.inside a.outside (length a.out.now) (asking e) o.o2.given.0.0 _ _

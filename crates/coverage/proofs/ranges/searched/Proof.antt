@@ -14,15 +14,15 @@ use Rattle.coverage.proofs.Told.{searched-is, in-range}
 use Rattle.coverage.proofs.ranges.searched.Statement.{statement}
 use Rattle.coverage.proofs.ranges.searched.Tie as tie
 
-first-point-requires : tie.Need-first-point-requires
+first-point-requires : tie.Need-first_point-p-requires
 first-point-requires c κs = search rules
 
-slice-aggregate-first-point : tie.Need-slice-aggregate-first-point
+slice-aggregate-first-point : tie.Need-slice_bounds-first_point-end
 slice-aggregate-first-point c =
     let st = c.before.before.before.before in let a = st.args in let h = st.pre.1.inside in
     omega (arith, length-take a.l a.table.now)
 
-first-point-requires-2 : tie.Need-first-point-requires-2
+first-point-requires-2 : tie.Need-first_point-q-requires
 first-point-requires-2 c κs = search rules
 
 ranged-requires : tie.Need-ranged-requires
@@ -35,7 +35,7 @@ returns c =
     c.ranged.ensures (search_box (set_from a.set.now 0) (take a.n (box_of a.lows a.highs)) a.inside)
     (search_box (outside a.n a.lows a.highs (set_from a.set.now 0)) (take a.n (box_of a.lows a.highs)) a.outside)
     (x.first-point.ensures ∙ ap answer_of (searched-is a.n a.set.now a.lows a.highs a.inside (set_from a.set.now 0) (decode_is a.n a.set.now q.boxed.accepted) q.boxed.box q.limit_inside))
-    (y.first-point2.ensures ∙ ap answer_of (searched-is a.n (take a.l a.table.now) a.lows a.highs a.outside _ t.decoded q.boxed.box q.limit_outside))
+    (y.first_point-q.ensures ∙ ap answer_of (searched-is a.n (take a.l a.table.now) a.lows a.highs a.outside _ t.decoded q.boxed.box q.limit_outside))
     (take a.l a.table.now) (let h = t.inside in omega (arith, length-take a.l a.table.now))
     ∙ ap (λ (r : Range). reading_is (gives (record { range = r; bytes = take a.l a.table.now }))) (sym (in-range a.n a.set.now a.lows a.highs a.inside a.outside))
 

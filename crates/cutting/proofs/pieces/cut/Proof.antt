@@ -31,34 +31,34 @@ use Rattle.cutting.proofs.pieces.mark.Reads as mark-reads
 use Rattle.cutting.proofs.pieces.one.Reads as one-reads
 use Rattle.cutting.proofs.pieces.told.Reads as told-reads
 
-abbrev invariant-loop : tie.invariant-loop
+abbrev invariant-loop : tie.invariant-loop-k
 invariant-loop rows₀ place₀ kinds₀ past₀ spare₀ c n m places fits w₀ steps₀ count₀ cols₀ h₀ cons k₀ rows place kinds past spare w steps count cols h k =
     Going rows₀ place₀ kinds₀ c m places (stepped w₀ steps₀ count₀) rows place kinds (stepped w steps count) k × Behind w h rows place kinds past cols × (length spare ≡ length spare₀) × (k < cons → 2 * w.divs + w.cons ≤ h.rows)
     × (length w.constraints ≡ 48) × (length steps ≡ 96)
 
-abbrev decreases-loop : tie.decreases-loop
+abbrev decreases-loop : tie.decreases-loop-k
 decreases-loop rows₀ place₀ kinds₀ past₀ spare₀ c n m places fits w₀ steps₀ count₀ cols₀ h₀ cons k₀ rows place kinds past spare w steps count cols h k = cons - k
 
 -- ---- places: the start from the join, the join from the loop, the loop's turn from the joining rule, that rule from what is tested
-abbrev entered : tie.Else1 invariant-loop decreases-loop → tie.Start invariant-loop decreases-loop
+abbrev entered : tie.Else-not-fits invariant-loop decreases-loop → tie.Start invariant-loop decreases-loop
 entered c = c.before.before.before.before.before.before.before.before.before
 
-abbrev joins : tie.At-loop invariant-loop decreases-loop → tie.Else1 invariant-loop decreases-loop
+abbrev joins : tie.At-loop-k invariant-loop decreases-loop → tie.Else-not-fits invariant-loop decreases-loop
 joins c = c.before.before.before.before.before.before.before.before.before.before.before.before.before.before.before.before
 
-abbrev in-turn : tie.After-joining-rule invariant-loop decreases-loop → tie.In-loop invariant-loop decreases-loop
+abbrev in-turn : tie.After-joining_rule-r invariant-loop decreases-loop → tie.In-loop-k invariant-loop decreases-loop
 in-turn c = c.before.before.before
 
-abbrev ruled : tie.After-kept-arg5 invariant-loop decreases-loop → tie.After-joining-rule invariant-loop decreases-loop
+abbrev ruled : tie.After-kept-arg5 invariant-loop decreases-loop → tie.After-joining_rule-r invariant-loop decreases-loop
 ruled c = c.before.before.before.before.before.before
 
-abbrev tried : tie.Joined3 invariant-loop decreases-loop → tie.After-kept-arg5 invariant-loop decreases-loop
+abbrev tried : tie.Joined-far invariant-loop decreases-loop → tie.After-kept-arg5 invariant-loop decreases-loop
 tried c = c.before.before.before
 
-abbrev settled : tie.After-one invariant-loop decreases-loop → tie.Joined3 invariant-loop decreases-loop
+abbrev settled : tie.After-one invariant-loop decreases-loop → tie.Joined-far invariant-loop decreases-loop
 settled c = c.before.before.before.before.before
 
-abbrev followed : tie.After-cols4 invariant-loop decreases-loop → tie.After-passed invariant-loop decreases-loop
+abbrev followed : tie.After-cols-in-loop-k-2-1 invariant-loop decreases-loop → tie.After-passed-k invariant-loop decreases-loop
 followed c = c.before.before.before.before.before
 
 first-long : (c : tie.Start invariant-loop decreases-loop) → length c.args.a.constraints ≡ 48
@@ -68,14 +68,14 @@ second-long : (c : tie.Start invariant-loop decreases-loop) → length c.args.t2
 second-long c = simp length-map at c.well-formed.1.0.1.1.1.0.1.0.1
 
 -- once joined
-opened : (c : tie.Else1 invariant-loop decreases-loop) → Opened (entered c).args.a (entered c).args.t2 c.before.before.before.before.join.result (stepped c.before.begin.result.working c.before.begin.result.steps c.before.begin.result.count)
+opened : (c : tie.Else-not-fits invariant-loop decreases-loop) → Opened (entered c).args.a (entered c).args.t2 c.before.before.before.before.join-j.result (stepped c.before.begin-s.result.working c.before.begin-s.result.steps c.before.begin-s.result.count)
 opened c =
     let p1 = c.before.before.before.before in
-    let b = c.before.begin.ensures in
-    let f : p1.join.result.fits ≡ true = not-false p1.join.result.fits c.if1.false in
+    let b = c.before.begin-s.ensures in
+    let f : p1.join.result.fits ≡ true = not-false p1.join-j.result.fits c.if-not-fits.false-raw in
     record {
       pair = (entered c).requires.0;
-      join = p1.join.ensures;
+      join = p1.join-j.ensures;
       first = first-long (entered c);
       second = second-long (entered c);
       begun = record { divisions = b.divisions; constraints = b.constraints; divs = b.divs; cons = b.cons; count = b.count; fits = sym f };
@@ -83,173 +83,170 @@ opened c =
     }
 
 -- at a constraint of the cutter
-caught : (c : tie.In-loop invariant-loop decreases-loop) → Caught c.before.loop.w c.before.loop.h c.before.loop.rows c.before.loop.place c.before.loop.kinds c.before.loop.past c.before.loop.cols
-caught c = behind-end c.before.loop.invariant.1 (c.before.loop.invariant.3 c.loop-test.true)
+caught : (c : tie.In-loop-k invariant-loop decreases-loop) → Caught c.before.loop-k.w c.before.loop-k.h c.before.loop-k.rows c.before.loop-k.place c.before.loop-k.kinds c.before.loop-k.past c.before.loop-k.cols
+caught c = behind-end c.before.loop-k.invariant.1 (c.before.loop-k.invariant.3 c.loop-k-test.true)
 
-turning : (c : tie.After-joining-rule invariant-loop decreases-loop) → Turning (stepped (in-turn c).before.loop.w (in-turn c).before.loop.steps (in-turn c).before.loop.count) c.joining-rule.result
-turning c = opened-turning (opened (joins (in-turn c).before)) (in-turn c).before.loop.invariant.0 (in-turn c).loop-test.true c.before.before.if2.false c.joining-rule.ensures
+turning : (c : tie.After-joining_rule-r invariant-loop decreases-loop) → Turning (stepped (in-turn c).before.loop-k.w (in-turn c).before.loop-k.steps (in-turn c).before.loop-k.count) c.joining_rule-r.result
+turning c = opened-turning (opened (joins (in-turn c).before)) (in-turn c).before.loop-k.invariant.0 (in-turn c).loop-k-test.true c.before.before.if-at-eq-CONSTRAINTS.false c.joining_rule-r.ensures
 
 -- its candidates, by the shared tests, or alone where one of those is wide
-spare-long : (c : tie.After-kept-arg5 invariant-loop decreases-loop) → length (in-turn (ruled c)).before.loop.spare ≡ 64
+spare-long : (c : tie.After-kept-arg5 invariant-loop decreases-loop) → length (in-turn (ruled c)).before.loop-k.spare ≡ 64
 spare-long c = let l = (in-turn (ruled c)).before in l.loop.inv.2 ∙ (entered (joins l)).pre.2.high
 
-judged : (c : tie.Joined3 invariant-loop decreases-loop) → Keeping (basic_set_of (in-turn (ruled (tried c))).before.loop.w) (constraint_of (ruled (tried c)).joining-rule.result) c.if3.x
+judged : (c : tie.Joined-far invariant-loop decreases-loop) → Keeping (basic_set_of (in-turn (ruled (tried c))).before.loop-k.w) (constraint_of (ruled (tried c)).joining_rule-r.result) c.if-far.x
 judged c =
     let t = ruled (tried c) in
-    let w = (in-turn t).before.loop.w in
-    let r = t.joining-rule.result in
+    let w = (in-turn t).before.loop-k.w in
+    let r = t.joining_rule-r.result in
     ⊎_elim
     (λ y. subst (Keeping (basic_set_of w) (constraint_of r)) (sym y.5) y.2.ensures)
-    (λ y. subst (Keeping (basic_set_of w) (constraint_of r)) (sym y.2) (c.before.before.kept.ensures.is (basic_set_of w) (caught-holds (caught (in-turn t))) y.0.left))
-    c.if3.branch
+    (λ y. subst (Keeping (basic_set_of w) (constraint_of r)) (sym y.2) (c.before.before.kept-x.ensures.is (basic_set_of w) (caught-holds (caught (in-turn t))) y.0.left))
+    c.if-far.branch
 
-spare-kept : (c : tie.Joined3 invariant-loop decreases-loop) → length c.if3.spare ≡ length (in-turn (ruled (tried c))).before.loop.spare
+spare-kept : (c : tie.Joined-far invariant-loop decreases-loop) → length c.if-far.spare ≡ length (in-turn (ruled (tried c))).before.loop-k.spare
 spare-kept c =
-    let k = c.before.before.kept.auto.1.1.1.1.1.1.1.1.0 in
-    ⊎_elim (λ y. ap length y.4 ∙ y.2.kept.1.1.0 ∙ k) (λ y. ap length y.1 ∙ k) c.if3.branch
+    let k = c.before.before.kept-x.auto.1.1.1.1.1.1.1.1.0 in
+    ⊎_elim (λ y. ap length y.4 ∙ y.2.kept.1.1.0 ∙ k) (λ y. ap length y.1 ∙ k) c.if-far.branch
 
 -- once it has joined, or has not
-turn : (c : tie.After-one invariant-loop decreases-loop) → Turned (stepped (in-turn (ruled (tried (settled c)))).before.loop.w (in-turn (ruled (tried (settled c)))).before.loop.steps (in-turn (ruled (tried (settled c)))).before.loop.count) (ruled (tried (settled c))).joining-rule.result (settled c).if3.x (stepped (lengthened (in-turn (ruled (tried (settled c)))).before.loop.w (ruled (tried (settled c))).joining-rule.result c.one.result) c.before.before.before.mark.new.0 c.before.before.before.mark.result)
+turn : (c : tie.After-one invariant-loop decreases-loop) → Turned (stepped (in-turn (ruled (tried (settled c)))).before.loop-k.w (in-turn (ruled (tried (settled c)))).before.loop-k.steps (in-turn (ruled (tried (settled c)))).before.loop-k.count) (ruled (tried (settled c))).joining_rule-r.result (settled c).if-far.x (stepped (lengthened (in-turn (ruled (tried (settled c)))).before.loop-k.w (ruled (tried (settled c))).joining_rule-r.result c.one.result) c.before.before.before.mark-count.new.0 c.before.before.before.mark-count.result)
 turn c =
     let t = ruled (tried (settled c)) in
-    let l = (in-turn t).before.loop.inv.4 in
+    let l = (in-turn t).before.loop-k.inv.4 in
     let m = (turning t).extending.cons in
-    turned (omega arith) (judged (settled c)) c.before.before.before.mark.ensures c.before.either.result c.before.either.ensures c.one.result c.one.ensures
+    turned (omega arith) (judged (settled c)) c.before.before.before.mark-count.ensures c.before.either-on.result c.before.either-on.ensures c.one.result c.one.ensures
 
-join-requires : tie.Need-join-requires invariant-loop decreases-loop
+join-requires : tie.Need-join-j-requires invariant-loop decreases-loop
 join-requires c κs =
     let st = c.before.before.before.before in
     (st.requires.0.divs, st.requires.0.divs')
 
-begin-requires : tie.Need-begin-requires invariant-loop decreases-loop
+begin-requires : tie.Need-begin-s-requires invariant-loop decreases-loop
 begin-requires c κs = tt
 
-returns : tie.Need-returns invariant-loop decreases-loop
+returns : tie.Need-returns-then-not-fits invariant-loop decreases-loop
 returns c =
     let st = c.before.before.before.before.before.before.before.before.before in
     let p1 = c.before.before.before.before in
-    unjoined st.args.a st.args.t2 p1.join.result st.requires.0 p1.join.ensures (first-long (st)) (second-long (st)) c.before.begin.result c.before.begin.ensures
-    (not-true p1.join.result.fits c.if1.true)
+    unjoined st.args.a st.args.t2 p1.join-j.result st.requires.0 p1.join-j.ensures (first-long (st)) (second-long (st)) c.before.begin-s.result c.before.begin-s.ensures
+    (not-true p1.join-j.result.fits c.if-not-fits.true-raw)
 
-slice-aggregate-start : tie.Need-slice-aggregate-start invariant-loop decreases-loop
+slice-aggregate-start : tie.Need-slice_bounds-start-end invariant-loop decreases-loop
 slice-aggregate-start c = refl
 
-start-requires : tie.Need-start-requires invariant-loop decreases-loop
+start-requires : tie.Need-start-h-requires invariant-loop decreases-loop
 start-requires c κs =
     let j = c.before.before.before.before.before.before.before in
-    let b = j.before.begin in
-    let p = (entered j).requires in (
-      record {
-        divs = let e = b.ensures.divs in let z = j.before.before.before.before.join.ensures.few in omega arith;
+    let b = j.before.begin-s in
+    let p = (entered j).requires in record { valid = record {
+        divs = let e = b.ensures.divs in let z = j.before.before.before.before.join-j.ensures.few in omega arith;
         cons = let e = b.ensures.cons in let z = p.0.cons in omega arith;
         divisions = simp length-map at b.type-inv.1.1.0.1.1.0.1.0.1;
         constraints = simp length-map at b.type-inv.1.1.0.1.1.1.0.1.0.1;
-      },
-      record { high = p.1.high; long = p.1.long; wide = p.1.wide; many = p.2.many; many' = refl },
-    )
+      }; beginning = record { high = p.1.high; long = p.1.long; wide = p.1.wide; many = p.2.many; many' = refl } }
 
-loop-holds : tie.Need-loop-init invariant-loop decreases-loop
+loop-holds : tie.Need-loop-k-init invariant-loop decreases-loop
 loop-holds c =
-    let u = c.before.before.before.before.before.before.before.start in
+    let u = c.before.before.before.before.before.before.before.start-h in
     let j = c.before.before.before.before.before.before.before.before.before.before.before.before.before.before.before in
-    let b = j.before.begin in
+    let b = j.before.begin-s in
     let g = u.ensures in
-    let hd : b.result.working.divs ≤ 8 = let e = b.ensures.divs in let z = j.before.before.before.before.join.ensures.few in omega arith in
+    let hd : b.result.working.divs ≤ 8 = let e = b.ensures.divs in let z = j.before.before.before.before.join-j.ensures.few in omega arith in
     let hc : b.result.working.cons ≤ 48 = let e = b.ensures.cons in let z = (entered j).requires.0.cons in omega arith in
     (opened-start (opened j) u.new.1.0 u.new.1.1.0 u.new.1.1.1.0, caught-behind g hd hc, refl, λ z. caught-all g, simp length-map at b.type-inv.1.1.0.1.1.1.0.1.0.1, simp length-map at b.type-inv.1.1.1.0.1.0.1)
 
 told-requires : tie.Need-told-requires invariant-loop decreases-loop
 told-requires c κs = search rules
 
-same_length : tie.Need-same-length invariant-loop decreases-loop
-same_length c = let l = c.before.before.before in l.loop.invariant.0.high ∙ l.before.before.before.before.before.before.before.before.start.auto.1.0
+same_length : tie.Need-shape_of-rows-then-at-eq-CONSTRAINTS invariant-loop decreases-loop
+same_length c = let l = c.before.before.before in l.loop-k.invariant.0.high ∙ l.before.before.before.before.before.before.before.before.start-h.auto.1.0
 
-same-length-2 : tie.Need-same-length-2 invariant-loop decreases-loop
-same-length-2 c = let l = c.before.before.before in l.loop.invariant.0.long ∙ l.before.before.before.before.before.before.before.before.start.auto.1.1.0
+same-length-2 : tie.Need-shape_of-place-then-at-eq-CONSTRAINTS invariant-loop decreases-loop
+same-length-2 c = let l = c.before.before.before in l.loop-k.invariant.0.long ∙ l.before.before.before.before.before.before.before.before.start-h.auto.1.1.0
 
-same-length-3 : tie.Need-same-length-3 invariant-loop decreases-loop
-same-length-3 c = let l = c.before.before.before in l.loop.invariant.0.wide ∙ l.before.before.before.before.before.before.before.before.start.auto.1.1.1.0
+same-length-3 : tie.Need-shape_of-kinds-then-at-eq-CONSTRAINTS invariant-loop decreases-loop
+same-length-3 c = let l = c.before.before.before in l.loop-k.invariant.0.wide ∙ l.before.before.before.before.before.before.before.before.start-h.auto.1.1.1.0
 
-same-length-4 : tie.Need-same-length-4 invariant-loop decreases-loop
-same-length-4 c = let l = c.before.before.before in l.loop.invariant.1.stands.many ∙ sym (entered (joins l)).pre.2.many
+same-length-4 : tie.Need-shape_of-past-then-at-eq-CONSTRAINTS invariant-loop decreases-loop
+same-length-4 c = let l = c.before.before.before in l.loop-k.invariant.1.stands.many ∙ sym (entered (joins l)).pre.2.many
 
-same-length-5 : tie.Need-same-length-5 invariant-loop decreases-loop
-same-length-5 c = c.before.before.before.loop.invariant.2
+same-length-5 : tie.Need-shape_of-spare-then-at-eq-CONSTRAINTS invariant-loop decreases-loop
+same-length-5 c = c.before.before.before.loop-k.invariant.2
 
-returns-2 : tie.Need-returns-2 invariant-loop decreases-loop
+returns-2 : tie.Need-returns-then-at-eq-CONSTRAINTS invariant-loop decreases-loop
 returns-2 c =
     let l = c.before.before.before in
     let st = entered (joins l) in
-    subst (CutTightIs st.args.a st.args.t2) (sym c.told.ensures) (opened-full (opened (joins l)) l.loop.invariant.0 c.before.before.loop-test.true c.before.if2.true)
+    subst (CutTightIs st.args.a st.args.t2) (sym c.told.ensures) (opened-full (opened (joins l)) l.loop-k.invariant.0 c.before.before.loop-k-test.true c.before.if-at-eq-CONSTRAINTS.true)
 
-mul-e : tie.Need-overflow-mul-e invariant-loop decreases-loop
+mul-e : tie.Need-offset_bounds-c-k invariant-loop decreases-loop
 mul-e c = let h = (entered (joins c.before.before)).pre.0.cons' in search rules
 
-element-copy-out-e : tie.Need-element-copy-out-e invariant-loop decreases-loop
-element-copy-out-e c = let h = (entered (joins c.before.before)).pre.0.cons' in let z = c.before.loop-test.true in omega arith
+element-copy-out-e : tie.Need-bounds-c-k invariant-loop decreases-loop
+element-copy-out-e c = let h = (entered (joins c.before.before)).pre.0.cons' in let z = c.before.loop-k-test.true in omega arith
 
-joining-rule-requires : tie.Need-joining-rule-requires invariant-loop decreases-loop
+joining-rule-requires : tie.Need-joining_rule-r-requires invariant-loop decreases-loop
 joining-rule-requires c κs = let j = joins c.before.before.before in ((entered j).pre.0.divs', opened-placed (opened j))
 
-slice-aggregate-kept : tie.Need-slice-aggregate-kept invariant-loop decreases-loop
-slice-aggregate-kept c = sym (in-turn c.before.before.before.before.before).before.loop.inv.1.stands.many'
+slice-aggregate-kept : tie.Need-slice_bounds-kept-end invariant-loop decreases-loop
+slice-aggregate-kept c = sym (in-turn c.before.before.before.before.before).before.loop-k.inv.1.stands.many'
 
-kept-requires : tie.Need-kept-requires invariant-loop decreases-loop
+kept-requires : tie.Need-kept-x-requires invariant-loop decreases-loop
 kept-requires c κs =
     let r = ruled c in
     let e = (turning r).extending in
-    (caught-growing (caught (in-turn r)) e.divs e.cons, (opposed e.n _ r.joining-rule.result (turning r).settled e.new, spare-long c))
+    record { growing = caught-growing (caught (in-turn r)) e.divs e.cons; opposed = (opposed e.n _ r.joining_rule-r.result (turning r).settled e.new, spare-long c) }
 
-kept-alone-requires : tie.Need-kept-alone-requires invariant-loop decreases-loop
+kept-alone-requires : tie.Need-kept_alone-x-requires invariant-loop decreases-loop
 kept-alone-requires c κs =
     let k = c.before.before.before in
     let r = ruled k.before in
     let e = (turning r).extending in
-    (record { divs = e.divs; cons = e.cons }, opposed e.n _ r.joining-rule.result (turning r).settled e.new, k.kept.auto.1.1.1.1.1.1.1.1.0 ∙ spare-long k.before)
+    (record { divs = e.divs; cons = e.cons }, opposed e.n _ r.joining_rule-r.result (turning r).settled e.new, k.kept-x.auto.1.1.1.1.1.1.1.1.0 ∙ spare-long k.before)
 
-slice-aggregate-mark : tie.Need-slice-aggregate-mark invariant-loop decreases-loop
-slice-aggregate-mark c = sym (in-turn (ruled (tried c.before))).before.loop.inv.5
+slice-aggregate-mark : tie.Need-slice_bounds-mark-end invariant-loop decreases-loop
+slice-aggregate-mark c = sym (in-turn (ruled (tried c.before))).before.loop-k.inv.5
 
-mark-requires : tie.Need-mark-requires invariant-loop decreases-loop
-mark-requires c κs = let r = ruled (tried c.before) in let t = turning r in let m = t.extending.cons in let n = t.count in let l = (in-turn r).before.loop.inv.5 in (m, omega arith)
+mark-requires : tie.Need-mark-count-requires invariant-loop decreases-loop
+mark-requires c κs = let r = ruled (tried c.before) in let t = turning r in let m = t.extending.cons in let n = t.count in let l = (in-turn r).before.loop-k.inv.5 in (m, omega arith)
 
-either-requires : tie.Need-either-requires invariant-loop decreases-loop
+either-requires : tie.Need-either-on-requires invariant-loop decreases-loop
 either-requires c κs = search rules
 
-mul-r : tie.Need-overflow-mul-r invariant-loop decreases-loop
+mul-r : tie.Need-offset_bounds-w-at invariant-loop decreases-loop
 mul-r c = let m = (turning (ruled (tried c.before.before.before.before))).extending.cons in search rules
 
-element-set-from-r : tie.Need-element-set-from-r invariant-loop decreases-loop
+element-set-from-r : tie.Need-bounds-w-at invariant-loop decreases-loop
 element-set-from-r c = let m = (turning (ruled (tried c.before.before.before.before))).extending.cons in search rules
 
 one-requires : tie.Need-one-requires invariant-loop decreases-loop
 one-requires c κs = search rules
 
-add-w : tie.Need-overflow-add-w invariant-loop decreases-loop
-add-w c = let m = (turning (ruled (tried (settled c)))).extending.cons in let k = c.one.ensures in let j = bit-small c.before.either.result in omega arith
+add-w : tie.Need-overflow_add-w invariant-loop decreases-loop
+add-w c = let m = (turning (ruled (tried (settled c)))).extending.cons in let k = c.one.ensures in let j = bit-small c.before.either-on.result in omega arith
 
-passed-requires : tie.Need-passed-requires invariant-loop decreases-loop
-passed-requires c κs = (in-turn (ruled (tried (settled c)))).loop-test.taken
+passed-requires : tie.Need-passed-k-requires invariant-loop decreases-loop
+passed-requires c κs = (in-turn (ruled (tried (settled c)))).loop-k-test.taken
 
 -- the next constraint
-later : (c : tie.After-passed invariant-loop decreases-loop) → ((in-turn (ruled (tried (settled c.before)))).before.loop.k < c.passed.result) × (c.passed.result ≤ (entered (joins (in-turn (ruled (tried (settled c.before)))).before)).args.t2.cons)
+later : (c : tie.After-passed-k invariant-loop decreases-loop) → ((in-turn (ruled (tried (settled c.before)))).before.loop-k.k < c.passed-k.result) × (c.passed-k.result ≤ (entered (joins (in-turn (ruled (tried (settled c.before)))).before)).args.t2.cons)
 later c =
     let r = ruled (tried (settled c.before)) in
-    passed_on (c.before.before.either.result && void (constraint_of r.joining-rule.result)) _ _ _ (in-turn r).loop-test.taken c.passed.ensures
+    passed_on (c.before.before.either-on.result && void (constraint_of r.joining_rule-r.result)) _ _ _ (in-turn r).loop-k-test.taken c.passed-k.ensures
 
-sub-left : tie.Need-overflow-sub-left invariant-loop decreases-loop
+sub-left : tie.Need-overflow_sub-left invariant-loop decreases-loop
 sub-left c = (later c).1
 
-slice-aggregate-follow : tie.Need-slice-aggregate-follow invariant-loop decreases-loop
-slice-aggregate-follow c = sym (in-turn (ruled (tried (settled (followed c).before)))).before.loop.inv.1.stands.many'
+slice-aggregate-follow : tie.Need-slice_bounds-follow-end invariant-loop decreases-loop
+slice-aggregate-follow c = sym (in-turn (ruled (tried (settled (followed c).before)))).before.loop-k.inv.1.stands.many'
 
-follow-requires : tie.Need-follow-requires invariant-loop decreases-loop
+follow-requires : tie.Need-follow-h-requires invariant-loop decreases-loop
 follow-requires c κs = let r = ruled (tried (settled (followed c).before)) in let e = (turning r).extending in caught-growing (caught (in-turn r)) e.divs e.cons
 
-loop-less : tie.Need-loop-smaller invariant-loop decreases-loop
+loop-less : tie.Need-loop-k-smaller invariant-loop decreases-loop
 loop-less c = let p = later (followed c.before.before.before.before.before.before.before.before) in let u = p.0 in let v = p.1 in omega arith
 
-loop-again : tie.Need-loop-preserved invariant-loop decreases-loop
+loop-again : tie.Need-loop-k-preserved invariant-loop decreases-loop
 loop-again c =
     let u = c.before.before.before.before.before.before.before in
     let pd = followed u.before in
@@ -257,47 +254,47 @@ loop-again c =
     let p = o.before in
     let r = ruled (tried (settled o)) in
     let it = in-turn r in
-    let l = it.before.loop in
+    let l = it.before.loop-k in
     let i = l.inv in
     let j = joins it.before in
     let cons = (entered j).args.t2.cons in
     let v = turning r in
     let t = turn o in
-    let f = behind-followed t (caught it) v.extending.divs v.extending.cons p.either.result p.either.ensures (cons - pd.passed.result) u.follow.ensures in (
-      opened-next (opened j) i.0 it.loop-test.taken r.before.before.if2.left r.joining-rule.ensures t pd.passed.result
-          (pd.passed.ensures ∙ ap (λ (b : Bool). cond (b && void (constraint_of r.joining-rule.result)) cons (l.k + 1)) p.either.ensures)
-          u.follow.new.1.1.1.1.1.0 u.follow.new.1.1.1.1.1.1.0 u.follow.new.1.1.1.1.1.1.1.0
-          u.follow.auto.1.1.1.1.1.0 u.follow.auto.1.1.1.1.1.1.0 u.follow.auto.1.1.1.1.1.1.1.0,
+    let f = behind-followed t (caught it) v.extending.divs v.extending.cons p.either-on.result p.either-on.ensures (cons - pd.passed-k.result) u.follow-h.ensures in (
+      opened-next (opened j) i.0 it.loop-k-test.taken r.before.before.if-at-eq-CONSTRAINTS.left r.joining_rule-r.ensures t pd.passed-k.result
+          (pd.passed-k.ensures ∙ ap (λ (b : Bool). cond (b && void (constraint_of r.joining_rule-r.result)) cons (l.k + 1)) p.either-on.ensures)
+          u.follow-h.new.1.1.1.1.1.0 u.follow-h.new.1.1.1.1.1.1.0 u.follow-h.new.1.1.1.1.1.1.1.0
+          u.follow-h.auto.1.1.1.1.1.0 u.follow-h.auto.1.1.1.1.1.1.0 u.follow-h.auto.1.1.1.1.1.1.1.0,
       f.0,
       spare-kept (settled o) ∙ i.2,
       λ y. f.1 (omega arith),
-      length-set l.w.constraints l.w.cons r.joining-rule.result ∙ i.4,
-      o.before.before.before.mark.kept.0 ∙ i.5,
+      length-set l.w.constraints l.w.cons r.joining_rule-r.result ∙ i.4,
+      o.before.before.before.mark-count.kept.0 ∙ i.5,
     )
 
 told-requires-2 : tie.Need-told-requires-2 invariant-loop decreases-loop
 told-requires-2 c κs = search rules
 
-same-length-6 : tie.Need-same-length-6 invariant-loop decreases-loop
-same-length-6 c = let l = c.before.before in l.loop.invariant.0.high ∙ l.before.before.before.before.before.before.before.before.start.auto.1.0
+same-length-6 : tie.Need-shape_of-rows invariant-loop decreases-loop
+same-length-6 c = let l = c.before.before in l.loop-k.invariant.0.high ∙ l.before.before.before.before.before.before.before.before.start-h.auto.1.0
 
-same-length-7 : tie.Need-same-length-7 invariant-loop decreases-loop
-same-length-7 c = let l = c.before.before in l.loop.invariant.0.long ∙ l.before.before.before.before.before.before.before.before.start.auto.1.1.0
+same-length-7 : tie.Need-shape_of-place invariant-loop decreases-loop
+same-length-7 c = let l = c.before.before in l.loop-k.invariant.0.long ∙ l.before.before.before.before.before.before.before.before.start-h.auto.1.1.0
 
-same-length-8 : tie.Need-same-length-8 invariant-loop decreases-loop
-same-length-8 c = let l = c.before.before in l.loop.invariant.0.wide ∙ l.before.before.before.before.before.before.before.before.start.auto.1.1.1.0
+same-length-8 : tie.Need-shape_of-kinds invariant-loop decreases-loop
+same-length-8 c = let l = c.before.before in l.loop-k.invariant.0.wide ∙ l.before.before.before.before.before.before.before.before.start-h.auto.1.1.1.0
 
-same-length-9 : tie.Need-same-length-9 invariant-loop decreases-loop
-same-length-9 c = let l = c.before.before in l.loop.invariant.1.stands.many ∙ sym (entered (joins l)).pre.2.many
+same-length-9 : tie.Need-shape_of-past invariant-loop decreases-loop
+same-length-9 c = let l = c.before.before in l.loop-k.invariant.1.stands.many ∙ sym (entered (joins l)).pre.2.many
 
-same-length-10 : tie.Need-same-length-10 invariant-loop decreases-loop
-same-length-10 c = c.before.before.loop.invariant.2
+same-length-10 : tie.Need-shape_of-spare invariant-loop decreases-loop
+same-length-10 c = c.before.before.loop-k.invariant.2
 
-returns-3 : tie.Need-returns-3 invariant-loop decreases-loop
+returns-3 : tie.Need-returns invariant-loop decreases-loop
 returns-3 c =
     let l = c.before.before in
     let st = entered (joins l) in
-    subst (CutTightIs st.args.a st.args.t2) (sym c.told2.ensures) (opened-end (opened (joins l)) l.loop.invariant.0 c.before.loop-test.false)
+    subst (CutTightIs st.args.a st.args.t2) (sym c.told-2.ensures) (opened-end (opened (joins l)) l.loop-k.invariant.0 c.before.loop-k-test.false)
 
 pub cut_spec : {M : Type 1} → statement M
 cut_spec =

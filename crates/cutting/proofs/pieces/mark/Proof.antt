@@ -14,28 +14,28 @@ use Rattle.cutting.proofs.pieces.step.Reads as step-reads
 one-requires : tie.Need-one-requires
 one-requires c κs = search rules
 
-add-m : tie.Need-overflow-add-m
+add-m : tie.Need-overflow_add-m
 add-m c = let h = c.one.ensures in let g = bit-small c.before.before.args.k.above in omega (arith, c.before.before.requires.1)
 
 step-requires : tie.Need-step-requires
 step-requires c κs = search rules
 
-slice-write-steps : tie.Need-slice-write-steps
+slice-write-steps : tie.Need-bounds-steps-n
 slice-write-steps c = search rules
 
 step-requires-2 : tie.Need-step-requires-2
 step-requires-2 c κs = search rules
 
-slice-write-steps-2 : tie.Need-slice-write-steps-2
+slice-write-steps-2 : tie.Need-bounds-steps-m
 slice-write-steps-2 c = let st = c.before.before.before.before in let h = c.before.before.one.ensures in let g = bit-small st.args.k.above in let l = st.requires.1 in let e = length-set st.args.steps.now st.args.n c.before.step.result in omega arith
 
 one-requires-2 : tie.Need-one-requires-2
 one-requires-2 c κs = search rules
 
-add-result : tie.Need-overflow-add-result
-add-result c = let st = c.before.before.before.before.before in let h = c.before.before.before.one.ensures in let k = c.one2.ensures in let g = bit-small st.args.k.above in let j = bit-small st.args.k.below in let l = st.requires.1 in omega arith
+add-result : tie.Need-overflow_add-result
+add-result c = let st = c.before.before.before.before.before in let h = c.before.before.before.one.ensures in let k = c.one-2.ensures in let g = bit-small st.args.k.above in let j = bit-small st.args.k.below in let l = st.requires.1 in omega arith
 
-same_length : tie.Need-same-length
+same_length : tie.Need-shape_of-steps
 same_length c = search rules
 
 returns : tie.Need-returns
@@ -43,9 +43,9 @@ returns c =
     let st = c.before.before.before.before.before in
     let a = st.args in
     let n1 = c.before.before.before.one.ensures in
-    let n2 = c.one2.ensures in
+    let n2 = c.one-2.ensures in
     let u1 = c.before.before.step.ensures in
-    let u0 = c.before.step2.ensures in
+    let u0 = c.before.step-2.ensures in
     record {
       steps_are =
           (λ i. take (a.n + n1 i + n2 i) (set (set a.steps.now a.n (u1 i)) (a.n + n1 i) (u0 i)))

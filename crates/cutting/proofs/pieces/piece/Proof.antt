@@ -28,16 +28,16 @@ use Rattle.candidates.proofs.put.Reads as put_reads
 read_is : (cs : List Stored) (cons at : ℕ) → at < cons → get_or (map constraint_of (take cons cs)) at no_rule ≡ constraint_of (get_or cs at no_constraint)
 read_is cs cons at h = get_or-map constraint_of (take cons cs) at no_constraint ∙ ap constraint_of (get_or-take cons cs at no_constraint h)
 
-cast-at : tie.Need-overflow-cast-at
+cast-at : tie.Need-overflow_cast-at
 cast-at c = search rules
 
-mul-r : tie.Need-overflow-mul-r
+mul-r : tie.Need-offset_bounds-w-at
 mul-r c = search rules
 
-element-copy-out-r : tie.Need-element-copy-out-r
+element-copy-out-r : tie.Need-bounds-w-at
 element-copy-out-r c = search rules
 
-tight-above-requires : tie.Need-tight-above-requires
+tight-above-requires : tie.Need-tight_above-p-requires
 tight-above-requires c κs =
     let a = c.before.before.args in
     let s = c.before.before.requires in
@@ -47,7 +47,7 @@ tight-above-requires c κs =
     let e = read_is a.t1.constraints a.t1.cons (a.v / 2) h in
     let u : ValidConstraint s.sound.n (length (basic_set_of a.t1).divisions) (constraint_of (get_or a.t1.constraints (a.v / 2) no_constraint)) =
     subst (ValidConstraint s.sound.n (length (basic_set_of a.t1).divisions)) e (All-at (ValidConstraint s.sound.n (length (basic_set_of a.t1).divisions)) (basic_set_of a.t1).constraints (a.v / 2) no_rule s.step.inside s.sound.valid.constraints) in
-    above_of (ap (λ (x : S.Constraint). x.kind) (sym e) ∙ s.step.equal c.if1.true) u
+    above_of (ap (λ (x : S.Constraint). x.kind) (sym e) ∙ s.step.equal c.if-v-eq1.true) u
 
 put-requires : tie.Need-put-requires
 put-requires c κs =
@@ -59,7 +59,7 @@ put-requires c κs =
     let e = read_is a.t1.constraints a.t1.cons (a.v / 2) h in
     let z = s.sound.cons in (omega arith, omega arith)
 
-returns : tie.Need-returns
+returns : tie.Need-returns-then-v-eq1
 returns c =
     let a = c.before.before.before.before.args in
     let s = c.before.before.before.before.requires in
@@ -67,14 +67,14 @@ returns c =
     let w : length (take a.t1.cons a.t1.constraints) ≡ a.t1.cons = length-take-le a.t1.cons a.t1.constraints (let z = s.sound.cons in omega arith) in
     let h : a.v / 2 < a.t1.cons = omega (arith, s.step.inside, length-map (take a.t1.cons a.t1.constraints) constraint_of) in
     let e = read_is a.t1.constraints a.t1.cons (a.v / 2) h in
-    let o : T.tight (C.above (get_or (basic_set_of a.t1).constraints (a.v / 2) no_rule)) ≡ constraint_of c.before.tight-above.result = ap (λ (x : S.Constraint). T.tight (C.above x)) e ∙ sym c.before.tight-above.ensures in
+    let o : T.tight (C.above (get_or (basic_set_of a.t1).constraints (a.v / 2) no_rule)) ≡ constraint_of c.before.tight-above.result = ap (λ (x : S.Constraint). T.tight (C.above x)) e ∙ sym c.before.tight_above-p.ensures in
     record {
-      is = c.put.ensures.is ∙ sym (ap₂ (λ (b : Bool) (x : S.Constraint). with_last (basic_set_of a.t1) (a.v / 2) (cond b x (T.tight (C.below (get_or (basic_set_of a.t1).constraints (a.v / 2) no_rule))))) (eq-eqb (a.v % 2) 1 c.before.before.if1.true) o);
+      is = c.put.ensures.is ∙ sym (ap₂ (λ (b : Bool) (x : S.Constraint). with_last (basic_set_of a.t1) (a.v / 2) (cond b x (T.tight (C.below (get_or (basic_set_of a.t1).constraints (a.v / 2) no_rule))))) (eq-eqb (a.v % 2) 1 c.before.before.if-v-eq1.true) o);
       divs = c.put.ensures.divs;
       cons = let z = s.sound.cons in let y = c.put.ensures.cons in omega arith;
     }
 
-tight-below-requires : tie.Need-tight-below-requires
+tight-below-requires : tie.Need-tight_below-o-requires
 tight-below-requires c κs =
     let a = c.before.before.args in
     let s = c.before.before.requires in
@@ -96,7 +96,7 @@ put-requires-2 c κs =
     let e = read_is a.t1.constraints a.t1.cons (a.v / 2) h in
     let z = s.sound.cons in (omega arith, omega arith)
 
-returns-2 : tie.Need-returns-2
+returns-2 : tie.Need-returns
 returns-2 c =
     let a = c.before.before.before.before.args in
     let s = c.before.before.before.before.requires in
@@ -104,11 +104,11 @@ returns-2 c =
     let w : length (take a.t1.cons a.t1.constraints) ≡ a.t1.cons = length-take-le a.t1.cons a.t1.constraints (let z = s.sound.cons in omega arith) in
     let h : a.v / 2 < a.t1.cons = omega (arith, s.step.inside, length-map (take a.t1.cons a.t1.constraints) constraint_of) in
     let e = read_is a.t1.constraints a.t1.cons (a.v / 2) h in
-    let o : T.tight (C.below (get_or (basic_set_of a.t1).constraints (a.v / 2) no_rule)) ≡ constraint_of c.before.tight-below.result = ap (λ (x : S.Constraint). T.tight (C.below x)) e ∙ sym c.before.tight-below.ensures in
+    let o : T.tight (C.below (get_or (basic_set_of a.t1).constraints (a.v / 2) no_rule)) ≡ constraint_of c.before.tight-below.result = ap (λ (x : S.Constraint). T.tight (C.below x)) e ∙ sym c.before.tight_below-o.ensures in
     record {
-      is = c.put2.ensures.is ∙ sym (ap₂ (λ (b : Bool) (x : S.Constraint). with_last (basic_set_of a.t1) (a.v / 2) (cond b (T.tight (C.above (get_or (basic_set_of a.t1).constraints (a.v / 2) no_rule))) x)) (ne_eqb (a.v % 2) 1 c.before.before.if1.false) o);
-      divs = c.put2.ensures.divs;
-      cons = let z = s.sound.cons in let y = c.put2.ensures.cons in omega arith;
+      is = c.put-2.ensures.is ∙ sym (ap₂ (λ (b : Bool) (x : S.Constraint). with_last (basic_set_of a.t1) (a.v / 2) (cond b (T.tight (C.above (get_or (basic_set_of a.t1).constraints (a.v / 2) no_rule))) x)) (ne_eqb (a.v % 2) 1 c.before.before.if-v-eq1.false) o);
+      divs = c.put-2.ensures.divs;
+      cons = let z = s.sound.cons in let y = c.put-2.ensures.cons in omega arith;
     }
 
 pub piece_spec : {M : Type 1} → statement M

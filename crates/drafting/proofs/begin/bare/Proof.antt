@@ -9,27 +9,27 @@ use Rattle.drafting.proofs.Making.{bare-is}
 use Rattle.drafting.proofs.begin.bare.Statement.{statement}
 use Rattle.drafting.proofs.begin.bare.Tie as tie
 
-widen-requires : tie.Need-widen-requires
+widen-requires : tie.Need-widen-one-requires
 widen-requires c κs = search rules
 
-set-cell-requires : tie.Need-set-cell-requires
-set-cell-requires c κs = (blank, lit< tt, c.before.widen.ensures.1)
+set-cell-requires : tie.Need-set_cell-requires
+set-cell-requires c κs = (blank, lit< tt, c.before.widen-one.ensures.1)
 
-cast-widen : tie.Need-overflow-cast-widen
+cast-widen : tie.Need-overflow_cast-z
 cast-widen c = let s = c.before.before.before.before.before in simp (to_z-of_z s.ranges.z) (word_fits s.ranges.z)
 
-widen-requires-2 : tie.Need-widen-requires-2
+widen-requires-2 : tie.Need-widen-x-requires
 widen-requires-2 c κs = search rules
 
-set-cell-requires-2 : tie.Need-set-cell-requires-2
+set-cell-requires-2 : tie.Need-set_cell-requires-2
 set-cell-requires-2 c κs = search rules
 
 returns : tie.Need-returns
 returns c =
     let x = c.before.before in let w = x.before in let o = w.before.before in let s = o.before.before.before in
     record {
-      is = bare-is s.args.z (value_of o.widen.result) (value_of x.widen2.result) w.set-cell.new.0 c.set-cell2.new.0 o.widen.ensures.0 (simp (to_z-of_z s.ranges.z, to_z-of_z (word_fits s.ranges.z)) at x.widen2.ensures.0) w.set-cell.ensures.is c.set-cell2.ensures.is;
-      sheet = c.set-cell2.ensures.sheet;
+      is = bare-is s.args.z (value_of o.widen-one.result) (value_of x.widen-x.result) w.set_cell.new.0 c.set_cell-2.new.0 o.widen-one.ensures.0 (simp (to_z-of_z s.ranges.z, to_z-of_z (word_fits s.ranges.z)) at x.widen-x.ensures.0) w.set_cell.ensures.is c.set_cell-2.ensures.is;
+      sheet = c.set_cell-2.ensures.sheet;
       waits = blank;
     }
 

@@ -11,40 +11,40 @@ use mir.Facts.{to_z-of_z}
 use Rattle.drafting.proofs.begin.coefficient.Statement.{statement}
 use Rattle.drafting.proofs.begin.coefficient.Tie as tie
 
-mul-x : tie.Need-overflow-mul-x
+mul-x : tie.Need-offset_bounds-a-v
 mul-x c = search rules
 
-array-copy-out-x : tie.Need-array-copy-out-x
+array-copy-out-x : tie.Need-bounds-a-v
 array-copy-out-x c = search rules
 
 widened-requires : tie.Need-widened-requires
 widened-requires c κs = search rules
 
-returns : tie.Need-returns
+returns : tie.Need-returns-then-v-lt-AXES
 returns c =
     let x = c.before in let t = x.before.before in let s = t.before in let r = s.args.c in let v = s.args.v in (
       c.widened.ensures.0
-          ∙ to_z-of_z {w = w16} {z = get_or r.axes v (pos 0)} (record { sfits = x.x.given })
-          ∙ sym (ap (λ (b : Bool). cond b (get_or r.axes v (pos 0)) (get_or r.divisions (v - 8) (pos 0))) (lt-ltb v 8 t.if1.true)),
+          ∙ to_z-of_z {w = w16} {z = get_or r.axes v (pos 0)} (record { sfits = x.x-1.given })
+          ∙ sym (ap (λ (b : Bool). cond b (get_or r.axes v (pos 0)) (get_or r.divisions (v - 8) (pos 0))) (lt-ltb v 8 t.if-v-lt-AXES.true)),
       c.widened.ensures.1,
     )
 
-mul-y : tie.Need-overflow-mul-y
+mul-y : tie.Need-offset_bounds-d-v
 mul-y c = search rules
 
-array-copy-out-y : tie.Need-array-copy-out-y
+array-copy-out-y : tie.Need-bounds-d-v
 array-copy-out-y c = search rules
 
 widened-requires-2 : tie.Need-widened-requires-2
 widened-requires-2 c κs = search rules
 
-returns-2 : tie.Need-returns-2
+returns-2 : tie.Need-returns
 returns-2 c =
     let y = c.before in let t = y.before.before in let s = t.before in let r = s.args.c in let v = s.args.v in (
-      c.widened2.ensures.0
-          ∙ to_z-of_z {w = w16} {z = get_or r.divisions (v - 8) (pos 0)} (record { sfits = y.y.given })
-          ∙ sym (ap (λ (b : Bool). cond b (get_or r.axes v (pos 0)) (get_or r.divisions (v - 8) (pos 0))) (le-ltb v 8 t.if1.false)),
-      c.widened2.ensures.1,
+      c.widened-2.ensures.0
+          ∙ to_z-of_z {w = w16} {z = get_or r.divisions (v - 8) (pos 0)} (record { sfits = y.y-1.given })
+          ∙ sym (ap (λ (b : Bool). cond b (get_or r.axes v (pos 0)) (get_or r.divisions (v - 8) (pos 0))) (le-ltb v 8 t.if-v-lt-AXES.false)),
+      c.widened-2.ensures.1,
     )
 
 pub coefficient_spec : {M : Type 1} → statement M

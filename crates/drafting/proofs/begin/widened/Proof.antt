@@ -5,7 +5,7 @@ use Rattle.simplex.proofs.Fills.{short-fits}
 use Rattle.drafting.proofs.begin.widened.Statement.{statement}
 use Rattle.drafting.proofs.begin.widened.Tie as tie
 
-cast-widen : tie.Need-overflow-cast-widen
+cast-widen : tie.Need-overflow_cast-x
 cast-widen c = simp (to_z-of_z c.ranges.x) (short-fits c.ranges.x)
 
 widen-requires : tie.Need-widen-requires

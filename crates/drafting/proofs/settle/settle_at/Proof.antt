@@ -19,52 +19,52 @@ use Rattle.drafting.proofs.Making.{settled-none, settled-one}
 use Rattle.drafting.proofs.settle.settle_at.Statement.{statement}
 use Rattle.drafting.proofs.settle.settle_at.Tie as tie
 
-abbrev start : tie.After-is-zero → tie.Start
+abbrev start : tie.After-is_zero → tie.Start
 start c = c.before.before.before.before.before
 
-tested : (c : tie.After-is-zero) → let s = start c in c.is_zero.result ≡ is_zero (get_or (cells s.args.waiting.now) (s.args.v + 2) (pos 0))
+tested : (c : tie.After-is_zero) → let s = start c in c.is_zero.result ≡ is_zero (get_or (cells s.args.waiting.now) (s.args.v + 2) (pos 0))
 tested c =
     let b = c.before.before in
     c.is_zero.ensures ∙ zero_is b.Cell-at.result.neg (size b.Cell-at.result.magnitude) ∙ ap is_zero b.Cell-at.ensures.0
 
 -- what waits is a row
-inside : (c : tie.Else1) → let s = start c.before in get_or s.args.place.now s.args.v 0 < length s.args.t.now
+inside : (c : tie.Else-is_zero) → let s = start c.before in get_or s.args.place.now s.args.v 0 < length s.args.t.now
 inside c =
     let s = start c.before in
-    let h = s.pre.4.spot s.args.v s.pre.5 (zero-no _ (sym (tested c.before) ∙ c.if1.false)) in
+    let h = s.pre.4.spot s.args.v s.pre.5 (zero-no _ (sym (tested c.before) ∙ c.if-is_zero.false)) in
     omega (arith, h, rows-length s.args.t.now)
 
-add-cell-at : tie.Need-overflow-add-cell-at
+add-cell-at : tie.Need-overflow_add-v
 add-cell-at c = search rules
 
-cell-at-requires : tie.Need-cell-at-requires
+cell-at-requires : tie.Need-cell_at-b-requires
 cell-at-requires c κs = search rules
 
-is-zero-requires : tie.Need-is-zero-requires
+is-zero-requires : tie.Need-is_zero-requires
 is-zero-requires c κs = search rules
 
-returns : tie.Need-returns
+returns : tie.Need-returns-then-is_zero
 returns c =
     let z = c.before in let s = start z in
     record {
-      is = settled-none (bound 128) (rows_of s.args.t.now) s.args.place.now s.args.v (sketch_of s.args.row.now s.args.waiting.now) (sym (tested z) ∙ c.if1.true);
+      is = settled-none (bound 128) (rows_of s.args.t.now) s.args.place.now s.args.v (sketch_of s.args.row.now s.args.waiting.now) (sym (tested z) ∙ c.if-is_zero.true);
       sheet = s.pre.1;
       waits = s.pre.2;
     }
 
-mul-i : tie.Need-overflow-mul-i
+mul-i : tie.Need-offset_bounds-place-v
 mul-i c = search rules
 
-shared-slice-read-i : tie.Need-shared-slice-read-i
+shared-slice-read-i : tie.Need-bounds-place-v
 shared-slice-read-i c = search rules
 
-add-replace : tie.Need-overflow-add-replace
+add-replace : tie.Need-overflow_add-k
 add-replace c = search rules
 
-mul-replace : tie.Need-overflow-mul-replace
+mul-replace : tie.Need-offset_bounds-t-i
 mul-replace c = let h = inside c.before.before.before in search rules
 
-shared-slice-element-replace : tie.Need-shared-slice-element-replace
+shared-slice-element-replace : tie.Need-bounds-t-i
 shared-slice-element-replace c = let h = inside c.before.before.before in search rules
 
 replace-requires : tie.Need-replace-requires
@@ -73,7 +73,7 @@ replace-requires c κs =
     let b : i < length (rows_of t) = omega (arith, h, rows-length t) in
     (s.pre.1, s.pre.2, s.pre.0.at i h, omega (arith, s.pre.5, s.pre.3.few), record { whole = s.pre.4.whole; line = subst (Line (s.args.k + 10)) (rows_at t i) (s.pre.3.line i b); over = subst (λ (l : List ℤ). pos 0 <ℤ den l) (rows_at t i) (s.pre.3.over i b) })
 
-returns-2 : tie.Need-returns-2
+returns-2 : tie.Need-returns
 returns-2 c =
     let e = c.before.before.before.before.before in let z = e.before in let s = start z in let t = s.args.t.now in let o = sketch_of s.args.row.now s.args.waiting.now in let v = s.args.v in
     record {

@@ -17,67 +17,67 @@ copied c = c.before.before.before.before.before.before
 abbrev start : tie.After-clear → tie.Start
 start c = (copied c).before.before.before.before
 
-abbrev first : tie.After-combine2 → tie.After-combine
+abbrev first : tie.After-combine-h → tie.After-combine-g
 first c = c.before.before.before
 
 parts : (c : tie.After-clear) → let s = start c in let n = c.before.before.before in
-    K.Parts s.args.v (cells s.args.r.now) (sketch_of s.args.row.now s.args.waiting.now) (value_of (copied c).before.before.before.Cell-at.result) (value_of n.negate.result) (value_of c.before.before.zero.result) (cells (copied c).wipe.new.0) (cells c.clear.new.0)
+    K.Parts s.args.v (cells s.args.r.now) (sketch_of s.args.row.now s.args.waiting.now) (value_of (copied c).before.before.before.Cell-at.result) (value_of n.negate-c.result) (value_of c.before.before.zero-z.result) (cells (copied c).wipe.new.0) (cells c.clear.new.0)
 parts c =
     let z = c.before.before in let n = z.before in
     record {
       divisor_is = (copied c).before.before.before.Cell-at.ensures.0;
       row_is = (copied c).wipe.ensures.is;
-      by = n.negate.ensures.0 ∙ ap neg_ℤ n.before.cell-at2.ensures.0;
-      none = z.zero.ensures.0;
+      by = n.negate-c.ensures.0 ∙ ap neg_ℤ n.before.cell_at-b.ensures.0;
+      none = z.zero-z.ensures.0;
       others = c.clear.ensures.is;
     }
 
-lowest : (c : tie.After-gcd) → let y = c.before in let x = first y in let s = start x.before.before.before in
-    (0 < size c.gcd.result) × (divided_by (size c.gcd.result) (sketch_of x.combine.last.0 y.combine2.new.0) ≡ substituted s.args.v (cells s.args.r.now) (sketch_of s.args.row.now s.args.waiting.now))
+lowest : (c : tie.After-gcd-d) → let y = c.before in let x = first y in let s = start x.before.before.before in
+    (0 < size c.gcd-d.result) × (divided_by (size c.gcd-d.result) (sketch_of x.combine-g.last.0 y.combine-h.new.0) ≡ substituted s.args.v (cells s.args.r.now) (sketch_of s.args.row.now s.args.waiting.now))
 lowest c =
     let y = c.before in let x = first y in let k = x.before.before.before in
-    let e : size c.gcd.result ≡ gcd (size x.combine.result) (size y.combine2.result) = c.gcd.ensures in
-    K.lowest-is (parts k) (start k).pre.4 x.combine.ensures.is y.combine2.ensures.is (size c.gcd.result) (size x.combine.result) (size y.combine2.result) e x.combine.ensures.divisor_is y.combine2.ensures.divisor_is
+    let e : size c.gcd.result ≡ gcd (size x.combine.result) (size y.combine2.result) = c.gcd-d.ensures in
+    K.lowest-is (parts k) (start k).pre.4 x.combine-g.ensures.is y.combine-h.ensures.is (size c.gcd-d.result) (size x.combine-g.result) (size y.combine-h.result) e x.combine-g.ensures.divisor_is y.combine-h.ensures.divisor_is
 
-cell-at-requires : tie.Need-cell-at-requires
+cell-at-requires : tie.Need-cell_at-m-requires
 cell-at-requires c κs = search rules
 
 wipe-requires : tie.Need-wipe-requires
 wipe-requires c κs = search rules
 
-add-cell-at : tie.Need-overflow-add-cell-at
+add-cell-at : tie.Need-overflow_add-v
 add-cell-at c = search rules
 
-cell-at-requires-2 : tie.Need-cell-at-requires-2
+cell-at-requires-2 : tie.Need-cell_at-b-requires
 cell-at-requires-2 c κs = search rules
 
-negate-requires : tie.Need-negate-requires
+negate-requires : tie.Need-negate-c-requires
 negate-requires c κs = search rules
 
-zero-requires : tie.Need-zero-requires
+zero-requires : tie.Need-zero-z-requires
 zero-requires c κs = search rules
 
 clear-requires : tie.Need-clear-requires
 clear-requires c κs = search rules
 
-combine-requires : tie.Need-combine-requires
+combine-requires : tie.Need-combine-g-requires
 combine-requires c κs =
     let k = c.before.before in let s = start k in let h = s.pre.4 in let p = parts k in
     (s.pre.0, (copied k).wipe.ensures.sheet, h.ready.whole.line, K.row_line p h, h.small, K.row_small p h, K.divisor-near p h, K.by_near p h)
 
-combine-requires-2 : tie.Need-combine-requires-2
+combine-requires-2 : tie.Need-combine-h-requires
 combine-requires-2 c κs =
     let k = c.before.before.before.before.before in let h = (start k).requires.4 in let p = parts k in
     (k.clear.ensures.sheet, (copied k).wipe.ensures.sheet, K.others-line p h, K.row_line p h, K.others-small p h, K.row_small p h, K.divisor-near p h, K.none-near p h)
 
-gcd-requires : tie.Need-gcd-requires
+gcd-requires : tie.Need-gcd-d-requires
 gcd-requires c κs = search rules
 
 lower-requires : tie.Need-lower-requires
 lower-requires c κs =
     let g = c.before.before in let y = g.before in let x = first y in let k = x.before.before.before in
-    let o = K.combined-whole (parts k) (start k).pre.4 x.combine.ensures.is y.combine2.ensures.is in
-    (x.combine.ensures.sheet, y.combine2.ensures.sheet, o.line, o.waits, (lowest g).0)
+    let o = K.combined-whole (parts k) (start k).pre.4 x.combine-g.ensures.is y.combine-h.ensures.is in
+    (x.combine-g.ensures.sheet, y.combine-h.ensures.sheet, o.line, o.waits, (lowest g).0)
 
 returns : tie.Need-returns
 returns c =

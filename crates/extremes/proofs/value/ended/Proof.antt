@@ -8,34 +8,34 @@ use Rattle.climbing.specs.Steps.{outcome_of}
 use Rattle.extremes.proofs.value.ended.Statement.{statement}
 use Rattle.extremes.proofs.value.ended.Tie as tie
 
-enum_told : tie.Need-enum-told
+enum_told : tie.Need-enum_told-1
 enum_told c = search rules
 
 fraction-requires : tie.Need-fraction-requires
 fraction-requires c κs = search rules
 
-enum-told-2 : tie.Need-enum-told-2
+enum-told-2 : tie.Need-enum_told-in-Endless
 enum-told-2 c = search rules
 
-enum-told-3 : tie.Need-enum-told-3
+enum-told-3 : tie.Need-enum_told-in-Long
 enum-told-3 c = search rules
 
-enum-told-4 : tie.Need-enum-told-4
+enum-told-4 : tie.Need-enum_told-in-Wide
 enum-told-4 c = search rules
 
-returns : tie.Need-returns
+returns : tie.Need-returns-in-Best
 returns c =
     let s = c.before.before.before in
-    ap gives (c.fraction.ensures ∙ ap (λ (x : Outcome). outcome_of x (cells s.args.goal.now)) (sym c.before.enum_told.given.1))
+    ap gives (c.fraction.ensures ∙ ap (λ (x : Outcome). outcome_of x (cells s.args.goal.now)) (sym c.before.enum_told-1.given.1))
 
-returns-2 : tie.Need-returns-2
-returns-2 c = let s = c.before.before in ap (λ (x : Outcome). gives (outcome_of x (cells s.args.goal.now))) (sym c.enum-told2.given.1)
+returns-2 : tie.Need-returns-in-Endless
+returns-2 c = let s = c.before.before in ap (λ (x : Outcome). gives (outcome_of x (cells s.args.goal.now))) (sym c.enum_told-in-Endless-1.given.1)
 
-returns-3 : tie.Need-returns-3
-returns-3 c = let s = c.before.before in ap (λ (x : Outcome). gives (outcome_of x (cells s.args.goal.now))) (sym c.enum-told3.given.1)
+returns-3 : tie.Need-returns-in-Long
+returns-3 c = let s = c.before.before in ap (λ (x : Outcome). gives (outcome_of x (cells s.args.goal.now))) (sym c.enum_told-in-Long-1.given.1)
 
-returns-4 : tie.Need-returns-4
-returns-4 c = let s = c.before.before in ap (λ (x : Outcome). gives (outcome_of x (cells s.args.goal.now))) (sym c.enum-told4.given.1)
+returns-4 : tie.Need-returns-in-Wide
+returns-4 c = let s = c.before.before in ap (λ (x : Outcome). gives (outcome_of x (cells s.args.goal.now))) (sym c.enum_told-in-Wide-1.given.1)
 
 pub ended_spec : {M : Type 1} → statement M
 ended_spec =

@@ -20,42 +20,42 @@ high_word c = omega (arith, c.well-formed)
 low_word : (c : tie.Start) → c.args.x.magnitude.lo < 18446744073709551616
 low_word c = omega (arith, c.well-formed)
 
-abbrev start : tie.Else1 → tie.Start
+abbrev start : tie.Else-not-is_negative → tie.Start
 start c = c.before.before.before
 
-negative : (c : tie.Else1) → lt_z (value_of (start c).args.x) (pos 0) ≡ true
-negative c = sym c.before.is_negative.ensures ∙ not-false _ c.if1.false
+negative : (c : tie.Else-not-is_negative) → lt_z (value_of (start c).args.x) (pos 0) ≡ true
+negative c = sym c.before.is_negative.ensures ∙ not-false _ c.if-not-is_negative.false-raw
 
-is-negative-requires : tie.Need-is-negative-requires
+is-negative-requires : tie.Need-is_negative-requires
 is-negative-requires c κs = search rules
 
-returns : tie.Need-returns
+returns : tie.Need-returns-then-not-is_negative
 returns c =
     let s = c.before.before.before in
-    high-kept s.args.x (low_word s) (sym c.before.is_negative.ensures ∙ not-true _ c.if1.true)
+    high-kept s.args.x (low_word s) (sym c.before.is_negative.ensures ∙ not-true _ c.if-not-is_negative.true-raw)
 
-sub-result : tie.Need-overflow-sub-result
+sub-result : tie.Need-overflow_sub-result
 sub-result c = search rules
 
 -- one more than what a word leaves
 more : (h : ℕ) → 0 < h → Fits w64 (18446744073709551615 - h + 1)
 more h k = omega arith
 
-add-result : tie.Need-overflow-add-result
+add-result : tie.Need-overflow_add-result
 add-result c =
     let s = start c.before in
-    more s.args.x.magnitude.hi (some-high s.args.x (high_word s) (negative c.before) c.if2.true)
+    more s.args.x.magnitude.hi (some-high s.args.x (high_word s) (negative c.before) c.if-l-eq0.true)
 
-returns-2 : tie.Need-returns-2
-returns-2 c = let s = start c.before in high-even s.args.x (high_word s) (negative c.before) c.if2.true
+returns-2 : tie.Need-returns-then-l-eq0
+returns-2 c = let s = start c.before in high-even s.args.x (high_word s) (negative c.before) c.if-l-eq0.true
 
-sub-result-2 : tie.Need-overflow-sub-result-2
+sub-result-2 : tie.Need-overflow_sub-result-2
 sub-result-2 c = search rules
 
-returns-3 : tie.Need-returns-3
+returns-3 : tie.Need-returns
 returns-3 c =
     let s = start c.before in
-    high_taken s.args.x (high_word s) (negative c.before) (low_word s) (pos_of_ne-zero c.if2.false)
+    high_taken s.args.x (high_word s) (negative c.before) (low_word s) (pos_of_ne-zero c.if-l-eq0.false)
 
 pub high_spec : {M : Type 1} → statement M
 high_spec =

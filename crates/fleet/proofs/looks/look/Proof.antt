@@ -12,59 +12,59 @@ use Rattle.fleet.proofs.Fleets.{fleet-refused, fleet-ragged, fleet-many, fleet-m
 use Rattle.fleet.proofs.looks.look.Statement.{statement}
 use Rattle.fleet.proofs.looks.look.Tie as tie
 
-abbrev start : tie.Else1 → tie.Start
+abbrev start : tie.Else-c-ne0 → tie.Start
 start c = c.before.before.before
 
-accepted : (c : tie.Else1) → number (decode (start c).args.n (start c).args.set.now) ≡ 0
-accepted c = sym c.before.check.ensures ∙ c.if1.false
+accepted : (c : tie.Else-c-ne0) → number (decode (start c).args.n (start c).args.set.now) ≡ 0
+accepted c = sym c.before.check-c.ensures ∙ c.if-c-ne0.false
 
-some-axis : (c : tie.Else1) → 0 < (start c).args.n
+some-axis : (c : tie.Else-c-ne0) → 0 < (start c).args.n
 some-axis c = let a = (start c).args in axes-some a.n a.set.now (accepted c)
 
-in-range : (c : tie.Else4) → all coordinate (start c.before.before.before.before).args.points.now ≡ true
-in-range c = sym c.before.coordinates-fit.ensures ∙ not-false _ c.if4.false
+in-range : (c : tie.Else-not-coordinates_fit) → all coordinate (start c.before.before.before.before).args.points.now ≡ true
+in-range c = sym c.before.coordinates_fit.ensures ∙ not-false _ c.if-not-coordinates_fit.false-raw
 
-check-requires : tie.Need-check-requires
+check-requires : tie.Need-check-c-requires
 check-requires c κs = search rules
 
-returns : tie.Need-returns
+returns : tie.Need-returns-then-c-ne0
 returns c =
     let k = c.before in let a = k.before.before.args in
-    fleet-refused a.n a.set.now a.points.now k.check.result (bad a.n a.set.now k.check.result k.check.ensures c.if1.true)
+    fleet-refused a.n a.set.now a.points.now k.check-c.result (bad a.n a.set.now k.check-c.result k.check-c.ensures c.if-c-ne0.true)
 
-rem-if2 : tie.Need-nonzero-rem-if2
+rem-if2 : tie.Need-nonzero_rem-points
 rem-if2 c = some-axis c
 
-returns-2 : tie.Need-returns-2
-returns-2 c = let l = c.before in let a = (start l).args in fleet-ragged a.n a.set.now a.points.now (accepted l) c.if2.true
+returns-2 : tie.Need-returns-then-points-n-ne0
+returns-2 c = let l = c.before in let a = (start l).args in fleet-ragged a.n a.set.now a.points.now (accepted l) c.if-points-n-ne0.true
 
-div-k : tie.Need-nonzero-div-k
+div-k : tie.Need-nonzero_div-k
 div-k c = some-axis c.before
 
-returns-3 : tie.Need-returns-3
+returns-3 : tie.Need-returns-then-k-gt-POINTS
 returns-3 c =
     let w = c.before in let l = w.before in let a = (start l).args in
-    fleet-many a.n a.set.now a.points.now (accepted l) w.if2.false (omega (arith, c.if3.true))
+    fleet-many a.n a.set.now a.points.now (accepted l) w.if-points-n-ne0.false (omega (arith, c.if-k-gt-POINTS.true))
 
-coordinates-fit-requires : tie.Need-coordinates-fit-requires
+coordinates-fit-requires : tie.Need-coordinates_fit-requires
 coordinates-fit-requires c κs = search rules
 
-returns-4 : tie.Need-returns-4
+returns-4 : tie.Need-returns-then-not-coordinates_fit
 returns-4 c =
     let f = c.before in let d = f.before in let w = d.before in let l = w.before in let a = (start l).args in
-    fleet-misfit a.n a.set.now a.points.now (accepted l) w.if2.false d.if3.false (sym f.coordinates-fit.ensures ∙ not-true _ c.if4.true)
+    fleet-misfit a.n a.set.now a.points.now (accepted l) w.if-points-n-ne0.false d.if-k-gt-POINTS.false (sym f.coordinates_fit.ensures ∙ not-true _ c.if-not-coordinates_fit.true-raw)
 
-seen-requires : tie.Need-seen-requires
+seen-requires : tie.Need-seen-m-requires
 seen-requires c κs =
     let d = c.before.before in let w = d.before in let l = w.before in let a = (start l).args in (
       record { n = a.n; accepted = accepted l },
-      list-points a.n a.points.now (axes-most a.n a.set.now (accepted l)) w.if2.false d.if3.false (in-range c),
+      list-points a.n a.points.now (axes-most a.n a.set.now (accepted l)) w.if-points-n-ne0.false d.if-k-gt-POINTS.false (in-range c),
     )
 
-returns-5 : tie.Need-returns-5
+returns-5 : tie.Need-returns
 returns-5 c =
     let d = c.before.before.before in let w = d.before in let l = w.before in let a = (start l).args in
-    fleet-gives a.n a.set.now a.points.now (accepted l) w.if2.false d.if3.false (in-range c.before) c.seen.result c.seen.ensures
+    fleet-gives a.n a.set.now a.points.now (accepted l) w.if-points-n-ne0.false d.if-k-gt-POINTS.false (in-range c.before) c.seen-m.result c.seen-m.ensures
 
 pub look_spec : {M : Type 1} → statement M
 look_spec =

@@ -17,7 +17,7 @@ point-requires c κs = search rules
 member-requires : tie.Need-member-requires
 member-requires c κs = search rules
 
-member-number-requires : tie.Need-member-number-requires
+member-number-requires : tie.Need-member_number-requires
 member-number-requires c κs = search rules
 
 returns : tie.Need-returns

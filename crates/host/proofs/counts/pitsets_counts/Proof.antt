@@ -11,13 +11,13 @@ use borrow.Author.Rules.{rules}
 use Rattle.host.proofs.counts.pitsets_counts.Statement.{statement}
 use Rattle.host.proofs.counts.pitsets_counts.Tie as tie
 
-counts-requires : tie.Need-counts-requires
+counts-requires : tie.Need-counts-c-requires
 counts-requires c κs = search rules
 
-count-number-requires : tie.Need-count-number-requires
+count-number-requires : tie.Need-count_number-requires
 count-number-requires c κs = search rules
 
-same_length : tie.Need-same-length
+same_length : tie.Need-shape_of-counts
 same_length c = search rules
 
 returns : tie.Need-returns
@@ -26,13 +26,13 @@ returns c =
     let size = length st.args.counts.now in
     record {
       answer =
-          count-hosted (counts_bytes st.args.n size st.args.set.now _ _ st.args.axis st.args.limit) d.counts.result
-          (d.counts.ensures.0
+          count-hosted (counts_bytes st.args.n size st.args.set.now _ _ st.args.axis st.args.limit) d.counts-c.result
+          (d.counts-c.ensures.is
           ∙ ap₂ (λ (l h : List ℤ). counted_is (counts_bytes st.args.n size st.args.set.now l h st.args.axis st.args.limit))
           (search coordinates depth 12) (search coordinates depth 12))
-          (result_is w64 _ c.count-number.type-inv ∙ c.count-number.ensures);
+          (result_is w64 _ c.count_number.type-inv ∙ c.count_number.ensures);
       counts =
-          d.counts.ensures.1
+          d.counts-c.ensures.table
           ∙ ap₂ (λ (l h : List ℤ). table_is size (counts_bytes st.args.n size st.args.set.now l h st.args.axis st.args.limit))
           (search coordinates depth 12) (search coordinates depth 12);
     }

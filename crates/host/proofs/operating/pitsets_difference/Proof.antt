@@ -13,19 +13,19 @@ use Rattle.host.proofs.operating.pitsets_difference.Tie as tie
 difference-requires : tie.Need-difference-requires
 difference-requires c κs = search rules
 
-length-number-requires : tie.Need-length-number-requires
+length-number-requires : tie.Need-length_number-requires
 length-number-requires c κs =
     let u = c.before.before.difference in let g = c.before.before.before in let s = g.before.before.before.before.args in
-    let first = bytes_of s.a.now (λ i. (g.before.before.before.shared-slice-known.given i).fits) in let second = bytes_of s.b.now (λ i. (g.before.before.shared-slice-known2.given i).fits) in
+    let first = bytes_of s.a.now (λ i. (g.before.before.before.shared_slice_known-1.given i).fits) in let second = bytes_of s.b.now (λ i. (g.before.before.shared_slice_known-2-1.given i).fits) in
     short-of _ u.result u.ensures _ (λ l. difference-within _ _ _ _ l (search) (search))
 
-same_length : tie.Need-same-length
+same_length : tie.Need-shape_of-out
 same_length c = search rules
 
 returns : tie.Need-returns
 returns c =
     let u = c.before.before.before.difference in let s = c.before.before.before.before.before.before.before.before.args in
-    hosted (difference_bytes s.n (length s.out.now) s.a.now s.b.now) u.result u.ensures _ (result_is w64 _ c.length-number.type-inv ∙ c.length-number.ensures)
+    hosted (difference_bytes s.n (length s.out.now) s.a.now s.b.now) u.result u.ensures _ (result_is w64 _ c.length_number.type-inv ∙ c.length_number.ensures)
 
 pub pitsets_difference_spec : {M : Type 1} → statement M
 pitsets_difference_spec = tie.close (tie.spec difference-requires length-number-requires same_length returns)

@@ -7,20 +7,20 @@ use borrow.Author.Rules.{rules}
 use Rattle.host.proofs.ranging.pitsets_range.Statement.{statement}
 use Rattle.host.proofs.ranging.pitsets_range.Tie as tie
 
-box-range-requires : tie.Need-box-range-requires
+box-range-requires : tie.Need-box_range-x-requires
 box-range-requires c κs = search rules
 
-range-number-requires : tie.Need-range-number-requires
+range-number-requires : tie.Need-range_number-requires
 range-number-requires c κs = search rules
 
-same_length : tie.Need-same-length
+same_length : tie.Need-shape_of-out
 same_length c = search rules
 
 returns : tie.Need-returns
 returns c =
-    let e = c.before.before.before.before.before.box-range.ensures in
+    let e = c.before.before.before.before.before.box_range-x.ensures in
     record {
-      number = result_is w64 _ c.range-number.ok ∙ c.range-number.ensures ∙ ap (λ (x : Reading). range_number x.range) e.answer;
+      number = result_is w64 _ c.range_number.ok ∙ c.range_number.ensures ∙ ap (λ (x : Reading). range_number x.range) e.answer;
       bytes = e.bytes;
       length = ap (λ (x : Reading). x.length) e.answer;
       first_inside = ap (λ (x : Reading). x.inside) e.answer;

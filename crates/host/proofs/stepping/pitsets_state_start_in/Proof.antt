@@ -9,23 +9,23 @@ use Rattle.host.proofs.stepping.pitsets_state_start_in.Tie as tie
 start-requires : tie.Need-start-requires
 start-requires c κs = search rules
 
-said-number-requires : tie.Need-said-number-requires
+said-number-requires : tie.Need-said_number-requires
 said-number-requires c κs = search rules
 
-same_length : tie.Need-same-length
+same_length : tie.Need-shape_of-rows
 same_length c = search rules
 
-same-length-2 : tie.Need-same-length-2
+same-length-2 : tie.Need-shape_of-place
 same-length-2 c = search rules
 
-same-length-3 : tie.Need-same-length-3
+same-length-3 : tie.Need-shape_of-kinds
 same-length-3 c = search rules
 
-same-length-4 : tie.Need-same-length-4
+same-length-4 : tie.Need-shape_of-heads
 same-length-4 c = search rules
 
 returns : tie.Need-returns
-returns c = state-hosted c.before.before.before.before.before.before.before.before.start.ensures (result_is w64 _ c.said-number.type-inv ∙ c.said-number.ensures)
+returns c = state-hosted c.before.before.before.before.before.before.before.before.start.ensures (result_is w64 _ c.said_number.type-inv ∙ c.said_number.ensures)
 
 pub pitsets_state_start_in_spec : {M : Type 1} → statement M
 pitsets_state_start_in_spec =

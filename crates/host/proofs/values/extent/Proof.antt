@@ -10,18 +10,18 @@ use Rattle.host.proofs.values.extent.Tie as tie
 greatest-requires : tie.Need-greatest-requires
 greatest-requires c κs = search rules
 
-returns : tie.Need-returns
+returns : tie.Need-returns-then-greatest
 returns c =
     let a = c.before.before.before.args in
-    c.greatest.ensures ∙ sym (ap (λ (b : Bool). extreme_bytes (aim_of b) a.n a.set.now a.k (expression_of a.e)) c.before.if1.true)
+    c.greatest.ensures ∙ sym (ap (λ (b : Bool). extreme_bytes (aim_of b) a.n a.set.now a.k (expression_of a.e)) c.before.if-greatest.true)
 
 least-requires : tie.Need-least-requires
 least-requires c κs = search rules
 
-returns-2 : tie.Need-returns-2
+returns-2 : tie.Need-returns
 returns-2 c =
     let a = c.before.before.before.args in
-    c.least.ensures ∙ sym (ap (λ (b : Bool). extreme_bytes (aim_of b) a.n a.set.now a.k (expression_of a.e)) c.before.if1.false)
+    c.least.ensures ∙ sym (ap (λ (b : Bool). extreme_bytes (aim_of b) a.n a.set.now a.k (expression_of a.e)) c.before.if-greatest.false)
 
 pub extent_spec : {M : Type 1} → statement M
 extent_spec = tie.close (tie.spec greatest-requires returns least-requires returns-2)

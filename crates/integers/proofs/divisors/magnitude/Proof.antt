@@ -30,32 +30,32 @@ module _ (x : ℤ) (f : SFits w64 x) (h : x <ℤ pos 0) where
   size_is : nat_abs x ≡ mag x + 1
   size_is = ap nat_abs (mag-negative h) ∙ omega arith
 
-add-n : tie.Need-overflow-add-n
-add-n c = let f = c.before.ranges.x in more _ f (is_lt (b-of f) (b-lit w64 0 refl) c.if1.true)
+add-n : tie.Need-overflow_add-n
+add-n c = let f = c.before.ranges.x in more _ f (is_lt (b-of f) (b-lit w64 0 refl) c.if-x-lt0.true)
 
-sub-n : tie.Need-overflow-sub-n
-sub-n c = let f = c.before.ranges.x in minus-fits _ f (is_lt (b-of f) (b-lit w64 0 refl) c.if1.true)
+sub-n : tie.Need-overflow_sub-n
+sub-n c = let f = c.before.ranges.x in minus-fits _ f (is_lt (b-of f) (b-lit w64 0 refl) c.if-x-lt0.true)
 
-cast-result : tie.Need-overflow-cast-result
+cast-result : tie.Need-overflow_cast-result
 cast-result c =
     let f = c.before.ranges.x in let m = f.sfits in
-    cast-nat w64 _ _ (minus_is _ f (is_lt (b-of f) (b-lit w64 0 refl) c.if1.true)) (omega arith)
+    cast-nat w64 _ _ (minus_is _ f (is_lt (b-of f) (b-lit w64 0 refl) c.if-x-lt0.true)) (omega arith)
 
-add-result : tie.Need-overflow-add-result
+add-result : tie.Need-overflow_add-result
 add-result c =
-    let f = c.before.ranges.x in let m = f.sfits in let e = ap nat_abs (minus_is _ f (is_lt (b-of f) (b-lit w64 0 refl) c.if1.true)) in omega arith
+    let f = c.before.ranges.x in let m = f.sfits in let e = ap nat_abs (minus_is _ f (is_lt (b-of f) (b-lit w64 0 refl) c.if-x-lt0.true)) in omega arith
 
-returns : tie.Need-returns
+returns : tie.Need-returns-then-x-lt0
 returns c =
-    let f = c.before.ranges.x in let h = is_lt (b-of f) (b-lit w64 0 refl) c.if1.true in
+    let f = c.before.ranges.x in let h = is_lt (b-of f) (b-lit w64 0 refl) c.if-x-lt0.true in
     ap (λ (z : ℤ). nat_abs z + 1) (minus_is _ f h) ∙ sym (size_is _ f h)
 
-cast-result-2 : tie.Need-overflow-cast-result-2
+cast-result-2 : tie.Need-overflow_cast-result-2
 cast-result-2 c =
     let f = c.before.ranges.x in let m = f.sfits in
-    cast-nat w64 _ _ (to_z_of_z f ∙ mag-nonneg (is_ge (b-of f) (b-lit w64 0 refl) c.if1.false)) (omega arith)
+    cast-nat w64 _ _ (to_z_of_z f ∙ mag-nonneg (is_ge (b-of f) (b-lit w64 0 refl) c.if-x-lt0.false)) (omega arith)
 
-returns-2 : tie.Need-returns-2
+returns-2 : tie.Need-returns
 returns-2 c = search rules
 
 pub magnitude_spec : {M : Type 1} → statement M

@@ -7,17 +7,17 @@ use Rattle.integers.specs.LittleEndian.{signed, signed-fits}
 use Rattle.integers.proofs.little_endian.i16_at.Statement.{statement}
 use Rattle.integers.proofs.little_endian.i16_at.Tie as tie
 
-u16-at-requires : tie.Need-u16-at-requires
+u16-at-requires : tie.Need-u16_at-requires
 u16-at-requires c κs = search rules
 
-signed-of-requires : tie.Need-signed-of-requires
+signed-of-requires : tie.Need-signed_of-requires
 signed-of-requires c κs = search rules
 
-cast-result : tie.Need-overflow-cast-result
-cast-result c = rw (result_is w64 _ c.signed_of.type-inv, c.signed_of.ensures 2 refl) (signed-fits w16 2 _ refl c.before.u16-at.ensures.1)
+cast-result : tie.Need-overflow_cast-result
+cast-result c = rw (result_is w64 _ c.signed_of.type-inv, c.signed_of.ensures 2 refl) (signed-fits w16 2 _ refl c.before.u16_at.ensures.small)
 
 returns : tie.Need-returns
-returns c = to_z_of_z (cast-result c) ∙ result_is w64 _ c.signed_of.type-inv ∙ c.signed_of.ensures 2 refl ∙ ap (signed 2) c.before.u16-at.ensures.0
+returns c = to_z_of_z (cast-result c) ∙ result_is w64 _ c.signed_of.type-inv ∙ c.signed_of.ensures 2 refl ∙ ap (signed 2) c.before.u16_at.ensures.is
 
 pub i16_at_spec : {M : Type 1} → statement M
 i16_at_spec = tie.close (tie.spec u16-at-requires signed-of-requires cast-result returns)

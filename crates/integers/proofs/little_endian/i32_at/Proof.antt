@@ -7,17 +7,17 @@ use Rattle.integers.specs.LittleEndian.{signed, signed-fits}
 use Rattle.integers.proofs.little_endian.i32_at.Statement.{statement}
 use Rattle.integers.proofs.little_endian.i32_at.Tie as tie
 
-u32-at-requires : tie.Need-u32-at-requires
+u32-at-requires : tie.Need-u32_at-requires
 u32-at-requires c κs = search rules
 
-signed-of-requires : tie.Need-signed-of-requires
+signed-of-requires : tie.Need-signed_of-requires
 signed-of-requires c κs = search rules
 
-cast-result : tie.Need-overflow-cast-result
-cast-result c = rw (result_is w64 _ c.signed_of.type-inv, c.signed_of.ensures 4 refl) (signed-fits w32 4 _ refl c.before.u32-at.ensures.1)
+cast-result : tie.Need-overflow_cast-result
+cast-result c = rw (result_is w64 _ c.signed_of.type-inv, c.signed_of.ensures 4 refl) (signed-fits w32 4 _ refl c.before.u32_at.ensures.small)
 
 returns : tie.Need-returns
-returns c = to_z_of_z (cast-result c) ∙ result_is w64 _ c.signed_of.type-inv ∙ c.signed_of.ensures 4 refl ∙ ap (signed 4) c.before.u32-at.ensures.0
+returns c = to_z_of_z (cast-result c) ∙ result_is w64 _ c.signed_of.type-inv ∙ c.signed_of.ensures 4 refl ∙ ap (signed 4) c.before.u32_at.ensures.is
 
 pub i32_at_spec : {M : Type 1} → statement M
 i32_at_spec = tie.close (tie.spec u32-at-requires signed-of-requires cast-result returns)

@@ -8,28 +8,28 @@ use Rattle.integers.specs.LittleEndian.{unsigned, bytes_of, put, unsigned_small}
 use Rattle.integers.proofs.little_endian.put_i32.Statement.{statement}
 use Rattle.integers.proofs.little_endian.put_i32.Tie as tie
 
-cast-unsigned-of : tie.Need-overflow-cast-unsigned-of
+cast-unsigned-of : tie.Need-overflow_cast-z
 cast-unsigned-of c = let f = c.before.before.ranges.z in let m = f.sfits in rw (to_z_of_z f) (record { sfits = omega arith })
 
-unsigned-of-requires : tie.Need-unsigned-of-requires
+unsigned-of-requires : tie.Need-unsigned_of-requires
 unsigned-of-requires c κs = let f = c.before.before.ranges.z in (rw (to_z_of_z (cast-unsigned-of c), to_z_of_z f) f.sfits, omega arith)
 
 -- the bits are those of z
-bits : (c : tie.After-unsigned-of) → c.Unsigned-of.result ≡ unsigned 4 c.before.before.before.args.z
+bits : (c : tie.After-unsigned_of) → c.Unsigned-of.result ≡ unsigned 4 c.before.before.before.args.z
 bits c = c.Unsigned-of.ensures 4 refl ∙ ap (unsigned 4) (to_z_of_z (cast-unsigned-of c.before) ∙ to_z_of_z c.before.before.before.ranges.z)
 
-put-u32-requires : tie.Need-put-u32-requires
+put-u32-requires : tie.Need-put_u32-requires
 put-u32-requires c κs =
     let s = c.before.before.before in let f = s.ranges.z in
     let e = bits c in let l = unsigned_small 4 2147483648 refl s.args.z f.sfits in (search rules, omega arith)
 
-same_length : tie.Need-same-length
+same_length : tie.Need-shape_of-t
 same_length c = search rules
 
 returns : tie.Need-returns
 returns c =
     let u = c.before.before.before in let s = u.before.before.before in
-    c.before.before.put-u32.ensures ∙ ap (λ (v : ℕ). put s.args.p (bytes_of 4 v) s.args.t.now) (bits u)
+    c.before.before.put_u32.ensures ∙ ap (λ (v : ℕ). put s.args.p (bytes_of 4 v) s.args.t.now) (bits u)
 
 pub put_i32_spec : {M : Type 1} → statement M
 put_i32_spec =

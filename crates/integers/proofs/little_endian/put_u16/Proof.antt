@@ -9,22 +9,22 @@ use Rattle.integers.specs.LittleEndian.{put, put_one, put-more, length-put}
 use Rattle.integers.proofs.little_endian.put_u16.Statement.{statement}
 use Rattle.integers.proofs.little_endian.put_u16.Tie as tie
 
-cast_t : tie.Need-overflow-cast-t
+cast_t : tie.Need-overflow_cast-t
 cast_t c = search rules
 
-slice-write-t : tie.Need-slice-write-t
+slice-write-t : tie.Need-bounds-t-p
 slice-write-t c = search rules
 
-cast-t-2 : tie.Need-overflow-cast-t-2
+cast-t-2 : tie.Need-overflow_cast-t-2
 cast-t-2 c = search rules
 
-add-t : tie.Need-overflow-add-t
+add-t : tie.Need-overflow_add-t
 add-t c = search rules
 
-slice-write-t-2 : tie.Need-slice-write-t-2
+slice-write-t-2 : tie.Need-bounds-t-p-2
 slice-write-t-2 c = simp length-set (omega arith)
 
-same_length : tie.Need-same-length
+same_length : tie.Need-shape_of-t
 same_length c = search rules
 
 returns : tie.Need-returns

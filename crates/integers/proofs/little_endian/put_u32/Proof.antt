@@ -8,16 +8,16 @@ use Rattle.integers.specs.LittleEndian.{bytes_of, put, put-more, bytes-parts}
 use Rattle.integers.proofs.little_endian.put_u32.Statement.{statement}
 use Rattle.integers.proofs.little_endian.put_u32.Tie as tie
 
-put-u16-requires : tie.Need-put-u16-requires
+put-u16-requires : tie.Need-put_u16-requires
 put-u16-requires c κs = search rules
 
-add-put-u16 : tie.Need-overflow-add-put-u16
+add-put-u16 : tie.Need-overflow_add-p
 add-put-u16 c = search rules
 
-put-u16-requires-2 : tie.Need-put-u16-requires-2
+put-u16-requires-2 : tie.Need-put_u16-requires-2
 put-u16-requires-2 c κs = search rules
 
-same_length : tie.Need-same-length
+same_length : tie.Need-shape_of-t
 same_length c = search rules
 
 returns : tie.Need-returns
@@ -25,7 +25,7 @@ returns c =
     let p = c.before.before.before.before.before.before in let s = p.before.before.before in
     let t = s.args.t.now in let at = s.args.p in let v = s.args.v in
     let e : v % 65536 + 65536 * (v / 65536) ≡ v = omega arith in
-    c.before.before.put-u162.ensures ∙ ap (put (at + 2) (bytes_of 2 (v / 65536))) p.put-u16.ensures
+    c.before.before.put_u16-2.ensures ∙ ap (put (at + 2) (bytes_of 2 (v / 65536))) p.put_u16.ensures
     ∙ put-more at (bytes_of 2 (v % 65536)) (bytes_of 2 (v / 65536)) t (omega arith)
     ∙ ap (λ (l : List ℕ). put at l t) (sym (bytes-parts 2 2 (v % 65536) (v / 65536) (omega arith)) ∙ ap (bytes_of 4) e)
 

@@ -5,23 +5,23 @@ use Rattle.integers.specs.LittleEndian.{value-parts}
 use Rattle.integers.proofs.little_endian.u32_at.Statement.{statement}
 use Rattle.integers.proofs.little_endian.u32_at.Tie as tie
 
-u16-at-requires : tie.Need-u16-at-requires
+u16-at-requires : tie.Need-u16_at-requires
 u16-at-requires c κs = search rules
 
-add-u16-at : tie.Need-overflow-add-u16-at
+add-u16-at : tie.Need-overflow_add-p
 add-u16-at c = search rules
 
-u16-at-requires-2 : tie.Need-u16-at-requires-2
+u16-at-requires-2 : tie.Need-u16_at-requires-2
 u16-at-requires-2 c κs = search rules
 
-mul-result : tie.Need-overflow-mul-result
+mul-result : tie.Need-overflow_mul-result
 mul-result c = search rules
 
-add-result : tie.Need-overflow-add-result
+add-result : tie.Need-overflow_add-result
 add-result c = search rules
 
 returns : tie.Need-returns
-returns c = let s = c.before.before.before in let e = value-parts 2 2 s.args.p s.args.t.now (omega arith) in (omega arith, omega arith)
+returns c = let s = c.before.before.before in let e = value-parts 2 2 s.args.p s.args.t.now (omega arith) in record { is = omega arith; small = omega arith }
 
 pub u32_at_spec : {M : Type 1} → statement M
 u32_at_spec =

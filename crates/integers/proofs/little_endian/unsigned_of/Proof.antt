@@ -36,30 +36,30 @@ module _ (z : ℤ) (half : ℕ) (f : SFits w64 z) (m : mag z < half) (h : half �
   high : (k : ℕ) → pos 0 ≤ℤ z → nat_abs (to_z w64 (of_z w64 z)) ≡ unsigned k z
   high k l = ap nat_abs (to_z_of_z f ∙ mag-nonneg l) ∙ ap (unsigned k) (sym (mag-nonneg l))
 
-mul-result : tie.Need-overflow-mul-result
+mul-result : tie.Need-overflow_mul-result
 mul-result c = search rules
 
-cast-result : tie.Need-overflow-cast-result
+cast-result : tie.Need-overflow_cast-result
 cast-result c = search rules
 
-add-result : tie.Need-overflow-add-result
-add-result c = let s = c.before in let f = s.ranges.z in sum_fits _ _ f s.requires.0 s.requires.1 (is_lt (b-of f) (b-lit w64 0 refl) c.if1.true)
+add-result : tie.Need-overflow_add-result
+add-result c = let s = c.before in let f = s.ranges.z in sum_fits _ _ f s.requires.0 s.requires.1 (is_lt (b-of f) (b-lit w64 0 refl) c.if-z-lt0.true)
 
-cast-result-2 : tie.Need-overflow-cast-result-2
+cast-result-2 : tie.Need-overflow_cast-result-then-z-lt0
 cast-result-2 c =
     let s = c.before in let f = s.ranges.z in let p = s.requires in
-    cast-nat w64 _ _ (sum_is _ _ f p.0 p.1 (is_lt (b-of f) (b-lit w64 0 refl) c.if1.true)) (omega arith)
+    cast-nat w64 _ _ (sum_is _ _ f p.0 p.1 (is_lt (b-of f) (b-lit w64 0 refl) c.if-z-lt0.true)) (omega arith)
 
-returns : tie.Need-returns
-returns c = λ k e. let s = c.before in let f = s.ranges.z in low _ _ f s.requires.0 s.requires.1 (is_lt (b-of f) (b-lit w64 0 refl) c.if1.true) k e
+returns : tie.Need-returns-then-z-lt0
+returns c = λ k e. let s = c.before in let f = s.ranges.z in low _ _ f s.requires.0 s.requires.1 (is_lt (b-of f) (b-lit w64 0 refl) c.if-z-lt0.true) k e
 
-cast-result-3 : tie.Need-overflow-cast-result-3
+cast-result-3 : tie.Need-overflow_cast-result-2
 cast-result-3 c =
     let s = c.before in let f = s.ranges.z in let m = f.sfits in
-    cast-nat w64 _ _ (to_z_of_z f ∙ mag-nonneg (is_ge (b-of f) (b-lit w64 0 refl) c.if1.false)) (omega arith)
+    cast-nat w64 _ _ (to_z_of_z f ∙ mag-nonneg (is_ge (b-of f) (b-lit w64 0 refl) c.if-z-lt0.false)) (omega arith)
 
-returns-2 : tie.Need-returns-2
-returns-2 c = λ k e. let s = c.before in let f = s.ranges.z in high _ _ f s.requires.0 s.requires.1 k (is_ge (b-of f) (b-lit w64 0 refl) c.if1.false)
+returns-2 : tie.Need-returns
+returns-2 c = λ k e. let s = c.before in let f = s.ranges.z in high _ _ f s.requires.0 s.requires.1 k (is_ge (b-of f) (b-lit w64 0 refl) c.if-z-lt0.false)
 
 pub unsigned_of_spec : {M : Type 1} → statement M
 unsigned_of_spec =

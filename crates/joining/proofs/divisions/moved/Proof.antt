@@ -11,7 +11,7 @@ use Rattle.joining.proofs.divisions.moved.Lts as lts
 use Rattle.joining.proofs.divisions.at_places.Reads as at-places-reads
 
 -- src/divisions.rt:128:9
-at-places-requires : tie.Need-at-places-requires
+at-places-requires : tie.Need-at_places-divisions-requires
 at-places-requires c κs = search rules
 
 -- src/divisions.rt:120:1
@@ -19,7 +19,7 @@ returns : tie.Need-returns
 returns c =
     let r = c.before.before.before.before.args.c in
     let f : SFits w32 r.constant = search rules in
-    λ i. record { kind = kind_is r.equality; number = r.number; constant = to_z_of_z f i; axes = r.axes; divisions = c.at_places.ensures i }
+    λ i. record { kind = kind_is r.equality; number = r.number; constant = to_z_of_z f i; axes = r.axes; divisions = c.at_places-divisions.ensures i }
 
 pub moved_spec : {M : Type 1} → statement M
 moved_spec = tie.close (tie.spec at-places-requires returns)

@@ -10,7 +10,7 @@ use Rattle.joining.proofs.Placing.{above-room}
 use Rattle.joining.proofs.opposites.above.Statement.{statement}
 use Rattle.joining.proofs.opposites.above.Tie as tie
 
-sub-t6 : tie.Need-overflow-sub-t6
+sub-t6 : tie.Need-overflow_sub-result
 sub-t6 c =
     let r = c.before.before.before.args.c in
     let f : SFits w32 r.constant = search rules in

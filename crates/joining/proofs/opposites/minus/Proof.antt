@@ -6,7 +6,7 @@ use Rattle.joining.proofs.Placing.{minus_is, minus-fits}
 use Rattle.joining.proofs.opposites.minus.Statement.{statement}
 use Rattle.joining.proofs.opposites.minus.Tie as tie
 
-sub-result : tie.Need-overflow-sub-result
+sub-result : tie.Need-overflow_sub-result
 sub-result c = rw (to_z_of_z c.ranges.x) (minus-fits c.args.x c.requires)
 
 returns : tie.Need-returns

@@ -15,56 +15,56 @@ use Rattle.joining.proofs.tightening.common.Reads as reads
 use Rattle.joining.proofs.tightening.common.Lts as lts
 use Rattle.joining.proofs.tightening.divisor_with.Reads as divisor-with-reads
 
-abbrev invariant-loop : tie.invariant-loop
+abbrev invariant-loop : tie.invariant-loop-k
 invariant-loop g xs r₀ k₀ r k = (k ≤ 8) × (r ≡ common_from g (drop k xs)) × (r ≤ 32768)
 
-abbrev decreases-loop : tie.decreases-loop
+abbrev decreases-loop : tie.decreases-loop-k
 decreases-loop g xs r₀ k₀ r k = k
 
-loop-holds : tie.Need-loop-init invariant-loop decreases-loop
+loop-holds : tie.Need-loop-k-init invariant-loop decreases-loop
 loop-holds c =
     let l : length c.args.t1 ≡ 8 = search rules in
     (omega arith, sym (ap (common_from c.args.g) (drop_of_length-le c.args.t1 {i = 8} (omega arith))), c.requires)
 
-returns : tie.Need-returns invariant-loop decreases-loop
+returns : tie.Need-returns-then-r-eq1 invariant-loop decreases-loop
 returns c =
     let lo = c.before.before in
-    (sym (common-one lo.before.args.t1 lo.loop.k lo.before.args.g (sym lo.loop.invariant.1 ∙ c.if1.true)), omega arith)
+    (sym (common-one lo.before.args.t1 lo.loop-k.k lo.before.args.g (sym lo.loop-k.invariant.1 ∙ c.if-r-eq1.true)), omega arith)
 
-sub-k : tie.Need-overflow-sub-k invariant-loop decreases-loop
+sub-k : tie.Need-overflow_sub-k invariant-loop decreases-loop
 sub-k c = search rules
 
-mul-divisor-with : tie.Need-overflow-mul-divisor-with invariant-loop decreases-loop
+mul-divisor-with : tie.Need-offset_bounds-xs-k invariant-loop decreases-loop
 mul-divisor-with c = search rules
 
-array-copy-out-divisor-with : tie.Need-array-copy-out-divisor-with invariant-loop decreases-loop
+array-copy-out-divisor-with : tie.Need-bounds-xs-k invariant-loop decreases-loop
 array-copy-out-divisor-with c = search rules
 
-divisor-with-requires : tie.Need-divisor-with-requires invariant-loop decreases-loop
+divisor-with-requires : tie.Need-divisor_with-r-requires invariant-loop decreases-loop
 divisor-with-requires c κs = search rules
 
-loop-less : tie.Need-loop-smaller invariant-loop decreases-loop
+loop-less : tie.Need-loop-k-smaller invariant-loop decreases-loop
 loop-less c = search rules
 
-loop-again : tie.Need-loop-preserved invariant-loop decreases-loop
+loop-again : tie.Need-loop-k-preserved invariant-loop decreases-loop
 loop-again c =
     let lo = c.before.before.before.before in
     let xs = lo.before.args.t1 in
     let g = lo.before.args.g in
-    let j = lo.loop.k - 1 in
+    let j = lo.loop-k.k - 1 in
     let z = get_or xs j (pos 0) in
     let l : length xs ≡ 8 = search rules in
     let i : lo.loop.k ≡ j + 1 = omega arith in
-    let e : c.divisor-with.result ≡ gcd (nat_abs z) lo.loop.r = c.divisor-with.ensures ∙ ap (λ (y : ℤ). gcd (nat_abs y) lo.loop.r) (result_is w16 z c.before.divisor-with-arg.given) in (
+    let e : c.divisor-with.result ≡ gcd (nat_abs z) lo.loop.r = c.divisor_with-r.ensures ∙ ap (λ (y : ℤ). gcd (nat_abs y) lo.loop-k.r) (result_is w16 z c.before.divisor_with-arg-1.given) in (
       omega arith,
-      e ∙ ap (gcd (nat_abs z)) (lo.loop.invariant.1 ∙ ap (λ (n : ℕ). common_from g (drop n xs)) i) ∙ sym (common-step xs j g (omega arith)),
-      subst (λ (n : ℕ). n ≤ 32768) (sym e) (gcd-small (nat_abs z) lo.loop.r (fits-small z (record { sfits = c.before.divisor-with-arg.given })) lo.loop.invariant.2),
+      e ∙ ap (gcd (nat_abs z)) (lo.loop-k.invariant.1 ∙ ap (λ (n : ℕ). common_from g (drop n xs)) i) ∙ sym (common-step xs j g (omega arith)),
+      subst (λ (n : ℕ). n ≤ 32768) (sym e) (gcd-small (nat_abs z) lo.loop-k.r (fits-small z (record { sfits = c.before.divisor_with-arg-1.given })) lo.loop-k.invariant.2),
     )
 
-returns-2 : tie.Need-returns-2 invariant-loop decreases-loop
+returns-2 : tie.Need-returns invariant-loop decreases-loop
 returns-2 c =
     let lo = c.before in
-    (lo.loop.invariant.1 ∙ ap (λ (k : ℕ). common_from lo.before.args.g (drop k lo.before.args.t1)) c.loop-test.false, lo.loop.invariant.2)
+    (lo.loop-k.invariant.1 ∙ ap (λ (k : ℕ). common_from lo.before.args.g (drop k lo.before.args.t1)) c.loop-k-test.false, lo.loop-k.invariant.2)
 
 pub common_spec : {M : Type 1} → statement M
 common_spec =

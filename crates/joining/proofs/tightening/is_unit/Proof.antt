@@ -12,14 +12,14 @@ use Rattle.joining.proofs.tightening.is_unit.Tie as tie
 use Rattle.joining.proofs.tightening.is_unit.Reads as reads
 use Rattle.joining.proofs.tightening.is_unit.Lts as lts
 
-returns : tie.Need-returns
-returns c = let e : c.before.args.x ≡ pos 1 = of_z-same c.before.ranges.x (record { sfits = omega arith }) c.if1.true in sym (ap is_unit e)
+returns : tie.Need-returns-then-x-eq1
+returns c = let e : c.before.args.x ≡ pos 1 = of_z-same c.before.ranges.x (record { sfits = omega arith }) c.if-x-eq1.true in sym (ap is_unit e)
 
-returns-2 : tie.Need-returns-2
-returns-2 c = let e : c.before.before.args.x ≡ negsuc 0 = of_z-same c.before.before.ranges.x (record { sfits = omega arith }) c.if2.true in sym (ap is_unit e)
+returns-2 : tie.Need-returns-then-x-eqminus1
+returns-2 c = let e : c.before.before.args.x ≡ negsuc 0 = of_z-same c.before.before.ranges.x (record { sfits = omega arith }) c.if-x-eqminus1.true in sym (ap is_unit e)
 
-returns-3 : tie.Need-returns-3
-returns-3 c = not-unit c.before.before.args.x (λ e. c.before.if1.false (ap (of_z w16) e)) (λ e. c.if2.false (ap (of_z w16) e))
+returns-3 : tie.Need-returns
+returns-3 c = not-unit c.before.before.args.x (λ e. c.before.if-x-eq1.false (ap (of_z w16) e)) (λ e. c.if-x-eqminus1.false (ap (of_z w16) e))
 
 pub is_unit_spec : {M : Type 1} → statement M
 is_unit_spec = tie.close (tie.spec returns returns-2 returns-3)

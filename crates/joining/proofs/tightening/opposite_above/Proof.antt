@@ -10,20 +10,20 @@ use Rattle.joining.proofs.tightening.opposite_above.Lts as lts
 use Rattle.joining.proofs.opposites.above.Reads as above-reads
 use Rattle.joining.proofs.tightening.tight_above.Reads as tight-above-reads
 
-tight-above-requires : tie.Need-tight-above-requires
+tight-above-requires : tie.Need-tight_above-requires
 tight-above-requires c κs = c.before.requires.1
 
-returns : tie.Need-returns
-returns c = c.tight-above.ensures
+returns : tie.Need-returns-then-void
+returns c = c.tight_above.ensures
 
 above-requires : tie.Need-above-requires
 above-requires c κs = c.before.requires.1
 
-returns-2 : tie.Need-returns-2
+returns-2 : tie.Need-returns
 returns-2 c =
     let s = c.before.before in
     let r = constraint_of s.args.c in
-    c.above.ensures ∙ sym (tight-above r (ap kind_is s.requires.0) (sym s.requires.2.void ∙ c.before.if1.false) ∙ ap C.above (s.requires.2.tight c.before.if1.false))
+    c.above.ensures ∙ sym (tight-above r (ap kind_is s.requires.0) (sym s.requires.2.void ∙ c.before.if-void.false) ∙ ap C.above (s.requires.2.tight c.before.if-void.false))
 
 pub opposite_above_spec : {M : Type 1} → statement M
 opposite_above_spec = tie.close (tie.spec tight-above-requires returns above-requires returns-2)

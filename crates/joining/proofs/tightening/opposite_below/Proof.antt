@@ -10,20 +10,20 @@ use Rattle.joining.proofs.tightening.opposite_below.Lts as lts
 use Rattle.joining.proofs.opposites.below.Reads as below-reads
 use Rattle.joining.proofs.tightening.tight_below.Reads as tight-below-reads
 
-tight-below-requires : tie.Need-tight-below-requires
+tight-below-requires : tie.Need-tight_below-requires
 tight-below-requires c κs = c.before.requires.0
 
-returns : tie.Need-returns
-returns c = c.tight-below.ensures
+returns : tie.Need-returns-then-void
+returns c = c.tight_below.ensures
 
 below-requires : tie.Need-below-requires
 below-requires c κs = c.before.requires.0
 
-returns-2 : tie.Need-returns-2
+returns-2 : tie.Need-returns
 returns-2 c =
     let s = c.before.before in
     let r = constraint_of s.args.c in
-    c.below.ensures ∙ sym (tight-below r ∙ ap C.below (s.requires.1.tight c.before.if1.false))
+    c.below.ensures ∙ sym (tight-below r ∙ ap C.below (s.requires.1.tight c.before.if-void.false))
 
 pub opposite_below_spec : {M : Type 1} → statement M
 opposite_below_spec = tie.close (tie.spec tight-below-requires returns below-requires returns-2)

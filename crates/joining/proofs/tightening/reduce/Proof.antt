@@ -12,42 +12,42 @@ use Rattle.joining.proofs.tightening.reduce.Tie as tie
 use Rattle.joining.proofs.tightening.reduce.Reads as reads
 use Rattle.joining.proofs.tightening.reduce.Lts as lts
 
-content-requires : tie.Need-content-requires
+content-requires : tie.Need-content-g-requires
 content-requires c κs = search rules
 
 undivided-requires : tie.Need-undivided-requires
 undivided-requires c κs = search rules
 
 -- what `undivided` says of the rule
-tested : (c : tie.After-undivided) → c.undivided.result ≡ T.undivided (kind_is c.before.before.before.before.before.before.args.c.equality) c.before.before.content.result c.before.before.before.before.before.before.args.c.constant
+tested : (c : tie.After-undivided) → c.undivided.result ≡ T.undivided (kind_is c.before.before.before.before.before.before.args.c.equality) c.before.before.content-g.result c.before.before.before.before.before.before.args.c.constant
 tested c =
     let r = c.before.before.before.before.before.before.args.c in
     let f : SFits w32 r.constant = search rules in
-    c.undivided.ensures ∙ ap (T.undivided (kind_is r.equality) c.before.before.content.result) (to_z_of_z f)
+    c.undivided.ensures ∙ ap (T.undivided (kind_is r.equality) c.before.before.content-g.result) (to_z_of_z f)
 
-returns : tie.Need-returns
+returns : tie.Need-returns-then-undivided
 returns c =
     let r = constraint_of c.before.before.before.before.before.before.before.args.c in
-    let g = c.before.before.before.content in
-    let h = c.before.before.if1.true in
-    let u = sym (tested c.before) ∙ c.if2.true in
+    let g = c.before.before.before.content-g in
+    let h = c.before.before.if-g-gt1.true in
+    let u = sym (tested c.before) ∙ c.if-undivided.true in
     record { void = sym u ∙ void-over r g.result g.ensures.is h; rule = reduced-void r g.result g.ensures.is h u }
 
-divided-down-requires : tie.Need-divided-down-requires
-divided-down-requires c κs = let g = c.before.before.before.content.ensures.few in let h = c.before.before.if1.true in (omega arith, omega arith)
+divided-down-requires : tie.Need-divided_down-rule-requires
+divided-down-requires c κs = let g = c.before.before.before.content-g.ensures.few in let h = c.before.before.if-g-gt1.true in (omega arith, omega arith)
 
-returns-2 : tie.Need-returns-2
+returns-2 : tie.Need-returns-then-g-gt1
 returns-2 c =
     let r = constraint_of c.before.before.before.before.before.before.before.before.args.c in
-    let g = c.before.before.before.before.content in
-    let h = c.before.before.before.if1.true in
-    let u = sym (tested c.before.before) ∙ c.before.if2.false in
-    record { void = sym u ∙ void-over r g.result g.ensures.is h; rule = c.divided-down.ensures ∙ reduced-over r g.result g.ensures.is h u }
+    let g = c.before.before.before.before.content-g in
+    let h = c.before.before.before.if-g-gt1.true in
+    let u = sym (tested c.before.before) ∙ c.before.if-undivided.false in
+    record { void = sym u ∙ void-over r g.result g.ensures.is h; rule = c.divided_down-rule.ensures ∙ reduced-over r g.result g.ensures.is h u }
 
-returns-3 : tie.Need-returns-3
+returns-3 : tie.Need-returns
 returns-3 c =
     let r = constraint_of c.before.before.before.before.before.args.c in
-    let g = c.before.content in
+    let g = c.before.content-g in
     record { void = void-plain r g.result g.ensures.is (λ h. omega arith); rule = reduced-plain r g.result g.ensures.is (λ h. omega arith) }
 
 pub reduce_spec : {M : Type 1} → statement M

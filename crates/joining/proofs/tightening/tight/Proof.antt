@@ -9,24 +9,24 @@ use Rattle.joining.proofs.tightening.tight.Tie as tie
 use Rattle.joining.proofs.tightening.tight.Reads as reads
 use Rattle.joining.proofs.tightening.tight.Lts as lts
 
-content-requires : tie.Need-content-requires
+content-requires : tie.Need-content-divisor-requires
 content-requires c κs = search rules
 
-divided-down-requires : tie.Need-divided-down-requires
-divided-down-requires c κs = let g = c.before.content.ensures.few in let h = c.if1.true in (omega arith, omega arith)
+divided-down-requires : tie.Need-divided_down-requires
+divided-down-requires c κs = let g = c.before.content-divisor.ensures.few in let h = c.if-divisor-gt1.true in (omega arith, omega arith)
 
-returns : tie.Need-returns
+returns : tie.Need-returns-then-divisor-gt1
 returns c =
     let s = c.before.before.before.before.before in
-    let g = c.before.before.content in
-    let t = c.before.if1.true in
+    let g = c.before.before.content-divisor in
+    let t = c.before.if-divisor-gt1.true in
     let h : 1 < g.result = omega arith in
-    c.divided-down.ensures ∙ tight-over (constraint_of s.args.c) g.result g.ensures.is h
+    c.divided_down.ensures ∙ tight-over (constraint_of s.args.c) g.result g.ensures.is h
 
-returns-2 : tie.Need-returns-2
+returns-2 : tie.Need-returns
 returns-2 c =
     let s = c.before.before.before.before in
-    let g = c.before.content in
+    let g = c.before.content-divisor in
     tight-plain (constraint_of s.args.c) g.result g.ensures.is (λ h. omega arith)
 
 pub tight_spec : {M : Type 1} → statement M

@@ -8,14 +8,14 @@ use Rattle.joining.proofs.tightening.tight_above.Lts as lts
 use Rattle.joining.proofs.opposites.above.Reads as above-reads
 use Rattle.joining.proofs.tightening.tight.Reads as tight-reads
 
-above-requires : tie.Need-above-requires
+above-requires : tie.Need-above-o-requires
 above-requires c κs = search rules
 
 tight-requires : tie.Need-tight-requires
 tight-requires c κs = search rules
 
 returns : tie.Need-returns
-returns c = c.tight.ensures ∙ ap T.tight c.before.above.ensures
+returns c = c.tight.ensures ∙ ap T.tight c.before.above-o.ensures
 
 pub tight_above_spec : {M : Type 1} → statement M
 tight_above_spec = tie.close (tie.spec above-requires tight-requires returns)

@@ -8,14 +8,14 @@ use Rattle.joining.proofs.tightening.tight_below.Lts as lts
 use Rattle.joining.proofs.opposites.below.Reads as below-reads
 use Rattle.joining.proofs.tightening.tight.Reads as tight-reads
 
-below-requires : tie.Need-below-requires
+below-requires : tie.Need-below-o-requires
 below-requires c κs = search rules
 
 tight-requires : tie.Need-tight-requires
 tight-requires c κs = search rules
 
 returns : tie.Need-returns
-returns c = c.tight.ensures ∙ ap T.tight c.before.below.ensures
+returns c = c.tight.ensures ∙ ap T.tight c.before.below-o.ensures
 
 pub tight_below_spec : {M : Type 1} → statement M
 tight_below_spec = tie.close (tie.spec below-requires tight-requires returns)

@@ -17,44 +17,44 @@ use Rattle.joining.proofs.tightening.unit_in.Reads as reads
 use Rattle.joining.proofs.tightening.unit_in.Lts as lts
 use Rattle.joining.proofs.tightening.is_unit.Reads as is-unit-reads
 
-abbrev invariant-loop : tie.invariant-loop
+abbrev invariant-loop : tie.invariant-loop-i
 invariant-loop xs found₀ i₀ found i = (i ≤ 8) × ((found || any is_unit (drop i xs)) ≡ any is_unit xs)
 
-abbrev decreases-loop : tie.decreases-loop
+abbrev decreases-loop : tie.decreases-loop-i
 decreases-loop xs found₀ i₀ found i = 8 - i
 
-loop-holds : tie.Need-loop-init invariant-loop decreases-loop
+loop-holds : tie.Need-loop-i-init invariant-loop decreases-loop
 loop-holds c = (omega arith, refl)
 
-mul-is-unit : tie.Need-overflow-mul-is-unit invariant-loop decreases-loop
+mul-is-unit : tie.Need-offset_bounds-xs-i invariant-loop decreases-loop
 mul-is-unit c = search rules
 
-array-copy-out-is-unit : tie.Need-array-copy-out-is-unit invariant-loop decreases-loop
+array-copy-out-is-unit : tie.Need-bounds-xs-i invariant-loop decreases-loop
 array-copy-out-is-unit c = search rules
 
-is-unit-requires : tie.Need-is-unit-requires invariant-loop decreases-loop
+is-unit-requires : tie.Need-is_unit-requires invariant-loop decreases-loop
 is-unit-requires c κs = search rules
 
-add-i : tie.Need-overflow-add-i invariant-loop decreases-loop
+add-i : tie.Need-overflow_add-i invariant-loop decreases-loop
 add-i c = search rules
 
-loop-less : tie.Need-loop-smaller invariant-loop decreases-loop
+loop-less : tie.Need-loop-i-smaller invariant-loop decreases-loop
 loop-less c = search rules
 
-loop-again : tie.Need-loop-preserved invariant-loop decreases-loop
+loop-again : tie.Need-loop-i-preserved invariant-loop decreases-loop
 loop-again c =
     let u = c.before in
     let lo = u.before.before.before in
     let xs = lo.before.args.t1 in
-    let i = lo.loop.i in
+    let i = lo.loop-i.i in
     let l : length xs ≡ 8 = search rules in
-    let h = u.before.before.loop-test.true in
-    let e : u.is-unit.result ≡ is_unit (get_or xs i (pos 0)) = u.is-unit.ensures ∙ ap is_unit (result_is w16 (get_or xs i (pos 0)) u.before.is-unit-arg.given) in (
+    let h = u.before.before.loop-i-test.true in
+    let e : u.is-unit.result ≡ is_unit (get_or xs i (pos 0)) = u.is_unit.ensures ∙ ap is_unit (result_is w16 (get_or xs i (pos 0)) u.before.is_unit-arg-1.given) in (
       omega arith,
       ⊎_elim
-          (λ w. ap (λ (b : Bool). b || any is_unit (drop (i + 1) xs)) w.1 ∙ sym (found-yes is_unit xs i (omega arith) lo.loop.found (sym e ∙ w.0.taken)) ∙ lo.loop.invariant.1)
-          (λ w. ap (λ (b : Bool). b || any is_unit (drop (i + 1) xs)) w.1 ∙ found-no is_unit xs i (omega arith) lo.loop.found (sym e ∙ w.0.left) ∙ lo.loop.invariant.1)
-          c.if1.branch,
+          (λ w. ap (λ (b : Bool). b || any is_unit (drop (i + 1) xs)) w.1 ∙ sym (found-yes is_unit xs i (omega arith) lo.loop-i.found (sym e ∙ w.0.taken)) ∙ lo.loop-i.invariant.1)
+          (λ w. ap (λ (b : Bool). b || any is_unit (drop (i + 1) xs)) w.1 ∙ found-no is_unit xs i (omega arith) lo.loop-i.found (sym e ∙ w.0.left) ∙ lo.loop-i.invariant.1)
+          c.if-is_unit.branch,
     )
 
 returns : tie.Need-returns invariant-loop decreases-loop
@@ -62,7 +62,7 @@ returns c =
     let lo = c.before in
     let xs = lo.before.args.t1 in
     let l : length xs ≡ 8 = search rules in
-    sym (found-end lo.loop.found is_unit xs lo.loop.i (omega arith)) ∙ lo.loop.invariant.1
+    sym (found-end lo.loop-i.found is_unit xs lo.loop-i.i (omega arith)) ∙ lo.loop-i.invariant.1
 
 pub unit_in_spec : {M : Type 1} → statement M
 unit_in_spec =

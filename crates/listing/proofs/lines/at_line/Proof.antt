@@ -9,22 +9,22 @@ use Rattle.listing.proofs.lines.at_line.Tie as tie
 slice-aggregate-word : tie.Need-slice-aggregate-word
 slice-aggregate-word c = search rules
 
-word-requires : tie.Need-word-requires
+word-requires : tie.Need-word-at-requires
 word-requires c κs = search rules
 
-coordinates-requires : tie.Need-coordinates-requires
+coordinates-requires : tie.Need-coordinates-at-requires
 coordinates-requires c κs = search rules
 
-natural-requires : tie.Need-natural-requires
+natural-requires : tie.Need-natural-at-requires
 natural-requires c κs = search rules
 
 slice-aggregate-word-2 : tie.Need-slice-aggregate-word-2
 slice-aggregate-word-2 c = search rules
 
-word-requires-2 : tie.Need-word-requires-2
+word-requires-2 : tie.Need-word-requires
 word-requires-2 c κs = search rules
 
-same_length : tie.Need-same-length
+same_length : tie.Need-shape_of-out
 same_length c = search rules
 
 returns : tie.Need-returns
@@ -32,7 +32,7 @@ returns c =
     let at-natural = c.before.before.before.before.before.before.before in let at-coordinates = at-natural.before.before.before.before in
     let at-word = at-coordinates.before.before.before.before in let st = at-word.before.before.before.before in
     writes-same (omega arith) (at-text st.args.n st.args.p st.args.k)
-    (writes_more at-word.word.ensures (writes_more at-coordinates.coordinates.ensures (writes_more at-natural.natural.ensures c.before.before.word2.ensures)))
+    (writes_more at-word.word.ensures (writes_more at-coordinates.coordinates.ensures (writes_more at-natural.natural.ensures c.before.before.word.ensures)))
 
 pub at_line_spec : {M : Type 1} → statement M
 at_line_spec =

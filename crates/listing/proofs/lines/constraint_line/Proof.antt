@@ -7,19 +7,19 @@ use borrow.Author.Rules.{rules}
 use Rattle.listing.proofs.lines.constraint_line.Statement.{statement}
 use Rattle.listing.proofs.lines.constraint_line.Tie as tie
 
-kind-word-requires : tie.Need-kind-word-requires
+kind-word-requires : tie.Need-kind_word-at-requires
 kind-word-requires c κs = search rules
 
-u32-at-requires : tie.Need-u32-at-requires
+u32-at-requires : tie.Need-u32_at-requires
 u32-at-requires c κs = search rules
 
-number-requires : tie.Need-number-requires
+number-requires : tie.Need-number-at-requires
 number-requires c κs = search rules
 
-coefficients-requires : tie.Need-coefficients-requires
+coefficients-requires : tie.Need-coefficients-at-requires
 coefficients-requires c κs = search rules
 
-coefficients-requires-2 : tie.Need-coefficients-requires-2
+coefficients-requires-2 : tie.Need-coefficients-at-requires-2
 coefficients-requires-2 c κs = search rules
 
 slice-aggregate-word : tie.Need-slice-aggregate-word
@@ -28,7 +28,7 @@ slice-aggregate-word c = search rules
 word-requires : tie.Need-word-requires
 word-requires c κs = search rules
 
-same_length : tie.Need-same-length
+same_length : tie.Need-shape_of-out
 same_length c = search rules
 
 returns : tie.Need-returns

@@ -9,28 +9,28 @@ use Rattle.listing.proofs.lines.division_line.Tie as tie
 slice-aggregate-word : tie.Need-slice-aggregate-word
 slice-aggregate-word c = search rules
 
-word-requires : tie.Need-word-requires
+word-requires : tie.Need-word-at-requires
 word-requires c κs = search rules
 
-natural-requires : tie.Need-natural-requires
+natural-requires : tie.Need-natural-at-requires
 natural-requires c κs = search rules
 
-u32-at-requires : tie.Need-u32-at-requires
+u32-at-requires : tie.Need-u32_at-requires
 u32-at-requires c κs = search rules
 
-number-requires : tie.Need-number-requires
+number-requires : tie.Need-number-at-requires
 number-requires c κs = search rules
 
-coefficients-requires : tie.Need-coefficients-requires
+coefficients-requires : tie.Need-coefficients-at-requires
 coefficients-requires c κs = search rules
 
 slice-aggregate-word-2 : tie.Need-slice-aggregate-word-2
 slice-aggregate-word-2 c = search rules
 
-word-requires-2 : tie.Need-word-requires-2
+word-requires-2 : tie.Need-word-requires
 word-requires-2 c κs = search rules
 
-same_length : tie.Need-same-length
+same_length : tie.Need-shape_of-out
 same_length c = search rules
 
 returns : tie.Need-returns
@@ -41,7 +41,7 @@ returns c =
     writes-same (omega arith)
     (division-text st.args.n st.args.d at-u32-at.u32-at.result st.args.t.now st.requires.1 at-u32-at.u32-at.ensures.0)
     (writes_more at-word.word.ensures
-    (writes_more (writes_more at-natural.natural.ensures (writes_more at-number.number.ensures at-coefficients.coefficients.ensures)) c.before.before.word2.ensures))
+    (writes_more (writes_more at-natural.natural.ensures (writes_more at-number.number.ensures at-coefficients.coefficients.ensures)) c.before.before.word.ensures))
 
 pub division_line_spec : {M : Type 1} → statement M
 division_line_spec =

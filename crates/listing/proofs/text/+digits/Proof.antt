@@ -22,60 +22,60 @@ abbrev digits-below : ℕ → In 1 digits-kinds.ps
 digits-below t = and 1 digits-kinds.ps (falls 1 digits-kinds.ps ◌<◌ μ-digits t) digits.Pre
 
 digits-add-out :
-    (t : ℕ) → digits-lts.Need-overflow-add-out (digits-below t, digits.Post) (digits-at t) digits.Post
+    (t : ℕ) → digits-lts.Need-overflow_add-out (digits-below t, digits.Post) (digits-at t) digits.Post
 digits-add-out t c = search rules
 
 digits-cast-out :
-    (t : ℕ) → digits-lts.Need-overflow-cast-out (digits-below t, digits.Post) (digits-at t) digits.Post
+    (t : ℕ) → digits-lts.Need-overflow_cast-out (digits-below t, digits.Post) (digits-at t) digits.Post
 digits-cast-out t c = search rules
 
 digits-slice-write-out :
     (t : ℕ) →
-    digits-lts.Need-slice-write-out (digits-below t, digits.Post) (digits-at t) digits.Post
+    digits-lts.Need-bounds-out-at (digits-below t, digits.Post) (digits-at t) digits.Post
 digits-slice-write-out t c = search rules
 
 digits-add-result :
-    (t : ℕ) → digits-lts.Need-overflow-add-result (digits-below t, digits.Post) (digits-at t) digits.Post
+    (t : ℕ) → digits-lts.Need-overflow_add-result (digits-below t, digits.Post) (digits-at t) digits.Post
 digits-add-result t c = search rules
 
 digits-same-length :
-    (t : ℕ) → digits-lts.Need-same-length (digits-below t, digits.Post) (digits-at t) digits.Post
+    (t : ℕ) → digits-lts.Need-shape_of-out-then-n-lt10 (digits-below t, digits.Post) (digits-at t) digits.Post
 digits-same-length t c = simp length-set
 
 digits-returns :
-    (t : ℕ) → digits-lts.Need-returns (digits-below t, digits.Post) (digits-at t) digits.Post
+    (t : ℕ) → digits-lts.Need-returns-then-n-lt10 (digits-below t, digits.Post) (digits-at t) digits.Post
 digits-returns t c = writes-same (omega arith) (sym (digits-small c.before.before.args.n c.if1.true)) (writes_one c.before.before.args.out.now c.before.before.args.at (48 + c.before.before.args.n) (omega arith))
 
 digits-digits-requires :
     (t : ℕ) →
-    digits-lts.Need-digits-requires (digits-below t, digits.Post) (digits-at t) digits.Post
+    digits-lts.Need-digits-k-requires (digits-below t, digits.Post) (digits-at t) digits.Post
 digits-digits-requires t c κs = search rules
 
 digits-add-out-2 :
-    (t : ℕ) → digits-lts.Need-overflow-add-out-2 (digits-below t, digits.Post) (digits-at t) digits.Post
+    (t : ℕ) → digits-lts.Need-overflow_add-out-2 (digits-below t, digits.Post) (digits-at t) digits.Post
 digits-add-out-2 t c = search rules
 
 digits-cast-out-2 :
-    (t : ℕ) → digits-lts.Need-overflow-cast-out-2 (digits-below t, digits.Post) (digits-at t) digits.Post
+    (t : ℕ) → digits-lts.Need-overflow_cast-out-2 (digits-below t, digits.Post) (digits-at t) digits.Post
 digits-cast-out-2 t c = search rules
 
-digits-slice-write-out-2 : (t : ℕ) → digits-lts.Need-slice-write-out-2 (
+digits-slice-write-out-2 : (t : ℕ) → digits-lts.Need-bounds-out-k (
   digits-below t,
   digits.Post,
 ) (digits-at t) digits.Post
 digits-slice-write-out-2 t c = omega (arith, digits-room c.before.before.before.before.before.before.args.n c.before.before.before.before.before.before.ranges.n.fits, c.before.before.digits.ensures.wrote.end_is, c.before.before.digits.auto.0)
 
 digits-add-result-2 :
-    (t : ℕ) → digits-lts.Need-overflow-add-result-2 (digits-below t, digits.Post) (digits-at t) digits.Post
+    (t : ℕ) → digits-lts.Need-overflow_add-result-2 (digits-below t, digits.Post) (digits-at t) digits.Post
 digits-add-result-2 t c = omega (arith, digits-room c.before.before.before.before.before.before.args.n c.before.before.before.before.before.before.ranges.n.fits, c.before.before.digits.ensures.wrote.end_is, c.before.before.digits.auto.0)
 
 digits-same-length-2 :
     (t : ℕ) →
-    digits-lts.Need-same-length-2 (digits-below t, digits.Post) (digits-at t) digits.Post
+    digits-lts.Need-shape_of-out (digits-below t, digits.Post) (digits-at t) digits.Post
 digits-same-length-2 t c = length-set c.before.before.digits.new.0 c.before.before.digits.result (48 + c.before.before.before.before.before.before.args.n % 10) ∙ c.before.before.digits.auto.0
 
 digits-returns-2 :
-    (t : ℕ) → digits-lts.Need-returns-2 (digits-below t, digits.Post) (digits-at t) digits.Post
+    (t : ℕ) → digits-lts.Need-returns (digits-below t, digits.Post) (digits-at t) digits.Post
 digits-returns-2 t c =
     let st = c.before.before.before.before.before.before in let d = c.before.before.digits in
     let r = digits-room c.before.before.before.before.before.before.args.n c.before.before.before.before.before.before.ranges.n.fits in let e = d.ensures.wrote.end_is in let k = d.auto.0 in

@@ -9,22 +9,22 @@ use borrow.Author.Rules.{rules}
 use Rattle.listing.proofs.text.integer.Statement.{statement}
 use Rattle.listing.proofs.text.integer.Tie as tie
 
-magnitude-requires : tie.Need-magnitude-requires
+magnitude-requires : tie.Need-magnitude-m-requires
 magnitude-requires c κs = search rules
 
 slice-aggregate-word : tie.Need-slice-aggregate-word
 slice-aggregate-word c = search rules
 
-word-requires : tie.Need-word-requires
+word-requires : tie.Need-word-k-requires
 word-requires c κs = search rules
 
 digits-requires : tie.Need-digits-requires
 digits-requires c κs = search rules
 
-same_length : tie.Need-same-length
+same_length : tie.Need-shape_of-out-then-z-lt0
 same_length c = search rules
 
-returns : tie.Need-returns
+returns : tie.Need-returns-then-z-lt0
 returns c =
     let at-word = c.before.before.before.before.before.before in let at-if1 = at-word.before.before.before in let at-p10 = at-if1.before in
     let m = at-p10 in
@@ -36,10 +36,10 @@ returns c =
 natural-requires : tie.Need-natural-requires
 natural-requires c κs = search rules
 
-same-length-2 : tie.Need-same-length-2
+same-length-2 : tie.Need-shape_of-out
 same-length-2 c = search rules
 
-returns-2 : tie.Need-returns-2
+returns-2 : tie.Need-returns
 returns-2 c =
     let at-if1 = c.before.before.before.before in let at-p5 = at-if1.before in
     let m = at-p5 in

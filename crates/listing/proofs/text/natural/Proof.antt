@@ -7,17 +7,17 @@ use Rattle.listing.proofs.text.natural.Tie as tie
 slice-aggregate-word : tie.Need-slice-aggregate-word
 slice-aggregate-word c = search rules
 
-word-requires : tie.Need-word-requires
+word-requires : tie.Need-word-k-requires
 word-requires c κs = search rules
 
 digits-requires : tie.Need-digits-requires
 digits-requires c κs = search rules
 
-same_length : tie.Need-same-length
+same_length : tie.Need-shape_of-out
 same_length c = search rules
 
 returns : tie.Need-returns
-returns c = writes_more c.before.before.before.before.before.before.word.ensures c.before.before.digits.ensures
+returns c = writes_more c.before.before.before.before.before.before.word-k.ensures c.before.before.digits.ensures
 
 pub natural_spec : {M : Type 1} → statement M
 natural_spec =

@@ -9,47 +9,47 @@ use Rattle.listing.proofs.Writing.{wrote_none, wrote-copied, wrote-length}
 use Rattle.listing.proofs.text.word.Statement.{statement}
 use Rattle.listing.proofs.text.word.Tie as tie
 
-abbrev invariant-loop : tie.invariant-loop
+abbrev invariant-loop : tie.invariant-loop-i
 invariant-loop out₀ at w i₀ out i = (i ≤ length w) × Wrote (take i w) out₀ at (at + i) out
 
-abbrev decreases-loop : tie.decreases-loop
+abbrev decreases-loop : tie.decreases-loop-i
 decreases-loop out₀ at w i₀ out i = length w - i
 
-loop-holds : tie.Need-loop-init invariant-loop decreases-loop
+loop-holds : tie.Need-loop-i-init invariant-loop decreases-loop
 loop-holds c = (omega arith, rw add-zero (wrote_none c.args.out.now c.args.at (omega arith)))
 
-shared-slice-read-out : tie.Need-shared-slice-read-out invariant-loop decreases-loop
+shared-slice-read-out : tie.Need-bounds-w-i invariant-loop decreases-loop
 shared-slice-read-out c = omega arith
 
-add-out : tie.Need-overflow-add-out invariant-loop decreases-loop
+add-out : tie.Need-overflow_add-out invariant-loop decreases-loop
 add-out c = omega arith
 
-slice-write-out : tie.Need-slice-write-out invariant-loop decreases-loop
-slice-write-out c = omega (arith, wrote-length c.before.before.loop.invariant.1)
+slice-write-out : tie.Need-bounds-out-at invariant-loop decreases-loop
+slice-write-out c = omega (arith, wrote-length c.before.before.loop-i.invariant.1)
 
-add-i : tie.Need-overflow-add-i invariant-loop decreases-loop
+add-i : tie.Need-overflow_add-i invariant-loop decreases-loop
 add-i c = omega arith
 
-loop-less : tie.Need-loop-smaller invariant-loop decreases-loop
+loop-less : tie.Need-loop-i-smaller invariant-loop decreases-loop
 loop-less c = omega arith
 
-loop-again : tie.Need-loop-preserved invariant-loop decreases-loop
+loop-again : tie.Need-loop-i-preserved invariant-loop decreases-loop
 loop-again c =
     let in-loop = c.before.before in let st = in-loop.before in
     (omega arith, wrote-copied st.args.w.now st.args.out.now in-loop.loop.out st.args.at in-loop.loop.i (omega arith) (omega arith) in-loop.loop.invariant.1)
 
-add-result : tie.Need-overflow-add-result invariant-loop decreases-loop
+add-result : tie.Need-overflow_add-result invariant-loop decreases-loop
 add-result c = omega arith
 
-same_length : tie.Need-same-length invariant-loop decreases-loop
-same_length c = wrote-length c.before.loop.invariant.1
+same_length : tie.Need-shape_of-out invariant-loop decreases-loop
+same_length c = wrote-length c.before.loop-i.invariant.1
 
 returns : tie.Need-returns invariant-loop decreases-loop
 returns c =
     let st = c.before.before in
     let e : c.before.loop.i ≡ length st.args.w.now = omega arith in
     let t : take c.before.loop.i st.args.w.now ≡ st.args.w.now = rw e (take-length st.args.w.now) in
-    record { short = omega arith; wrote = subst (λ (n : ℕ). Wrote st.args.w.now st.args.out.now st.args.at (st.args.at + n) c.before.loop.out) e (rw t at c.before.loop.invariant.1) }
+    record { short = omega arith; wrote = subst (λ (n : ℕ). Wrote st.args.w.now st.args.out.now st.args.at (st.args.at + n) c.before.loop-i.out) e (rw t at c.before.loop-i.invariant.1) }
 
 pub word_spec : {M : Type 1} → statement M
 word_spec =

@@ -6,19 +6,19 @@ use borrow.Author.Rules.{rules}
 use Rattle.memory.proofs.ranks.forget_after.Statement.{statement}
 use Rattle.memory.proofs.ranks.forget_after.Tie as tie
 
-sub-forget : tie.Need-overflow-sub-forget
+sub-forget : tie.Need-slice_bounds-forget-count
 sub-forget c = search rules
 
-part-forget-start : tie.Need-slice-bounds-forget-start
+part-forget-start : tie.Need-slice_bounds-forget-start
 part-forget-start c = search rules
 
-part-forget-end : tie.Need-slice-bounds-forget-end
+part-forget-end : tie.Need-slice_bounds-forget-end
 part-forget-end c = search rules
 
 forget-requires : tie.Need-forget-requires
 forget-requires c κs = search rules
 
-same_length : tie.Need-same-length
+same_length : tie.Need-shape_of-heads
 same_length c = search rules
 
 returns : tie.Need-returns

@@ -5,19 +5,19 @@ use borrow.Author.Rules.{rules}
 use Rattle.memory.proofs.ranks.mark_newest.Statement.{statement}
 use Rattle.memory.proofs.ranks.mark_newest.Tie as tie
 
-sub-newest : tie.Need-overflow-sub-newest
+sub-newest : tie.Need-slice_bounds-newest-count
 sub-newest c = search rules
 
-part-newest-start : tie.Need-slice-bounds-newest-start
+part-newest-start : tie.Need-slice_bounds-newest-start
 part-newest-start c = search rules
 
-part-newest-end : tie.Need-slice-bounds-newest-end
+part-newest-end : tie.Need-slice_bounds-newest-end
 part-newest-end c = search rules
 
 newest-requires : tie.Need-newest-requires
 newest-requires c κs = search rules
 
-same_length : tie.Need-same-length
+same_length : tie.Need-shape_of-heads
 same_length c = search rules
 
 returns : tie.Need-returns

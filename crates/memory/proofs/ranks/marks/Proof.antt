@@ -10,40 +10,40 @@ use borrow.Author.Rules.{rules}
 use Rattle.memory.proofs.ranks.marks.Statement.{statement}
 use Rattle.memory.proofs.ranks.marks.Tie as tie
 
-abbrev invariant-loop : tie.invariant-loop
+abbrev invariant-loop : tie.invariant-loop-i
 invariant-loop ranks n₀ i₀ n i = (i ≤ length ranks) × (n ≤ i) × (n + marks (drop i ranks) ≡ marks ranks)
 
-abbrev decreases-loop : tie.decreases-loop
+abbrev decreases-loop : tie.decreases-loop-i
 decreases-loop ranks n₀ i₀ n i = length ranks - i
 
-loop-holds : tie.Need-loop-init invariant-loop decreases-loop
+loop-holds : tie.Need-loop-i-init invariant-loop decreases-loop
 loop-holds c = (omega arith, omega arith, omega arith)
 
-mul-if1 : tie.Need-overflow-mul-if1 invariant-loop decreases-loop
+mul-if1 : tie.Need-offset_bounds-ranks-i invariant-loop decreases-loop
 mul-if1 c = search rules
 
-shared-slice-read-if1 : tie.Need-shared-slice-read-if1 invariant-loop decreases-loop
+shared-slice-read-if1 : tie.Need-bounds-ranks-i invariant-loop decreases-loop
 shared-slice-read-if1 c = search rules
 
-add-n : tie.Need-overflow-add-n invariant-loop decreases-loop
+add-n : tie.Need-overflow_add-n invariant-loop decreases-loop
 add-n c = search rules
 
-add-i : tie.Need-overflow-add-i invariant-loop decreases-loop
+add-i : tie.Need-overflow_add-i invariant-loop decreases-loop
 add-i c = search rules
 
-loop-less : tie.Need-loop-smaller invariant-loop decreases-loop
+loop-less : tie.Need-loop-i-smaller invariant-loop decreases-loop
 loop-less c = search rules
 
-loop-again : tie.Need-loop-preserved invariant-loop decreases-loop
+loop-again : tie.Need-loop-i-preserved invariant-loop decreases-loop
 loop-again c =
-    let m = c.before.before.before in let l = m.loop in let r = m.before.args.ranks.now in
-    let t = c.before.before.loop-test.true in
+    let m = c.before.before.before in let l = m.loop-i in let r = m.before.args.ranks.now in
+    let t = c.before.before.loop-i-test.true in
     ⊎_elim (λ w. let q = marks-more r l.i l.n t w.0.taken in (omega arith, omega arith, omega (arith, l.invariant.2)))
-    (λ w. let q = marks-skip r l.i l.n t w.0.left in (omega arith, omega arith, omega (arith, l.invariant.2))) c.if1.branch
+    (λ w. let q = marks-skip r l.i l.n t w.0.left in (omega arith, omega arith, omega (arith, l.invariant.2))) c.if-ranks-i-ne0.branch
 
 returns : tie.Need-returns invariant-loop decreases-loop
 returns c =
-    let m = c.before in let l = m.loop in let q = marks-end m.before.args.ranks.now l.i c.loop-test.false in
+    let m = c.before in let l = m.loop-i in let q = marks-end m.before.args.ranks.now l.i c.loop-i-test.false in
     (omega (arith, l.invariant.2), omega (arith, l.invariant.1))
 
 pub marks_spec : {M : Type 1} → statement M

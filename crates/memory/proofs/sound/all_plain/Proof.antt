@@ -10,51 +10,51 @@ use borrow.Author.Rules.{rules}
 use Rattle.memory.proofs.sound.all_plain.Statement.{statement}
 use Rattle.memory.proofs.sound.all_plain.Tie as tie
 
-abbrev invariant-loop : tie.invariant-loop
+abbrev invariant-loop : tie.invariant-loop-i
 invariant-loop r i₀ i = (length r ≡ 36) × (i ≤ 36) × (i % 2 ≡ 0) × (plain_words (drop i r) ≡ plain_words r)
 
-abbrev decreases-loop : tie.decreases-loop
+abbrev decreases-loop : tie.decreases-loop-i
 decreases-loop r i₀ i = 36 - i
 
-loop-holds : tie.Need-loop-init invariant-loop decreases-loop
+loop-holds : tie.Need-loop-i-init invariant-loop decreases-loop
 loop-holds c = (search rules, omega arith, omega arith, refl)
 
-mul-h : tie.Need-overflow-mul-h invariant-loop decreases-loop
+mul-h : tie.Need-offset_bounds-r-i invariant-loop decreases-loop
 mul-h c = search rules
 
-element-copy-out-h : tie.Need-element-copy-out-h invariant-loop decreases-loop
+element-copy-out-h : tie.Need-bounds-r-i invariant-loop decreases-loop
 element-copy-out-h c = search rules
 
-add-l : tie.Need-overflow-add-l invariant-loop decreases-loop
+add-l : tie.Need-overflow_add-l invariant-loop decreases-loop
 add-l c = search rules
 
-mul-l : tie.Need-overflow-mul-l invariant-loop decreases-loop
+mul-l : tie.Need-offset_bounds-r-i-in-loop-i invariant-loop decreases-loop
 mul-l c = search rules
 
-element-copy-out-l : tie.Need-element-copy-out-l invariant-loop decreases-loop
+element-copy-out-l : tie.Need-bounds-r-i-in-loop-i invariant-loop decreases-loop
 element-copy-out-l c = let j = c.before in let l = j.before.loop in let t = j.loop-test.true in omega (arith, l.invariant.0, l.invariant.2)
 
-is-plain-requires : tie.Need-is-plain-requires invariant-loop decreases-loop
+is-plain-requires : tie.Need-is_plain-requires invariant-loop decreases-loop
 is-plain-requires c κs = search rules
 
-returns : tie.Need-returns invariant-loop decreases-loop
+returns : tie.Need-returns-then-not-is_plain invariant-loop decreases-loop
 returns c =
     let i = c.before.before.before.before in let l = i.before.loop in let t = i.loop-test.true in
-    plain-stop _ l.i _ l.invariant.3 (omega (arith, l.invariant.0, l.invariant.2)) (sym c.before.is_plain.ensures ∙ not-true _ c.if1.true)
+    plain-stop _ l.i _ l.invariant.3 (omega (arith, l.invariant.0, l.invariant.2)) (sym c.before.is_plain.ensures ∙ not-true _ c.if-not-is_plain.true-raw)
 
-add-i : tie.Need-overflow-add-i invariant-loop decreases-loop
+add-i : tie.Need-overflow_add-i invariant-loop decreases-loop
 add-i c = search rules
 
-loop-less : tie.Need-loop-smaller invariant-loop decreases-loop
+loop-less : tie.Need-loop-i-smaller invariant-loop decreases-loop
 loop-less c = search rules
 
-loop-again : tie.Need-loop-preserved invariant-loop decreases-loop
+loop-again : tie.Need-loop-i-preserved invariant-loop decreases-loop
 loop-again c =
     let i = c.before.before.before.before in let l = i.before.loop in let t = i.loop-test.true in
-    (l.invariant.0, omega (arith, l.invariant.2), omega (arith, l.invariant.2), plain-next _ l.i _ l.invariant.3 (omega (arith, l.invariant.0, l.invariant.2)) (sym c.before.is_plain.ensures ∙ not-false _ c.if1.false))
+    (l.invariant.0, omega (arith, l.invariant.2), omega (arith, l.invariant.2), plain-next _ l.i _ l.invariant.3 (omega (arith, l.invariant.0, l.invariant.2)) (sym c.before.is_plain.ensures ∙ not-false _ c.if-not-is_plain.false-raw))
 
-returns-2 : tie.Need-returns-2 invariant-loop decreases-loop
-returns-2 c = let l = c.before.loop in let t = c.loop-test.false in plain_end _ l.i _ l.invariant.3 (omega (arith, l.invariant.0))
+returns-2 : tie.Need-returns invariant-loop decreases-loop
+returns-2 c = let l = c.before.loop-i in let t = c.loop-i-test.false in plain_end _ l.i _ l.invariant.3 (omega (arith, l.invariant.0))
 
 pub all_plain_spec : {M : Type 1} → statement M
 all_plain_spec =

@@ -28,11 +28,11 @@ other h l fh fl e = go (eqb l 0) refl
     go true q = sym (ap₂ plain_cell e (eqb-true l 0 q) ∙ not_plain)
     go false q = sym (plain h l fh fl (λ _ z. eqb-false l 0 q z))
 
-returns : tie.Need-returns
-returns c = let s = c.before in sym (plain s.args.h s.args.l s.ranges.h.fits s.ranges.l.fits (λ e. absurd (c.if1.true e)))
+returns : tie.Need-returns-then-h-ne-SIGN
+returns c = let s = c.before in sym (plain s.args.h s.args.l s.ranges.h.fits s.ranges.l.fits (λ e. absurd (c.if-h-ne-SIGN.true e)))
 
-returns-2 : tie.Need-returns-2
-returns-2 c = let s = c.before in other s.args.h s.args.l s.ranges.h.fits s.ranges.l.fits c.if1.false
+returns-2 : tie.Need-returns
+returns-2 c = let s = c.before in other s.args.h s.args.l s.ranges.h.fits s.ranges.l.fits c.if-h-ne-SIGN.false
 
 pub is_plain_spec : {M : Type 1} → statement M
 is_plain_spec = tie.close (tie.spec returns returns-2)

@@ -4,17 +4,17 @@ use borrow.Author.Rules.{rules}
 use Rattle.memory.proofs.sound.place_sound.Statement.{statement}
 use Rattle.memory.proofs.sound.place_sound.Tie as tie
 
-returns : tie.Need-returns
-returns c = rw (lt-ltb _ _ c.if1.true)
+returns : tie.Need-returns-then-p-m
+returns c = rw (lt-ltb _ _ c.if-p-m.true)
 
-returns-2 : tie.Need-returns-2
-returns-2 c = rw (le-ltb _ _ c.before.if1.false, lt-leb _ _ c.if2.true)
+returns-2 : tie.Need-returns-then-p-lt64
+returns-2 c = rw (le-ltb _ _ c.before.if-p-m.false, lt-leb _ _ c.if-p-lt64.true)
 
-add-result : tie.Need-overflow-add-result
+add-result : tie.Need-overflow_add-result
 add-result c = search rules
 
-returns-3 : tie.Need-returns-3
-returns-3 c = rw (le-ltb _ _ c.before.if1.false, le-leb _ _ c.if2.false)
+returns-3 : tie.Need-returns
+returns-3 c = rw (le-ltb _ _ c.before.if-p-m.false, le-leb _ _ c.if-p-lt64.false)
 
 pub place_sound_spec : {M : Type 1} → statement M
 place_sound_spec = tie.close (tie.spec returns returns-2 add-result returns-3)

@@ -12,51 +12,51 @@ use borrow.Author.Rules.{rules}
 use Rattle.memory.proofs.sound.rows_sound.Statement.{statement}
 use Rattle.memory.proofs.sound.rows_sound.Tie as tie
 
-abbrev invariant-loop : tie.invariant-loop
+abbrev invariant-loop : tie.invariant-loop-i
 invariant-loop t n i₀ i = (i ≤ length t) × (all (sound_row n) (drop i t) ≡ all (sound_row n) t)
 
-abbrev decreases-loop : tie.decreases-loop
+abbrev decreases-loop : tie.decreases-loop-i
 decreases-loop t n i₀ i = length t - i
 
-loop-holds : tie.Need-loop-init invariant-loop decreases-loop
+loop-holds : tie.Need-loop-i-init invariant-loop decreases-loop
 loop-holds c = (omega arith, refl)
 
-mul-r : tie.Need-overflow-mul-r invariant-loop decreases-loop
+mul-r : tie.Need-offset_bounds-t-i invariant-loop decreases-loop
 mul-r c = search rules
 
-shared-slice-copy-out-r : tie.Need-shared-slice-copy-out-r invariant-loop decreases-loop
+shared-slice-copy-out-r : tie.Need-bounds-t-i invariant-loop decreases-loop
 shared-slice-copy-out-r c = search rules
 
-has-length-requires : tie.Need-has-length-requires invariant-loop decreases-loop
+has-length-requires : tie.Need-has_length-requires invariant-loop decreases-loop
 has-length-requires c κs = search rules
 
-mul-row-sound : tie.Need-overflow-mul-row-sound invariant-loop decreases-loop
+mul-row-sound : tie.Need-offset_bounds-t-i-in-loop-i invariant-loop decreases-loop
 mul-row-sound c = search rules
 
-shared-slice-element-row-sound : tie.Need-shared-slice-element-row-sound invariant-loop decreases-loop
+shared-slice-element-row-sound : tie.Need-bounds-t-i-in-loop-i invariant-loop decreases-loop
 shared-slice-element-row-sound c = search rules
 
-row-sound-requires : tie.Need-row-sound-requires invariant-loop decreases-loop
+row-sound-requires : tie.Need-row_sound-requires invariant-loop decreases-loop
 row-sound-requires c κs = c.before.has-length.ensures
 
-returns : tie.Need-returns invariant-loop decreases-loop
+returns : tie.Need-returns-then-not-row_sound invariant-loop decreases-loop
 returns c =
     let j = c.before.before.before.before.before in let l = j.before.loop in
-    scan-stop [] _ _ l.i _ l.invariant.1 j.loop-test.true (sym c.before.row-sound.ensures ∙ not-true _ c.if1.true)
+    scan-stop [] _ _ l.i _ l.invariant.1 j.loop-test.true (sym c.before.row_sound.ensures ∙ not-true _ c.if-not-row_sound.true-raw)
 
-add-i : tie.Need-overflow-add-i invariant-loop decreases-loop
+add-i : tie.Need-overflow_add-i invariant-loop decreases-loop
 add-i c = search rules
 
-loop-less : tie.Need-loop-smaller invariant-loop decreases-loop
+loop-less : tie.Need-loop-i-smaller invariant-loop decreases-loop
 loop-less c = search rules
 
-loop-again : tie.Need-loop-preserved invariant-loop decreases-loop
+loop-again : tie.Need-loop-i-preserved invariant-loop decreases-loop
 loop-again c =
     let j = c.before.before.before.before.before in let l = j.before.loop in let t = j.loop-test.true in
-    (omega arith, scan-next [] _ _ l.i _ l.invariant.1 t (sym c.before.row-sound.ensures ∙ not-false _ c.if1.false))
+    (omega arith, scan-next [] _ _ l.i _ l.invariant.1 t (sym c.before.row_sound.ensures ∙ not-false _ c.if-not-row_sound.false-raw))
 
-returns-2 : tie.Need-returns-2 invariant-loop decreases-loop
-returns-2 c = let l = c.before.loop in scan-end [] _ _ l.i _ l.invariant.1 c.loop-test.false
+returns-2 : tie.Need-returns invariant-loop decreases-loop
+returns-2 c = let l = c.before.loop-i in scan-end [] _ _ l.i _ l.invariant.1 c.loop-i-test.false
 
 pub rows_sound_spec : {M : Type 1} → statement M
 rows_sound_spec =

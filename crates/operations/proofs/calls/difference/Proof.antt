@@ -15,7 +15,7 @@ use Rattle.results.proofs.finish.Reads as finish-reads
 use Rattle.results.proofs.refuse.Reads as refuse-reads
 
 -- src/calls.rt:78:9
-check-two-requires : tie.Need-check-two-requires
+check-two-requires : tie.Need-check_two-k-requires
 check-two-requires c κs = search rules
 
 -- src/calls.rt:80:9
@@ -23,37 +23,37 @@ refuse-requires : tie.Need-refuse-requires
 refuse-requires c κs = search rules
 
 -- src/calls.rt:80:9
-same_length : tie.Need-same-length
+same_length : tie.Need-shape_of-out-then-k-ne0
 same_length c = search rules
 
 -- src/calls.rt:80:9
-returns : tie.Need-returns
+returns : tie.Need-returns-then-k-ne0
 unfolding difference_bytes
 returns c =
     let a = c.before.before.before.before.before.before.before.before.before.args in
-    let k = c.before.before.before.before.before.check-two in
-    two-refused a.n a.a.now a.b.now (λ s t. result (difference_fits keeps s t) (length a.out.now) (C.difference keeps s t)) k.result (length a.out.now) (outcome_is c.before.before.refuse.result) c.before.before.refuse.new.1.0 k.ensures c.before.before.before.before.if1.true c.before.before.refuse.ensures
+    let k = c.before.before.before.before.before.check_two-k in
+    two-refused a.n a.a.now a.b.now (λ s t. result (difference_fits keeps s t) (length a.out.now) (C.difference keeps s t)) k.result (length a.out.now) (outcome_is c.before.before.refuse.result) c.before.before.refuse.new.1.0 k.ensures c.before.before.before.before.if-k-ne0.true c.before.before.refuse.ensures
 
 -- src/calls.rt:82:9
-subtract-requires : tie.Need-subtract-requires
-subtract-requires c κs = let a = c.before.before.before.before.before.before.args in sets_of a.n a.a.now a.b.now c.before.before.check-two.result c.before.before.check-two.ensures c.before.if1.false
+subtract-requires : tie.Need-subtract-d-requires
+subtract-requires c κs = let a = c.before.before.before.before.before.before.args in sets_of a.n a.a.now a.b.now c.before.before.check_two-k.result c.before.before.check_two-k.ensures c.before.if-k-ne0.false
 
 -- src/calls.rt:83:5
 finish-requires : tie.Need-finish-requires
 finish-requires c κs = search rules
 
 -- src/calls.rt:75:1
-same-length-2 : tie.Need-same-length-2
+same-length-2 : tie.Need-shape_of-out
 same-length-2 c = search rules
 
 -- src/calls.rt:75:1
-returns-2 : tie.Need-returns-2
+returns-2 : tie.Need-returns
 unfolding difference_bytes
 returns-2 c =
     let a = c.before.before.before.before.before.before.before.before.before.before.before.before.before.args in
-    let k = c.before.before.before.before.before.before.before.before.before.check-two in
-    let d = c.before.before.before.before.before.before.subtract in
-    two-given a.n a.a.now a.b.now k.result (difference_fits keeps) (C.difference keeps) a.out.now _ c.before.before.finish.new.1.0 d.result c.before.before.finish.result k.ensures c.before.before.before.before.before.before.before.before.if1.false d.auto.1.1.0 d.ensures c.before.before.finish.ensures
+    let k = c.before.before.before.before.before.before.before.before.before.check_two-k in
+    let d = c.before.before.before.before.before.before.subtract-d in
+    two-given a.n a.a.now a.b.now k.result (difference_fits keeps) (C.difference keeps) a.out.now _ c.before.before.finish.new.1.0 d.result c.before.before.finish.result k.ensures c.before.before.before.before.before.before.before.before.if-k-ne0.false d.auto.1.1.0 d.ensures c.before.before.finish.ensures
 
 pub difference_spec : {M : Type 1} → statement M
 difference_spec =

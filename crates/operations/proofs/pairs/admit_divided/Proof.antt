@@ -8,51 +8,51 @@ use Rattle.joining.proofs.tight_set.Reads as tight-set-reads
 use Rattle.operations.proofs.pairs.emit_kept.Reads as emit-kept-reads
 
 -- where none of the rules is void: the start, and the same from the call of emit_kept
-abbrev start : tie.Else1 → tie.Start
+abbrev start : tie.Else-none → tie.Start
 start c = c.before.before.before.before.before
 
-abbrev asked : tie.After-emit-kept-arg4 → tie.Else1
+abbrev asked : tie.After-emit_kept-arg-4-1 → tie.Else-none
 asked c = c.before.before.before.before.before
 
-tight-set-requires : tie.Need-tight-set-requires
+tight-set-requires : tie.Need-tight_set-t-requires
 tight-set-requires c κs = search rules
 
-returns : tie.Need-returns
+returns : tie.Need-returns-then-none
 returns c =
     let s = c.before.before.before.before.before in
-    let t = c.before.tight-set in
-    admit-void s.args.w t.result t.ensures s.args.out.now s.args.s c.if1.true s.requires.1
+    let t = c.before.tight_set-t in
+    admit-void s.args.w t.result t.ensures s.args.out.now s.args.s c.if-none.true s.requires.1
 
-emit-kept-requires : tie.Need-emit-kept-requires
+emit-kept-requires : tie.Need-emit_kept-requires
 emit-kept-requires c κs =
     let e = asked c in
     let s = start e in
-    let t = e.before.tight-set in
+    let t = e.before.tight_set-t in
     let given = s.pre.0 in
-    let tight = admit-sound s.args.w t.result t.ensures e.if1.left given in
+    let tight = admit-sound s.args.w t.result t.ensures e.if-none.left given in
     let ready = s.pre.1 in
     let tables = s.pre.2 in
     search rules
 
-same_length : tie.Need-same-length
+same_length : tie.Need-shape_of-out
 same_length c = search rules
 
-same-length-2 : tie.Need-same-length-2
+same-length-2 : tie.Need-shape_of-rows
 same-length-2 c = search rules
 
-same-length-3 : tie.Need-same-length-3
+same-length-3 : tie.Need-shape_of-place
 same-length-3 c = search rules
 
-same-length-4 : tie.Need-same-length-4
+same-length-4 : tie.Need-shape_of-kinds
 same-length-4 c = search rules
 
-returns-2 : tie.Need-returns-2
+returns-2 : tie.Need-returns
 returns-2 c =
     let k = c.before.before.before.before.before.before.before in
     let e = asked k.before in
     let s = start e in
-    let t = e.before.tight-set in
-    admit-tested s.args.w t.result t.ensures s.args.out.now s.args.s e.if1.left k.emit-kept.ensures
+    let t = e.before.tight_set-t in
+    admit-tested s.args.w t.result t.ensures s.args.out.now s.args.s e.if-none.left k.emit_kept.ensures
 
 pub admit_divided_spec : {M : Type 1} → statement M
 admit_divided_spec =

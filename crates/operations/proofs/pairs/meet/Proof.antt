@@ -17,79 +17,79 @@ use Rattle.operations.proofs.pairs.admit_divided.Reads as admit-divided-reads
 use Rattle.operations.proofs.pairs.emit_kept.Reads as emit-kept-reads
 
 -- where the two are one: the start, and the same from the two calls
-abbrev start : tie.Else1 → tie.Start
+abbrev start : tie.Else-not-fits → tie.Start
 start c = c.before.before.before.before.before
 
-abbrev divided : tie.After-admit-divided-arg4 → tie.Else1
+abbrev divided : tie.After-admit_divided-arg-then-any_divisible-3-1 → tie.Else-not-fits
 divided c = c.before.before.before.before.before.before.before
 
-abbrev plain : tie.After-emit-kept-arg4 → tie.Else2
+abbrev plain : tie.After-emit_kept-arg-4-1 → tie.Else-any_divisible
 plain c = c.before.before.before.before
 
-sound : (c : tie.Else1) → Sound c.before.both.result.set
+sound : (c : tie.Else-not-fits) → Sound c.before.both-c.result.set
 sound c =
     let s = start c in
-    let i = c.before.both in
-    meet-sound s.args.p s.args.v s.pre.0 i.result i.ensures (not-false i.result.fits c.if1.false)
+    let i = c.before.both-c in
+    meet-sound s.args.p s.args.v s.pre.0 i.result i.ensures (not-false i.result.fits c.if-not-fits.false-raw)
 
-both-requires : tie.Need-both-requires
+both-requires : tie.Need-both-c-requires
 both-requires c κs = search rules
 
-returns : tie.Need-returns
+returns : tie.Need-returns-then-not-fits
 returns c =
     let a = c.before.before.before.before.before.args in
-    let i = c.before.both in
-    emits-refused (meeting (basic_set_of a.p) (basic_set_of a.v)) (both_fits keeps (basic_set_of a.p) (basic_set_of a.v)) a.out.now a.out.now a.s _ _ (sym i.ensures.fits ∙ not-true i.result.fits c.if1.true)
+    let i = c.before.both-c in
+    emits-refused (meeting (basic_set_of a.p) (basic_set_of a.v)) (both_fits keeps (basic_set_of a.p) (basic_set_of a.v)) a.out.now a.out.now a.s _ _ (sym i.ensures.fits ∙ not-true i.result.fits c.if-not-fits.true-raw)
 
-any-divisible-requires : tie.Need-any-divisible-requires
+any-divisible-requires : tie.Need-any_divisible-requires
 any-divisible-requires c κs = (sound c.before).cons
 
-admit-divided-requires : tie.Need-admit-divided-requires
+admit-divided-requires : tie.Need-admit_divided-requires
 admit-divided-requires c κs = let e = divided c in (sound e, (start e).pre.1, (start e).pre.2)
 
-same_length : tie.Need-same-length
+same_length : tie.Need-shape_of-out-then-any_divisible
 same_length c = search rules
 
-same-length-2 : tie.Need-same-length-2
+same-length-2 : tie.Need-shape_of-rows-then-any_divisible
 same-length-2 c = search rules
 
-same-length-3 : tie.Need-same-length-3
+same-length-3 : tie.Need-shape_of-place-then-any_divisible
 same-length-3 c = search rules
 
-same-length-4 : tie.Need-same-length-4
+same-length-4 : tie.Need-shape_of-kinds-then-any_divisible
 same-length-4 c = search rules
 
-returns-2 : tie.Need-returns-2
+returns-2 : tie.Need-returns-then-any_divisible
 returns-2 c =
     let k = c.before.before.before.before.before.before.before in
     let e = divided k.before in
     let s = start e in
-    let i = e.before.both in
-    meet-admitted s.args.p s.args.v s.pre.0 i.result i.ensures (not-false i.result.fits e.if1.left) k.admit-divided.ensures
+    let i = e.before.both-c in
+    meet-admitted s.args.p s.args.v s.pre.0 i.result i.ensures (not-false i.result.fits e.if-not-fits.left) k.admit_divided.ensures
 
-emit-kept-requires : tie.Need-emit-kept-requires
+emit-kept-requires : tie.Need-emit_kept-requires
 emit-kept-requires c κs = let e = (plain c).before.before.before in (sound e, (start e).pre.1, (start e).pre.2)
 
-same-length-5 : tie.Need-same-length-5
+same-length-5 : tie.Need-shape_of-out
 same-length-5 c = search rules
 
-same-length-6 : tie.Need-same-length-6
+same-length-6 : tie.Need-shape_of-rows
 same-length-6 c = search rules
 
-same-length-7 : tie.Need-same-length-7
+same-length-7 : tie.Need-shape_of-place
 same-length-7 c = search rules
 
-same-length-8 : tie.Need-same-length-8
+same-length-8 : tie.Need-shape_of-kinds
 same-length-8 c = search rules
 
-returns-3 : tie.Need-returns-3
+returns-3 : tie.Need-returns
 returns-3 c =
     let k = c.before.before.before.before.before.before.before in
     let d = plain k.before in
     let e = d.before.before.before in
     let s = start e in
-    let i = e.before.both in
-    meet-admitted s.args.p s.args.v s.pre.0 i.result i.ensures (not-false i.result.fits e.if1.left) (admit-plain i.result.set (sym d.before.any-divisible.ensures ∙ d.if2.left) k.emit-kept.ensures)
+    let i = e.before.both-c in
+    meet-admitted s.args.p s.args.v s.pre.0 i.result i.ensures (not-false i.result.fits e.if-not-fits.left) (admit-plain i.result.set (sym d.before.any_divisible.ensures ∙ d.if-any_divisible.left) k.emit_kept.ensures)
 
 pub meet_spec : {M : Type 1} → statement M
 meet_spec =

@@ -16,75 +16,75 @@ use Rattle.operations.proofs.pairs.meet_all.Lts as lts
 use Rattle.records.proofs.decode_basic.Reads as decode-basic-reads
 use Rattle.operations.proofs.pairs.meet.Reads as meet-reads
 
-abbrev invariant-loop : tie.invariant-loop
+abbrev invariant-loop : tie.invariant-loop-pos
 invariant-loop p b out₀ rows₀ place₀ kinds₀ t₀ pos₀ out rows place kinds t pos = Along (SoundOver p) (meeting (basic_set_of p)) (both_fits keeps (basic_set_of p)) b out₀ t₀ rows place kinds out t pos
 
-abbrev decreases-loop : tie.decreases-loop
+abbrev decreases-loop : tie.decreases-loop-pos
 decreases-loop p b out₀ rows₀ place₀ kinds₀ t₀ pos₀ out rows place kinds t pos = length b - pos
 
-loop-holds : tie.Need-loop-init invariant-loop decreases-loop
+loop-holds : tie.Need-loop-pos-init invariant-loop decreases-loop
 loop-holds c =
     let st = c.before.before.before.before in
     let l = st.requires.0 in
     along-start (record { valid = l.valid; divs = l.divs; cons = l.cons }) l.here st.requires.2 st.requires.1
 
-add-decode-basic : tie.Need-overflow-add-decode-basic invariant-loop decreases-loop
-add-decode-basic c = omega (arith, c.loop-test.true)
+add-decode-basic : tie.Need-overflow_add-pos invariant-loop decreases-loop
+add-decode-basic c = omega (arith, c.loop-pos-test.true)
 
-decode-basic-requires : tie.Need-decode-basic-requires invariant-loop decreases-loop
-decode-basic-requires c κs = along-opened c.before.loop.invariant c.loop-test.true
+decode-basic-requires : tie.Need-decode_basic-v-requires invariant-loop decreases-loop
+decode-basic-requires c κs = along-opened c.before.loop-pos.invariant c.loop-pos-test.true
 
-meet-requires : tie.Need-meet-requires invariant-loop decreases-loop
+meet-requires : tie.Need-meet-t-requires invariant-loop decreases-loop
 meet-requires c κs =
-    let x = c.before.before.before.before.before.before.loop.invariant in
+    let x = c.before.before.before.before.before.before.loop-pos.invariant in
     let p = x.known in
-    let d = c.before.before.before.before.decode-basic.ensures in
-    let v = along-valid x c.before.before.before.before.before.loop-test.true d (bytes_of c.before.before.before.before.before.before.before.before.before.before.before.args.b.now (λ i. (c.before.before.before.before.before.before.before.before.before.before.shared-slice-known.given i).fits)) in
+    let d = c.before.before.before.before.decode_basic-v.ensures in
+    let v = along-valid x c.before.before.before.before.before.loop-pos-test.true d (bytes_of c.before.before.before.before.before.before.before.before.before.before.before.args.b.now (λ i. (c.before.before.before.before.before.before.before.before.before.before.shared_slice_known-1.given i).fits)) in
     (record { n = x.n; first = p.valid; second = v; divs = p.divs; cons = p.cons; divs' = d.divs; cons' = d.cons }, x.onward.ready, x.tables)
 
-same_length : tie.Need-same-length invariant-loop decreases-loop
-same_length c = c.before.before.before.before.before.before.before.before.meet.auto.1.1.0 ∙ c.before.before.before.before.before.before.before.before.before.before.before.before.before.before.before.loop.invariant.same
+same_length : tie.Need-shape_of-out-then-not-on invariant-loop decreases-loop
+same_length c = c.before.before.before.before.before.before.before.before.meet-t.auto.1.1.0 ∙ c.before.before.before.before.before.before.before.before.before.before.before.before.before.before.before.loop-pos.invariant.same
 
-same-length-2 : tie.Need-same-length-2 invariant-loop decreases-loop
-same-length-2 c = c.before.before.before.before.before.before.before.before.meet.auto.1.1.1.1.0 ∙ c.before.before.before.before.before.before.before.before.before.before.before.before.before.before.before.loop.invariant.tables.high ∙ sym c.before.before.before.before.before.before.before.before.before.before.before.before.before.before.before.before.before.before.before.before.requires.2.high
+same-length-2 : tie.Need-shape_of-rows-then-not-on invariant-loop decreases-loop
+same-length-2 c = c.before.before.before.before.before.before.before.before.meet-t.auto.1.1.1.1.0 ∙ c.before.before.before.before.before.before.before.before.before.before.before.before.before.before.before.loop-pos.invariant.tables.high ∙ sym c.before.before.before.before.before.before.before.before.before.before.before.before.before.before.before.before.before.before.before.before.requires.2.high
 
-same-length-3 : tie.Need-same-length-3 invariant-loop decreases-loop
-same-length-3 c = c.before.before.before.before.before.before.before.before.meet.auto.1.1.1.1.1.0 ∙ c.before.before.before.before.before.before.before.before.before.before.before.before.before.before.before.loop.invariant.tables.long ∙ sym c.before.before.before.before.before.before.before.before.before.before.before.before.before.before.before.before.before.before.before.before.requires.2.long
+same-length-3 : tie.Need-shape_of-place-then-not-on invariant-loop decreases-loop
+same-length-3 c = c.before.before.before.before.before.before.before.before.meet-t.auto.1.1.1.1.1.0 ∙ c.before.before.before.before.before.before.before.before.before.before.before.before.before.before.before.loop-pos.invariant.tables.long ∙ sym c.before.before.before.before.before.before.before.before.before.before.before.before.before.before.before.before.before.before.before.before.requires.2.long
 
-same-length-4 : tie.Need-same-length-4 invariant-loop decreases-loop
-same-length-4 c = c.before.before.before.before.before.before.before.before.meet.auto.1.1.1.1.1.1.0 ∙ c.before.before.before.before.before.before.before.before.before.before.before.before.before.before.before.loop.invariant.tables.wide ∙ sym c.before.before.before.before.before.before.before.before.before.before.before.before.before.before.before.before.before.before.before.before.requires.2.wide
+same-length-4 : tie.Need-shape_of-kinds-then-not-on invariant-loop decreases-loop
+same-length-4 c = c.before.before.before.before.before.before.before.before.meet-t.auto.1.1.1.1.1.1.0 ∙ c.before.before.before.before.before.before.before.before.before.before.before.before.before.before.before.loop-pos.invariant.tables.wide ∙ sym c.before.before.before.before.before.before.before.before.before.before.before.before.before.before.before.before.before.before.before.before.requires.2.wide
 
-returns : tie.Need-returns invariant-loop decreases-loop
-returns c = let m = c.before.before.before.before.before.before.before.before.meet in along-stop c.before.before.before.before.before.before.before.before.before.before.before.before.before.before.before.loop.invariant c.before.before.before.before.before.before.before.before.before.before.before.before.before.before.loop-test.true c.before.before.before.before.before.before.before.before.before.before.before.before.before.decode-basic.ensures m.ensures (not-true m.result.fits c.if1.true)
+returns : tie.Need-returns-then-not-on invariant-loop decreases-loop
+returns c = let m = c.before.before.before.before.before.before.before.before.meet-t in along-stop c.before.before.before.before.before.before.before.before.before.before.before.before.before.before.before.loop-pos.invariant c.before.before.before.before.before.before.before.before.before.before.before.before.before.before.loop-pos-test.true c.before.before.before.before.before.before.before.before.before.before.before.before.before.decode_basic-v.ensures m.ensures (not-true m.result.fits c.if-not-on.true-raw)
 
-add-end-of : tie.Need-overflow-add-end-of invariant-loop decreases-loop
-add-end-of c = let g = c.before.before.before.before.before.before.before.before.before.before.before.before.before.before.before.before.before.before.before.before.well-formed.1.0 in omega (arith, c.before.before.before.before.before.before.before.before.before.before.before.before.before.before.loop-test.true)
+add-end-of : tie.Need-overflow_add-pos-in-loop-pos invariant-loop decreases-loop
+add-end-of c = let g = c.before.before.before.before.before.before.before.before.before.before.before.before.before.before.before.before.before.before.before.before.well-formed.1.0 in omega (arith, c.before.before.before.before.before.before.before.before.before.before.before.before.before.before.loop-pos-test.true)
 
-end-of-requires : tie.Need-end-of-requires invariant-loop decreases-loop
-end-of-requires c κs = along-opened c.before.before.before.before.before.before.before.before.before.before.before.before.before.before.before.loop.invariant c.before.before.before.before.before.before.before.before.before.before.before.before.before.before.loop-test.true
+end-of-requires : tie.Need-end_of-pos-requires invariant-loop decreases-loop
+end-of-requires c κs = along-opened c.before.before.before.before.before.before.before.before.before.before.before.before.before.before.before.loop-pos.invariant c.before.before.before.before.before.before.before.before.before.before.before.before.before.before.loop-pos-test.true
 
-loop-less : tie.Need-loop-smaller invariant-loop decreases-loop
-loop-less c = let h = c.before.before.before.before.before.before.before.before.before.before.before.before.before.before.before.loop-test.true in omega (arith, c.end_of_lem.ensures)
+loop-less : tie.Need-loop-pos-smaller invariant-loop decreases-loop
+loop-less c = let h = c.before.before.before.before.before.before.before.before.before.before.before.before.before.before.before.loop-pos-test.true in omega (arith, c.end_of_lem.ensures)
 
-loop-again : tie.Need-loop-preserved invariant-loop decreases-loop
+loop-again : tie.Need-loop-pos-preserved invariant-loop decreases-loop
 loop-again c =
-    let m = c.before.before.before.before.before.before.before.before.before.meet in
-    along-next c.before.before.before.before.before.before.before.before.before.before.before.before.before.before.before.before.loop.invariant c.before.before.before.before.before.before.before.before.before.before.before.before.before.before.before.loop-test.true c.before.before.before.before.before.before.before.before.before.before.before.before.before.before.decode-basic.ensures m.ensures _ c.end_of_lem.ensures m.auto.1.1.0 m.auto.1.1.1.1.0 m.auto.1.1.1.1.1.0 m.auto.1.1.1.1.1.1.0 (not-false m.result.fits c.before.if1.false)
+    let m = c.before.before.before.before.before.before.before.before.before.meet-t in
+    along-next c.before.before.before.before.before.before.before.before.before.before.before.before.before.before.before.before.loop-pos.invariant c.before.before.before.before.before.before.before.before.before.before.before.before.before.before.before.loop-pos-test.true c.before.before.before.before.before.before.before.before.before.before.before.before.before.before.decode_basic-v.ensures m.ensures _ c.end_of_lem.ensures m.auto.1.1.0 m.auto.1.1.1.1.0 m.auto.1.1.1.1.1.0 m.auto.1.1.1.1.1.1.0 (not-false m.result.fits c.before.if-not-on.false-raw)
 
-same-length-5 : tie.Need-same-length-5 invariant-loop decreases-loop
-same-length-5 c = c.before.loop.invariant.same
+same-length-5 : tie.Need-shape_of-out invariant-loop decreases-loop
+same-length-5 c = c.before.loop-pos.invariant.same
 
-same-length-6 : tie.Need-same-length-6 invariant-loop decreases-loop
-same-length-6 c = c.before.loop.invariant.tables.high ∙ sym c.before.before.before.before.before.before.requires.2.high
+same-length-6 : tie.Need-shape_of-rows invariant-loop decreases-loop
+same-length-6 c = c.before.loop-pos.invariant.tables.high ∙ sym c.before.before.before.before.before.before.requires.2.high
 
-same-length-7 : tie.Need-same-length-7 invariant-loop decreases-loop
-same-length-7 c = c.before.loop.invariant.tables.long ∙ sym c.before.before.before.before.before.before.requires.2.long
+same-length-7 : tie.Need-shape_of-place invariant-loop decreases-loop
+same-length-7 c = c.before.loop-pos.invariant.tables.long ∙ sym c.before.before.before.before.before.before.requires.2.long
 
-same-length-8 : tie.Need-same-length-8 invariant-loop decreases-loop
-same-length-8 c = c.before.loop.invariant.tables.wide ∙ sym c.before.before.before.before.before.before.requires.2.wide
+same-length-8 : tie.Need-shape_of-kinds invariant-loop decreases-loop
+same-length-8 c = c.before.loop-pos.invariant.tables.wide ∙ sym c.before.before.before.before.before.before.requires.2.wide
 
-returns-2 : tie.Need-returns-2 invariant-loop decreases-loop
-returns-2 c = along-end c.before.loop.invariant c.loop-test.false
+returns-2 : tie.Need-returns invariant-loop decreases-loop
+returns-2 c = along-end c.before.loop-pos.invariant c.loop-pos-test.false
 
 pub meet_all_spec : {M : Type 1} → statement M
 meet_all_spec =

@@ -10,47 +10,47 @@ use Rattle.joining.proofs.tight_set.Reads as tight-set-reads
 use Rattle.operations.proofs.pairs.meet_all.Reads as meet-all-reads
 
 -- where none of the rules is void: the start, and the same from the call of meet_all
-abbrev start : tie.Else1 → tie.Start
+abbrev start : tie.Else-none → tie.Start
 start c = c.before.before.before.before.before.before
 
-abbrev asked : tie.After-meet-all-arg4 → tie.Else1
+abbrev asked : tie.After-meet_all-arg-4-1 → tie.Else-none
 asked c = c.before.before.before.before.before
 
-tight-set-requires : tie.Need-tight-set-requires
+tight-set-requires : tie.Need-tight_set-t-requires
 tight-set-requires c κs = search rules
 
-returns : tie.Need-returns
+returns : tie.Need-returns-then-none
 returns c =
     let s = c.before.before.before.before.before.before in
-    let t = c.before.tight-set in
-    first-void s.args.p t.result t.ensures s.args.out.now s.args.s (set_from s.args.b.now 0) c.if1.true s.requires.1
+    let t = c.before.tight_set-t in
+    first-void s.args.p t.result t.ensures s.args.out.now s.args.s (set_from s.args.b.now 0) c.if-none.true s.requires.1
 
-meet-all-requires : tie.Need-meet-all-requires
+meet-all-requires : tie.Need-meet_all-requires
 meet-all-requires c κs =
     let e = asked c in
     let s = start e in
-    let t = e.before.tight-set in
-    (first-level s.args.p t.result t.ensures e.if1.left s.pre.0, s.pre.1, s.pre.2)
+    let t = e.before.tight_set-t in
+    (first-level s.args.p t.result t.ensures e.if-none.left s.pre.0, s.pre.1, s.pre.2)
 
-same_length : tie.Need-same-length
+same_length : tie.Need-shape_of-out
 same_length c = search rules
 
-same-length-2 : tie.Need-same-length-2
+same-length-2 : tie.Need-shape_of-rows
 same-length-2 c = search rules
 
-same-length-3 : tie.Need-same-length-3
+same-length-3 : tie.Need-shape_of-place
 same-length-3 c = search rules
 
-same-length-4 : tie.Need-same-length-4
+same-length-4 : tie.Need-shape_of-kinds
 same-length-4 c = search rules
 
-returns-2 : tie.Need-returns-2
+returns-2 : tie.Need-returns
 returns-2 c =
     let m = c.before.before.before.before.before.before.before in
     let e = asked m.before in
     let s = start e in
-    let t = e.before.tight-set in
-    first-emits s.args.p t.result t.ensures s.args.out.now s.args.s (set_from s.args.b.now 0) e.if1.left m.meet_all.ensures
+    let t = e.before.tight_set-t in
+    first-emits s.args.p t.result t.ensures s.args.out.now s.args.s (set_from s.args.b.now 0) e.if-none.left m.meet_all.ensures
 
 pub meet_divided_spec : {M : Type 1} → statement M
 meet_divided_spec =

@@ -8,13 +8,13 @@ use Rattle.probe.proofs.asking.probe_member.Tie as tie
 member-requires : tie.Need-member-requires
 member-requires c κs = search rules
 
-member-number-requires : tie.Need-member-number-requires
+member-number-requires : tie.Need-member_number-requires
 member-number-requires c κs = search rules
 
 returns : tie.Need-returns
 returns c =
     let m = c.before in let st = m.before.before in let f = st.ranges in
-    c.member-number.ensures
+    c.member_number.ensures
     ∙ ap member_number
     (m.member.ensures ∙ ap (member_bytes st.args.n st.args.set.now) (search coordinates depth 12))
 

@@ -6,13 +6,13 @@ use Rattle.probe.proofs.Counted.{count-probed}
 use Rattle.probe.proofs.counts.probe_counts.Statement.{statement}
 use Rattle.probe.proofs.counts.probe_counts.Tie as tie
 
-counts-requires : tie.Need-counts-requires
+counts-requires : tie.Need-counts-r-requires
 counts-requires c κs = search rules
 
-count-number-requires : tie.Need-count-number-requires
+count-number-requires : tie.Need-count_number-requires
 count-number-requires c κs = search rules
 
-same_length : tie.Need-same-length
+same_length : tie.Need-shape_of-each
 same_length c = search rules
 
 returns : tie.Need-returns
@@ -21,13 +21,13 @@ returns c =
     let size = length st.args.each.now in
     record {
       answer =
-          count-probed (counts_bytes st.args.n size st.args.set.now _ _ st.args.axis st.args.limit) d.counts.result
-          (d.counts.ensures.0
+          count-probed (counts_bytes st.args.n size st.args.set.now _ _ st.args.axis st.args.limit) d.counts-r.result
+          (d.counts-r.ensures.is
           ∙ ap₂ (λ (l h : List ℤ). counted_is (counts_bytes st.args.n size st.args.set.now l h st.args.axis st.args.limit))
           (search coordinates depth 12) (search coordinates depth 12))
-          c.count-number.ensures;
+          c.count_number.ensures;
       counts =
-          d.counts.ensures.1
+          d.counts-r.ensures.table
           ∙ ap₂ (λ (l h : List ℤ). table_is size (counts_bytes st.args.n size st.args.set.now l h st.args.axis st.args.limit))
           (search coordinates depth 12) (search coordinates depth 12);
     }

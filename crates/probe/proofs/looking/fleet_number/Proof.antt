@@ -5,26 +5,26 @@ use Rattle.probe.specs.Fleets.{fleet_number}
 use Rattle.probe.proofs.looking.fleet_number.Statement.{statement}
 use Rattle.probe.proofs.looking.fleet_number.Tie as tie
 
-enum-known-r : tie.Need-enum-known-r
+enum-known-r : tie.Need-enum_known-r
 enum-known-r c = search rules
 
-cast-result : tie.Need-overflow-cast-result
+cast-result : tie.Need-overflow_cast-result
 cast-result c = search rules
 
-enum-known-r-2 : tie.Need-enum-known-r-2
+enum-known-r-2 : tie.Need-enum_known-r-in-Refused-1
 enum-known-r-2 c = search rules
 
-cast-result-2 : tie.Need-overflow-cast-result-2
+cast-result-2 : tie.Need-overflow_cast-result-in-Refused
 cast-result-2 c = search rules
 
-add-result : tie.Need-overflow-add-result
+add-result : tie.Need-overflow_add-result
 add-result c = search rules
 
-returns : tie.Need-returns
-returns c = sym (ap (λ (r : Looked). fleet_number (fleet_is r)) c.before.r.given.1)
+returns : tie.Need-returns-in-Seen
+returns c = sym (ap (λ (r : Looked). fleet_number (fleet_is r)) c.before.r-1.given.1)
 
-returns-2 : tie.Need-returns-2
-returns-2 c = sym (ap (λ (r : Looked). fleet_number (fleet_is r)) c.before.r2.given.1)
+returns-2 : tie.Need-returns-in-Refused
+returns-2 c = sym (ap (λ (r : Looked). fleet_number (fleet_is r)) c.before.r-in-Refused-1.given.1)
 
 pub fleet_number_spec : {M : Type 1} → statement M
 fleet_number_spec =

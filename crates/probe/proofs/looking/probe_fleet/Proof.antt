@@ -4,19 +4,19 @@ use Rattle.probe.specs.Fleets.{fleet_number}
 use Rattle.probe.proofs.looking.probe_fleet.Statement.{statement}
 use Rattle.probe.proofs.looking.probe_fleet.Tie as tie
 
-look-requires : tie.Need-look-requires
+look-requires : tie.Need-look-r-requires
 look-requires c κs = search rules
 
-mask-in-requires : tie.Need-mask-in-requires
+mask-in-requires : tie.Need-mask_in-requires
 mask-in-requires c κs = search rules
 
-fleet-number-requires : tie.Need-fleet-number-requires
+fleet-number-requires : tie.Need-fleet_number-requires
 fleet-number-requires c κs = search rules
 
 returns : tie.Need-returns
 returns c =
     let m = c.before in let l = m.before in
-    record { number = c.fleet-number.ensures ∙ ap fleet_number l.look.ensures; bits = m.mask-in.ensures ∙ ap mask_in l.look.ensures }
+    record { number = c.fleet_number.ensures ∙ ap fleet_number l.look-r.ensures; bits = m.mask_in.ensures ∙ ap mask_in l.look-r.ensures }
 
 pub probe_fleet_spec : {M : Type 1} → statement M
 probe_fleet_spec = tie.close (tie.spec look-requires mask-in-requires fleet-number-requires returns)

@@ -5,23 +5,23 @@ use Rattle.probe.specs.Numbers.{length_number}
 use Rattle.probe.proofs.numbers.length_number.Statement.{statement}
 use Rattle.probe.proofs.numbers.length_number.Tie as tie
 
-enum-known-o : tie.Need-enum-known-o
+enum-known-o : tie.Need-enum_known-o
 enum-known-o c = search rules
 
-enum-known-o-2 : tie.Need-enum-known-o-2
+enum-known-o-2 : tie.Need-enum_known-o-in-Refused-1
 enum-known-o-2 c = search rules
 
-cast-result : tie.Need-overflow-cast-result
+cast-result : tie.Need-overflow_cast-result
 cast-result c = search rules
 
-sub-result : tie.Need-overflow-sub-result
+sub-result : tie.Need-overflow_sub-result
 sub-result c = search rules
 
-returns : tie.Need-returns
+returns : tie.Need-returns-in-Length
 returns c = search rules
 
-returns-2 : tie.Need-returns-2
-returns-2 c = sym (ap (λ (o : Outcome). length_number (outcome_is o)) c.before.o2.given.1)
+returns-2 : tie.Need-returns-in-Refused
+returns-2 c = sym (ap (λ (o : Outcome). length_number (outcome_is o)) c.before.o-in-Refused-1.given.1)
 
 pub length_number_spec : {M : Type 1} → statement M
 length_number_spec =

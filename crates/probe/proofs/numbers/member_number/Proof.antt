@@ -5,29 +5,29 @@ use Rattle.probe.specs.Numbers.{member_number}
 use Rattle.probe.proofs.numbers.member_number.Statement.{statement}
 use Rattle.probe.proofs.numbers.member_number.Tie as tie
 
-enum_told : tie.Need-enum-told
+enum_told : tie.Need-enum_told-1
 enum_told c = search rules
 
-enum-told-2 : tie.Need-enum-told-2
+enum-told-2 : tie.Need-enum_told-in-Out
 enum-told-2 c = search rules
 
-enum-known-m : tie.Need-enum-known-m
+enum-known-m : tie.Need-enum_known-m
 enum-known-m c = search rules
 
-cast-result : tie.Need-overflow-cast-result
+cast-result : tie.Need-overflow_cast-result
 cast-result c = search rules
 
-add-result : tie.Need-overflow-add-result
+add-result : tie.Need-overflow_add-result
 add-result c = search rules
 
-returns : tie.Need-returns
+returns : tie.Need-returns-in-In
 returns c = search rules
 
-returns-2 : tie.Need-returns-2
+returns-2 : tie.Need-returns-in-Out
 returns-2 c = search rules
 
-returns-3 : tie.Need-returns-3
-returns-3 c = sym (ap (λ (m : Membership). member_number (member_is m)) c.before.m.given.1)
+returns-3 : tie.Need-returns-in-Refused
+returns-3 c = sym (ap (λ (m : Membership). member_number (member_is m)) c.before.m-1.given.1)
 
 pub member_number_spec : {M : Type 1} → statement M
 member_number_spec =

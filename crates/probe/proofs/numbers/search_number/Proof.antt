@@ -3,35 +3,35 @@ use Rattle.probe.specs.Numbers.{search_number}
 use Rattle.probe.proofs.numbers.search_number.Statement.{statement}
 use Rattle.probe.proofs.numbers.search_number.Tie as tie
 
-enum_told : tie.Need-enum-told
+enum_told : tie.Need-enum_told-1
 enum_told c = search rules
 
-enum-told-2 : tie.Need-enum-told-2
+enum-told-2 : tie.Need-enum_told-in-Nothing
 enum-told-2 c = search rules
 
-enum-told-3 : tie.Need-enum-told-3
+enum-told-3 : tie.Need-enum_told-in-Spent
 enum-told-3 c = search rules
 
-enum-known-o : tie.Need-enum-known-o
+enum-known-o : tie.Need-enum_known-o
 enum-known-o c = search rules
 
-cast-result : tie.Need-overflow-cast-result
+cast-result : tie.Need-overflow_cast-result
 cast-result c = search rules
 
-add-result : tie.Need-overflow-add-result
+add-result : tie.Need-overflow_add-result
 add-result c = search rules
 
-returns : tie.Need-returns
+returns : tie.Need-returns-in-At
 returns c = search rules
 
-returns-2 : tie.Need-returns-2
+returns-2 : tie.Need-returns-in-Nothing
 returns-2 c = search rules
 
-returns-3 : tie.Need-returns-3
+returns-3 : tie.Need-returns-in-Spent
 returns-3 c = search rules
 
-returns-4 : tie.Need-returns-4
-returns-4 c = sym (ap search_number c.before.o.given.1)
+returns-4 : tie.Need-returns-in-Refused
+returns-4 c = sym (ap search_number c.before.o-1.given.1)
 
 pub search_number_spec : {M : Type 1} → statement M
 search_number_spec =

@@ -6,16 +6,16 @@ use Rattle.probe.proofs.operating.probe_intersection.Tie as tie
 intersection-requires : tie.Need-intersection-requires
 intersection-requires c κs = search rules
 
-length-number-requires : tie.Need-length-number-requires
+length-number-requires : tie.Need-length_number-requires
 length-number-requires c κs = search rules
 
-same_length : tie.Need-same-length
+same_length : tie.Need-shape_of-out
 same_length c = search rules
 
 returns : tie.Need-returns
 returns c =
     let u = c.before.before.before.intersection.ensures in
-    record { number = c.length-number.ensures ∙ ap length_number u.answer; bytes = u.bytes }
+    record { number = c.length_number.ensures ∙ ap length_number u.answer; bytes = u.bytes }
 
 pub probe_intersection_spec : {M : Type 1} → statement M
 probe_intersection_spec =

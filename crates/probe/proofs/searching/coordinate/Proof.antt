@@ -3,16 +3,16 @@ use lib.ListN.{get_or-eq_default}
 use Rattle.probe.proofs.searching.coordinate.Statement.{statement}
 use Rattle.probe.proofs.searching.coordinate.Tie as tie
 
-mul-result : tie.Need-overflow-mul-result
+mul-result : tie.Need-offset_bounds-p-i
 mul-result c = search rules
 
-array-copy-out-result : tie.Need-array-copy-out-result
+array-copy-out-result : tie.Need-bounds-p-i
 array-copy-out-result c = search rules
 
-returns : tie.Need-returns
+returns : tie.Need-returns-then-i-lt-AXES
 returns c = search rules
 
-returns-2 : tie.Need-returns-2
+returns-2 : tie.Need-returns
 returns-2 c =
     let h : length c.before.args.t1 ≡ 8 = search rules in
     sym (get_or-eq_default c.before.args.t1 (pos 0) (omega arith))

@@ -6,7 +6,7 @@ use Rattle.search.specs.declared.first.FirstPoint.{FirstPoint}
 use Rattle.probe.proofs.searching.probe_coordinate.Statement.{statement}
 use Rattle.probe.proofs.searching.probe_coordinate.Tie as tie
 
-first-point-requires : tie.Need-first-point-requires
+first-point-requires : tie.Need-first_point-r-requires
 first-point-requires c κs = search rules
 
 coordinate-requires : tie.Need-coordinate-requires
@@ -17,7 +17,7 @@ returns c =
     let m = c.before.before in let st = m.before.before in let f = st.ranges in
     result_is w64 _ c.coordinate.type-inv ∙ c.coordinate.ensures
     ∙ ap (λ (a : FirstPoint). get_or a.point st.args.i (pos 0))
-    (m.first-point.ensures
+    (m.first_point-r.ensures
     ∙ ap₂ (λ (l h : List ℤ). answer_of (search_bytes st.args.n st.args.set.now l h st.args.limit))
     (search coordinates depth 12) (search coordinates depth 12))
 

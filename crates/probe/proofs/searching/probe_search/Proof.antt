@@ -7,16 +7,16 @@ use Rattle.probe.specs.Numbers.{search_number}
 use Rattle.probe.proofs.searching.probe_search.Statement.{statement}
 use Rattle.probe.proofs.searching.probe_search.Tie as tie
 
-first-point-requires : tie.Need-first-point-requires
+first-point-requires : tie.Need-first_point-r-requires
 first-point-requires c κs = search rules
 
-search-number-requires : tie.Need-search-number-requires
+search-number-requires : tie.Need-search_number-requires
 search-number-requires c κs = search rules
 
 returns : tie.Need-returns
 returns c =
     let st = c.before.before.before in let f = st.ranges in
-    c.search-number.ensures ∙ ap (λ (a : FirstPoint). search_number a.outcome) (c.before.first-point.ensures
+    c.search_number.ensures ∙ ap (λ (a : FirstPoint). search_number a.outcome) (c.before.first_point-r.ensures
     ∙ ap₂ (λ (l h : List ℤ). answer_of (search_bytes st.args.n st.args.set.now l h st.args.limit))
     (search coordinates depth 12) (search coordinates depth 12))
 

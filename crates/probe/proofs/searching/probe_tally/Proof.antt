@@ -6,13 +6,13 @@ use Rattle.search.specs.declared.first.FirstPoint.{FirstPoint}
 use Rattle.probe.proofs.searching.probe_tally.Statement.{statement}
 use Rattle.probe.proofs.searching.probe_tally.Tie as tie
 
-first-point-requires : tie.Need-first-point-requires
+first-point-requires : tie.Need-first_point-r-requires
 first-point-requires c κs = search rules
 
 returns : tie.Need-returns
 returns c =
     let st = c.before.before in let f = st.ranges in
-    ap (λ (a : FirstPoint). a.tested) (c.first-point.ensures
+    ap (λ (a : FirstPoint). a.tested) (c.first_point-r.ensures
     ∙ ap₂ (λ (l h : List ℤ). answer_of (search_bytes st.args.n st.args.set.now l h st.args.limit))
     (search coordinates depth 12) (search coordinates depth 12))
 

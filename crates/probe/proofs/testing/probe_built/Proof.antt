@@ -7,46 +7,46 @@ use Rattle.probe.proofs.testing.probe_built.Tie as tie
 check-requires : tie.Need-check-requires
 check-requires c κs = search rules
 
-returns : tie.Need-returns
+returns : tie.Need-returns-then-check-ne0
 returns c =
     let s = c.before.before.before.args in
-    built-refused s.n s.set.now s.k (λ e. c.if1.true (c.before.check.ensures ∙ e))
+    built-refused s.n s.set.now s.k (λ e. c.if-check-ne0.true (c.before.check.ensures ∙ e))
 
-returns-2 : tie.Need-returns-2
+returns-2 : tie.Need-returns-then-k-eq0
 returns-2 c =
     let s = c.before.before.before.before.args in
-    let z = sym c.before.before.check.ensures ∙ c.before.if1.false in
-    built-zero s.n s.set.now z ∙ ap (built_bytes s.n s.set.now) (sym c.if2.true)
+    let z = sym c.before.before.check.ensures ∙ c.before.if-check-ne0.false in
+    built-zero s.n s.set.now z ∙ ap (built_bytes s.n s.set.now) (sym c.if-k-eq0.true)
 
-sub-start-of : tie.Need-overflow-sub-start-of
+sub-start-of : tie.Need-overflow_sub-k
 sub-start-of c = search rules
 
-start-of-requires : tie.Need-start-of-requires
+start-of-requires : tie.Need-start_of-at-requires
 start-of-requires c κs =
     let s = c.before.before.before.before.args in
-    accepted s.n s.set.now (sym c.before.before.check.ensures ∙ c.before.if1.false)
+    accepted s.n s.set.now (sym c.before.before.check.ensures ∙ c.before.if-check-ne0.false)
 
-returns-3 : tie.Need-returns-3
+returns-3 : tie.Need-returns-then-set-at
 returns-3 c =
     let s = c.before.before.before.before.before.before.args in
     let o = c.before.start_of_lem in
-    let z = sym c.before.before.before.before.check.ensures ∙ c.before.before.before.if1.false in
-    built-none s.n s.set.now z s.k c.before.before.if2.false o.result o.ensures c.if3.true
+    let z = sym c.before.before.before.before.check.ensures ∙ c.before.before.before.if-check-ne0.false in
+    built-none s.n s.set.now z s.k c.before.before.if-k-eq0.false o.result o.ensures c.if-set-at.true
 
-add-decode-basic : tie.Need-overflow-add-decode-basic
+add-decode-basic : tie.Need-overflow_add-at
 add-decode-basic c = search rules
 
-decode-basic-requires : tie.Need-decode-basic-requires
+decode-basic-requires : tie.Need-decode_basic-requires
 decode-basic-requires c κs =
     let s = c.before.before.before.before.before.before.args in
     let o = c.before.start_of_lem in
-    let z = sym c.before.before.before.before.check.ensures ∙ c.before.before.before.if1.false in
-    asked-opened s.n s.set.now z s.k c.before.before.if2.false o.result o.ensures c.if3.false
+    let z = sym c.before.before.before.before.check.ensures ∙ c.before.before.before.if-check-ne0.false in
+    asked-opened s.n s.set.now z s.k c.before.before.if-k-eq0.false o.result o.ensures c.if-set-at.false
 
-built-alone-requires : tie.Need-built-alone-requires
+built-alone-requires : tie.Need-built_alone-requires
 built-alone-requires c κs = search rules
 
-returns-4 : tie.Need-returns-4
+returns-4 : tie.Need-returns
 returns-4 c =
     let d = c.before in
     let e = d.before in
@@ -54,10 +54,10 @@ returns-4 c =
     let t = o.before in
     let i = t.before in
     let s = i.before.before.before.args in
-    let z = sym i.before.check.ensures ∙ i.if1.false in
-    c.built-alone.ensures
-    ∙ built-some s.n s.set.now z s.k t.if2.false o.start_of_lem.result o.start_of_lem.ensures e.if3.false
-    d.decode-basic.result d.decode-basic.ensures
+    let z = sym i.before.check.ensures ∙ i.if-check-ne0.false in
+    c.built_alone.ensures
+    ∙ built-some s.n s.set.now z s.k t.if-k-eq0.false o.start_of_lem.result o.start_of_lem.ensures e.if-set-at.false
+    d.decode_basic.result d.decode_basic.ensures
 
 pub probe_built_spec : {M : Type 1} → statement M
 probe_built_spec =

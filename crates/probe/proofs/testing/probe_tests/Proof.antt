@@ -9,60 +9,60 @@ use Rattle.probe.proofs.testing.probe_tests.Tie as tie
 check-requires : tie.Need-check-requires
 check-requires c κs = search rules
 
-returns : tie.Need-returns
+returns : tie.Need-returns-then-check-ne0
 returns c =
     let s = c.before.before.before.args in
     let k = c.before.check in
     unmade s.times
-    (sym (ap pivots_number (asked-refused s.n s.set.now 1 k.result k.ensures c.if1.true)))
+    (sym (ap pivots_number (asked-refused s.n s.set.now 1 k.result k.ensures c.if-check-ne0.true)))
 
-start-of-requires : tie.Need-start-of-requires
+start-of-requires : tie.Need-start_of-at-requires
 start-of-requires c κs =
     let s = c.before.before.before in
-    accepted s.args.n s.args.set.now (sym c.before.check.ensures ∙ c.if1.false)
+    accepted s.args.n s.args.set.now (sym c.before.check.ensures ∙ c.if-check-ne0.false)
 
-returns-2 : tie.Need-returns-2
+returns-2 : tie.Need-returns-then-set-at
 returns-2 c =
     let s = c.before.before.before.before.before.args in
     let o = c.before.start_of_lem in
-    let z = sym c.before.before.before.check.ensures ∙ c.before.before.if1.false in
+    let z = sym c.before.before.before.check.ensures ∙ c.before.before.if-check-ne0.false in
     unmade s.times
     (sym (ap pivots_number
-    (asked-none s.n s.set.now z 1 (λ e. omega arith) o.result o.ensures c.if2.true)))
+    (asked-none s.n s.set.now z 1 (λ e. omega arith) o.result o.ensures c.if-set-at.true)))
 
-add-decode-basic : tie.Need-overflow-add-decode-basic
+add-decode-basic : tie.Need-overflow_add-at
 add-decode-basic c = search rules
 
-decode-basic-requires : tie.Need-decode-basic-requires
+decode-basic-requires : tie.Need-decode_basic-b-requires
 decode-basic-requires c κs =
     let s = c.before.before.before.before.before.args in
     let o = c.before.start_of_lem in
-    let z = sym c.before.before.before.check.ensures ∙ c.before.before.if1.false in
-    asked-opened s.n s.set.now z 1 (λ e. omega arith) o.result o.ensures c.if2.false
+    let z = sym c.before.before.before.check.ensures ∙ c.before.before.if-check-ne0.false in
+    asked-opened s.n s.set.now z 1 (λ e. omega arith) o.result o.ensures c.if-set-at.false
 
-slice-aggregate-tests : tie.Need-slice-aggregate-tests
+slice-aggregate-tests : tie.Need-slice_bounds-tests-end
 slice-aggregate-tests c = search rules
 
-slice-aggregate-tests-2 : tie.Need-slice-aggregate-tests-2
+slice-aggregate-tests-2 : tie.Need-slice_bounds-tests-end-2
 slice-aggregate-tests-2 c = search rules
 
-slice-aggregate-tests-3 : tie.Need-slice-aggregate-tests-3
+slice-aggregate-tests-3 : tie.Need-slice_bounds-tests-end-3
 slice-aggregate-tests-3 c = search rules
 
 tests-requires : tie.Need-tests-requires
 tests-requires c κs = search rules
 
-returns-3 : tie.Need-returns-3
+returns-3 : tie.Need-returns
 returns-3 c =
     let d = c.before.before.before.before.before.before.before in
     let e = d.before in
     let o = e.before in
     let s = o.before.before.before.before.args in
-    let z = sym o.before.before.check.ensures ∙ o.before.if1.false in
-    let b = d.decode-basic in
+    let z = sym o.before.before.check.ensures ∙ o.before.if-check-ne0.false in
+    let b = d.decode_basic-b in
     c.before.before.before.tests.ensures
     ∙ ap (λ (p : ℕ). (s.times * p) % 2 ^ 64)
-    (first-pivots s.n s.set.now z o.start_of_lem.result o.start_of_lem.ensures e.if2.false
+    (first-pivots s.n s.set.now z o.start_of_lem.result o.start_of_lem.ensures e.if-set-at.false
     b.result b.ensures)
 
 pub probe_tests_spec : {M : Type 1} → statement M

@@ -7,23 +7,23 @@ use Rattle.probe.specs.Values.{extent_number}
 use Rattle.probe.proofs.values.probe_greatest.Statement.{statement}
 use Rattle.probe.proofs.values.probe_greatest.Tie as tie
 
-greatest-requires : tie.Need-greatest-requires
+greatest-requires : tie.Need-greatest-x-requires
 greatest-requires c κs = search rules
 
-value-words-requires : tie.Need-value-words-requires
+value-words-requires : tie.Need-value_words-requires
 value-words-requires c κs = search rules
 
-extent-number-requires : tie.Need-extent-number-requires
+extent-number-requires : tie.Need-extent_number-requires
 extent-number-requires c κs = search rules
 
 returns : tie.Need-returns
 returns c =
     let m = c.before in let g = m.before in let st = g.before.before.before.before in let a = st.args in
-    let e : extent_is g.greatest.result ≡ extreme_bytes (negsuc 0) a.n a.set.now a.k (expression_by a.constant a.axes.now a.divisions.now) =
-    g.greatest.ensures ∙ ap (λ (z : ℤ). extreme_bytes (negsuc 0) a.n a.set.now a.k (expression_by z a.axes.now a.divisions.now)) (to_z_of_z st.ranges.constant) in
+    let e : extent_is g.greatest-x.result ≡ extreme_bytes (negsuc 0) a.n a.set.now a.k (expression_by a.constant a.axes.now a.divisions.now) =
+    g.greatest-x.ensures ∙ ap (λ (z : ℤ). extreme_bytes (negsuc 0) a.n a.set.now a.k (expression_by z a.axes.now a.divisions.now)) (to_z_of_z st.ranges.constant) in
     record {
-      number = c.extent-number.ensures ∙ ap extent_number e;
-      value = m.value-words.ensures ∙ ap value_words e;
+      number = c.extent_number.ensures ∙ ap extent_number e;
+      value = m.value_words.ensures ∙ ap value_words e;
     }
 
 pub probe_greatest_spec : {M : Type 1} → statement M

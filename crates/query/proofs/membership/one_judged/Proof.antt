@@ -21,28 +21,25 @@ module _ (st : tie.Start) where
   here : ConstraintAt st.pre.0.n st.args.s.now st.args.at st.pre.0.k
   here = judging-at st.args.s.now st.args.at ok st.pre.0 st.pre.1
 
-code-requires : tie.Need-code-requires
+code-requires : tie.Need-code-b-requires
 code-requires c κs = search rules
 
-body-requires : tie.Need-body-requires
+body-requires : tie.Need-body-t-requires
 body-requires c κs = (here c.before.before).whole
 
-still-requires : tie.Need-still-requires
+still-requires : tie.Need-still-holds-requires
 still-requires c κs =
     let st = c.before.before.before in
-    (subst (λ (t : List ℕ). constraint_body ≤ length t) (sym c.body.ensures) (here st).body, st.requires.2, st.requires.3)
+    (subst (λ (t : List ℕ). constraint_body ≤ length t) (sym c.body-t.ensures) (here st).body, st.requires.2, st.requires.3)
 
-next-requires : tie.Need-next-requires
+next-requires : tie.Need-next-next-requires
 next-requires c κs = (here c.before.before.before.before).whole
 
 returns : tie.Need-returns
 returns c =
-    let v = c.before in let b = v.before in let e = b.before in let st = e.before.before in let a = st.args in let w = (here st).whole.known in (
-      omega (arith, c.next.ensures),
-      subst (λ (p : ℕ). Judging a.s.now a.at (ok st) a.so p v.still.result) (sym c.next.ensures)
-          (judging-next a.s.now a.at (ok st) st.requires.0 st.requires.1 a.so v.still.result
-          (v.still.ensures ∙ ap₂ (λ (b : ℕ) (u : List ℕ). a.so && ok st (read_constraint (kind_of b) u)) e.code.ensures b.body.ensures)),
-    )
+    let v = c.before in let b = v.before in let e = b.before in let st = e.before.before in let a = st.args in let w = (here st).whole.known in record { past = omega (arith, c.next-next.ensures); judged = subst (λ (p : ℕ). Judging a.s.now a.at (ok st) a.so p v.still-holds.result) (sym c.next-next.ensures)
+          (judging-next a.s.now a.at (ok st) st.requires.0 st.requires.1 a.so v.still-holds.result
+          (v.still-holds.ensures ∙ ap₂ (λ (b : ℕ) (u : List ℕ). a.so && ok st (read_constraint (kind_of b) u)) e.code-b.ensures b.body-t.ensures)) }
 
 pub one_judged_spec : {M : Type 1} → statement M
 one_judged_spec = tie.close (tie.spec code-requires body-requires still-requires next-requires returns)

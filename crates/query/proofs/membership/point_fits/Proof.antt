@@ -14,44 +14,44 @@ use Rattle.query.proofs.Points.{fits_from, fits-start, fits_next, fits-stop, fit
 use Rattle.query.proofs.membership.point_fits.Statement.{statement}
 use Rattle.query.proofs.membership.point_fits.Tie as tie
 
-abbrev invariant-loop : tie.invariant-loop
+abbrev invariant-loop : tie.invariant-loop-i
 invariant-loop n point i₀ i = (i ≤ 8) × (length point ≡ 8) × (fits_from n i (drop i point) ≡ point_fits n point)
 
-abbrev decreases-loop : tie.decreases-loop
+abbrev decreases-loop : tie.decreases-loop-i
 decreases-loop n point i₀ i = 8 - i
 
-loop-holds : tie.Need-loop-init invariant-loop decreases-loop
+loop-holds : tie.Need-loop-i-init invariant-loop decreases-loop
 loop-holds c = (search rules, search rules, fits-start c.args.n c.args.t2)
 
-mul-z : tie.Need-overflow-mul-z invariant-loop decreases-loop
+mul-z : tie.Need-offset_bounds-point-i invariant-loop decreases-loop
 mul-z c = search rules
 
-array-copy-out-z : tie.Need-array-copy-out-z invariant-loop decreases-loop
+array-copy-out-z : tie.Need-bounds-point-i invariant-loop decreases-loop
 array-copy-out-z c = search rules
 
-coordinate-fits-requires : tie.Need-coordinate-fits-requires invariant-loop decreases-loop
+coordinate-fits-requires : tie.Need-coordinate_fits-requires invariant-loop decreases-loop
 coordinate-fits-requires c κs = search rules
 
-returns : tie.Need-returns invariant-loop decreases-loop
+returns : tie.Need-returns-then-not-coordinate_fits invariant-loop decreases-loop
 returns c =
-    let e = c.before in let i = e.before.before in let m = i.before in let st = m.before in let v = m.loop.invariant in
-    let z = to_z_of_z {w = w32} {z = get_or st.args.t2 m.loop.i (pos 0)} (record { sfits = e.before.z.given }) in
-    fits-stop st.args.n st.args.t2 m.loop.i v.2 (omega arith) (ap (coordinate_fits st.args.n m.loop.i) (sym z) ∙ sym e.coordinate-fits.ensures ∙ not-true _ c.if1.true)
+    let e = c.before in let i = e.before.before in let m = i.before in let st = m.before in let v = m.loop-i.invariant in
+    let z = to_z_of_z {w = w32} {z = get_or st.args.t2 m.loop-i.i (pos 0)} (record { sfits = e.before.z-1.given }) in
+    fits-stop st.args.n st.args.t2 m.loop-i.i v.2 (omega arith) (ap (coordinate_fits st.args.n m.loop-i.i) (sym z) ∙ sym e.coordinate_fits.ensures ∙ not-true _ c.if-not-coordinate_fits.true-raw)
 
-add-i : tie.Need-overflow-add-i invariant-loop decreases-loop
+add-i : tie.Need-overflow_add-i invariant-loop decreases-loop
 add-i c = search rules
 
-loop-less : tie.Need-loop-smaller invariant-loop decreases-loop
+loop-less : tie.Need-loop-i-smaller invariant-loop decreases-loop
 loop-less c = omega arith
 
-loop-again : tie.Need-loop-preserved invariant-loop decreases-loop
+loop-again : tie.Need-loop-i-preserved invariant-loop decreases-loop
 loop-again c =
-    let e = c.before in let i = e.before.before in let m = i.before in let st = m.before in let v = m.loop.invariant in
-    let z = to_z_of_z {w = w32} {z = get_or st.args.t2 m.loop.i (pos 0)} (record { sfits = e.before.z.given }) in
-    (omega arith, v.1, fits_next st.args.n st.args.t2 m.loop.i v.2 (omega arith) (ap (coordinate_fits st.args.n m.loop.i) (sym z) ∙ sym e.coordinate-fits.ensures ∙ not-false _ c.if1.false))
+    let e = c.before in let i = e.before.before in let m = i.before in let st = m.before in let v = m.loop-i.invariant in
+    let z = to_z_of_z {w = w32} {z = get_or st.args.t2 m.loop-i.i (pos 0)} (record { sfits = e.before.z-1.given }) in
+    (omega arith, v.1, fits_next st.args.n st.args.t2 m.loop-i.i v.2 (omega arith) (ap (coordinate_fits st.args.n m.loop-i.i) (sym z) ∙ sym e.coordinate_fits.ensures ∙ not-false _ c.if-not-coordinate_fits.false-raw))
 
-returns-2 : tie.Need-returns-2 invariant-loop decreases-loop
-returns-2 c = let m = c.before in let st = m.before in let v = m.loop.invariant in fits-end st.args.n st.args.t2 m.loop.i v.2 (omega arith)
+returns-2 : tie.Need-returns invariant-loop decreases-loop
+returns-2 c = let m = c.before in let st = m.before in let v = m.loop-i.invariant in fits-end st.args.n st.args.t2 m.loop-i.i v.2 (omega arith)
 
 pub point_fits_spec : {M : Type 1} → statement M
 point_fits_spec =

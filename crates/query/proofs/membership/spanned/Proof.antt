@@ -6,33 +6,33 @@ use borrow.Author.Rules.{rules}
 use Rattle.query.proofs.membership.spanned.Statement.{statement}
 use Rattle.query.proofs.membership.spanned.Tie as tie
 
-no-values-requires : tie.Need-no-values-requires
+no-values-requires : tie.Need-no_values-q-requires
 no-values-requires c κs = search rules
 
-slice-aggregate-divided : tie.Need-slice-aggregate-divided
+slice-aggregate-divided : tie.Need-slice_bounds-divided-end
 slice-aggregate-divided c = search rules
 
-divided-requires : tie.Need-divided-requires
+divided-requires : tie.Need-divided-p-requires
 divided-requires c κs = search rules
 
-array-share-prefix-q : tie.Need-array-share-prefix-q
+array-share-prefix-q : tie.Need-slice_bounds-q-end
 array-share-prefix-q c = search rules
 
-slice-aggregate-judged : tie.Need-slice-aggregate-judged
+slice-aggregate-judged : tie.Need-slice_bounds-judged-end
 slice-aggregate-judged c =
-    let d = c.before.before in let k = d.divided.auto.1.1.1.0 in let l = d.before.before.no-values.ensures.0 in let f = d.divided.ensures.few in
-    omega (arith, length-take d.divided.result.count d.divided.new.1.1.1.0)
+    let d = c.before.before in let k = d.divided-p.auto.1.1.1.0 in let l = d.before.before.no_values-q.ensures.0 in let f = d.divided-p.ensures.few in
+    omega (arith, length-take d.divided-p.result.count d.divided-p.new.1.1.1.0)
 
 judged-requires : tie.Need-judged-requires
 judged-requires c κs =
     let d = c.before.before in let st = d.before.before.before.before in
-    let k = d.divided.auto.1.1.1.0 in let l = d.before.before.no-values.ensures.0 in let f = d.divided.ensures.few in
-    (d.divided.ensures.past.there, st.requires.1, record { few = omega (arith, length-take d.divided.result.count d.divided.new.1.1.1.0); values = take_within _ d.divided.new.1.1.1.0 d.divided.result.count d.divided.ensures.values })
+    let k = d.divided-p.auto.1.1.1.0 in let l = d.before.before.no_values-q.ensures.0 in let f = d.divided-p.ensures.few in
+    (d.divided-p.ensures.past.there, st.requires.1, record { few = omega (arith, length-take d.divided-p.result.count d.divided-p.new.1.1.1.0); values = take_within _ d.divided-p.new.1.1.1.0 d.divided-p.result.count d.divided-p.ensures.values })
 
 returns : tie.Need-returns
 returns c =
     let d = c.before.before.before in let st = d.before.before.before.before in
-    spanned-is st.args.s.now st.args.start st.args.x.now d.divided.new.1.1.1.0 d.divided.result c.judged.result d.divided.ensures c.judged.ensures
+    spanned-is st.args.s.now st.args.start st.args.x.now d.divided-p.new.1.1.1.0 d.divided-p.result c.judged.result d.divided-p.ensures c.judged.ensures
 
 pub spanned_spec : {M : Type 1} → statement M
 spanned_spec =

@@ -5,15 +5,15 @@ use borrow.Author.Rules.{rules}
 use Rattle.query.proofs.membership.still.Statement.{statement}
 use Rattle.query.proofs.membership.still.Tie as tie
 
-holds-at-requires : tie.Need-holds-at-requires
+holds-at-requires : tie.Need-holds_at-requires
 holds-at-requires c κs =
     let st = c.before.before in let p = st.requires in
     (p.0, p.1.axes, p.2.few, all-mono (omega arith) p.1.point, p.2.values)
 
-returns : tie.Need-returns
-returns c = c.holds_at.ensures ∙ rw c.before.if1.true
+returns : tie.Need-returns-then-before
+returns c = c.holds_at.ensures ∙ rw c.before.if-before.true
 
-returns-2 : tie.Need-returns-2
+returns-2 : tie.Need-returns
 returns-2 c = search rules
 
 pub still_spec : {M : Type 1} → statement M

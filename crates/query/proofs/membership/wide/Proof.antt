@@ -5,7 +5,7 @@ use Rattle.integers.specs.Size.{fits-within, within-fits}
 use Rattle.query.proofs.membership.wide.Statement.{statement}
 use Rattle.query.proofs.membership.wide.Tie as tie
 
-cast-result : tie.Need-overflow-cast-result
+cast-result : tie.Need-overflow_cast-result
 cast-result c = rw (to_z_of_z c.ranges.z) (within-fits (omega arith) (fits-within c.ranges.z))
 
 returns : tie.Need-returns

@@ -17,20 +17,20 @@ kind-is b = by (is_equality b)
     by true = refl
     by false = refl
 
-i32-at-requires : tie.Need-i32-at-requires
+i32-at-requires : tie.Need-i32_at-c-requires
 i32-at-requires c κs = search rules
 
-coefficients-requires : tie.Need-coefficients-requires
+coefficients-requires : tie.Need-coefficients-a-requires
 coefficients-requires c κs = search rules
 
-coefficients-requires-2 : tie.Need-coefficients-requires-2
+coefficients-requires-2 : tie.Need-coefficients-e-requires
 coefficients-requires-2 c κs = search rules
 
-is-equality-requires : tie.Need-is-equality-requires
+is-equality-requires : tie.Need-is_equality-requires
 is-equality-requires c κs = search rules
 
 returns : tie.Need-returns
-returns q = let c = q.before in let a = c.before in let s = a.before in let e = result_is w32 s.i32-at.result s.i32-at.type-inv ∙ s.i32-at.ensures in let g = s.before.before.args in let k = ap kind_is q.is-equality.ensures ∙ kind-is g.b in λ i. record { kind = k i; number = g.m; constant = e i; axes = a.coefficients.ensures i; divisions = c.coefficients2.ensures i }
+returns q = let c = q.before in let a = c.before in let s = a.before in let e = result_is w32 s.i32_at-c.result s.i32_at-c.type-inv ∙ s.i32_at-c.ensures in let g = s.before.before.args in let k = ap kind_is q.is_equality.ensures ∙ kind-is g.b in λ i. record { kind = k i; number = g.m; constant = e i; axes = a.coefficients-a.ensures i; divisions = c.coefficients-e.ensures i }
 
 pub read_constraint_spec : {M : Type 1} → statement M
 read_constraint_spec =

@@ -6,17 +6,17 @@ use borrow.Author.Rules.{rules}
 use Rattle.records.proofs.decoding.read_division.Statement.{statement}
 use Rattle.records.proofs.decoding.read_division.Tie as tie
 
-i32-at-requires : tie.Need-i32-at-requires
+i32-at-requires : tie.Need-i32_at-c-requires
 i32-at-requires c κs = search rules
 
-coefficients-requires : tie.Need-coefficients-requires
+coefficients-requires : tie.Need-coefficients-a-requires
 coefficients-requires c κs = search rules
 
-cast-t5 : tie.Need-overflow-cast-t5
+cast-t5 : tie.Need-overflow_cast-result
 cast-t5 c = search rules
 
 returns : tie.Need-returns
-returns c = let s = c.before in let d = s.before.before.args.d in let e = result_is w32 s.i32-at.result s.i32-at.type-inv ∙ s.i32-at.ensures in λ i. record { divisor = d; constant = e i; axes = c.coefficients.ensures i }
+returns c = let s = c.before in let d = s.before.before.args.d in let e = result_is w32 s.i32_at-c.result s.i32_at-c.type-inv ∙ s.i32_at-c.ensures in λ i. record { divisor = d; constant = e i; axes = c.coefficients-a.ensures i }
 
 pub read_division_spec : {M : Type 1} → statement M
 read_division_spec =

@@ -12,39 +12,39 @@ use borrow.Author.Rules.{rules}
 use Rattle.records.proofs.writing.emit_division.Statement.{statement}
 use Rattle.records.proofs.writing.emit_division.Tie as tie
 
-add-if1 : tie.Need-overflow-add-if1
+add-if1 : tie.Need-overflow_add-at
 add-if1 c = search rules
 
-put-division-requires : tie.Need-put-division-requires
+put-division-requires : tie.Need-put_division-requires
 put-division-requires c κs = search rules
 
-same_length : tie.Need-same-length
+same_length : tie.Need-shape_of-out-then-at-out
 same_length c = search rules
 
-returns : tie.Need-returns
+returns : tie.Need-returns-then-at-out
 returns c = search rules
 
-slice-aggregate-put-division : tie.Need-slice-aggregate-put-division
+slice-aggregate-put-division : tie.Need-slice_bounds-put_division-end
 slice-aggregate-put-division c = search rules
 
-put-division-requires-2 : tie.Need-put-division-requires-2
+put-division-requires-2 : tie.Need-put_division-requires-2
 put-division-requires-2 c κs = search rules
 
-slice-aggregate-copy-bytes : tie.Need-slice-aggregate-copy-bytes
+slice-aggregate-copy-bytes : tie.Need-slice_bounds-copy_bytes-end
 slice-aggregate-copy-bytes c = search rules
 
-copy-bytes-requires : tie.Need-copy-bytes-requires
+copy-bytes-requires : tie.Need-copy_bytes-requires
 copy-bytes-requires c κs = search rules
 
-same-length-2 : tie.Need-same-length-2
+same-length-2 : tie.Need-shape_of-out
 same-length-2 c = search rules
 
-returns-2 : tie.Need-returns-2
+returns-2 : tie.Need-returns
 returns-2 c = let w = c.before.before in let b = w.before.before.before.before in let st = b.before.before.before.before in let e = st.args.e in
-    let n : length (encode_command (division (division_of e))) ≡ division_width (division_of e) = let x = b.put-division2.ensures.0.ends in let y = b.put-division2.ensures.1 in omega arith in
-    let l : b.put-division2.new.0 ≡ encode_command (division (division_of e)) = b.put-division2.ensures.0.bytes ∙ put-fresh (encode_command (division (division_of e))) _ (sym n) in
-    let q = w.copy-bytes.ensures.ends in
-    (subst (λ (l : List ℕ). Emitted l st.args.out.now st.args.at w.copy-bytes.result w.copy-bytes.new.1.0) l w.copy-bytes.ensures, omega (arith, ap length l))
+    let n : length (encode_command (division (division_of e))) ≡ division_width (division_of e) = let x = b.put_division-2.ensures.bytes.ends in let y = b.put_division-2.ensures.size in omega arith in
+    let l : b.put-division2.new.0 ≡ encode_command (division (division_of e)) = b.put_division-2.ensures.bytes.bytes ∙ put-fresh (encode_command (division (division_of e))) _ (sym n) in
+    let q = w.copy_bytes.ensures.ends in
+    record { bytes = subst (λ (l : List ℕ). Emitted l st.args.out.now st.args.at w.copy_bytes.result w.copy_bytes.new.1.0) l w.copy_bytes.ensures; size = omega (arith, ap length l) }
 
 pub emit_division_spec : {M : Type 1} → statement M
 emit_division_spec =

@@ -16,16 +16,16 @@ use Rattle.records.proofs.writing.emit_constraint.Reads as emit-constraint-reads
 use Rattle.records.proofs.writing.emit_division.Reads as emit-division-reads
 use Rattle.records.proofs.writing.emit_opening.Reads as emit-opening-reads
 
-abbrev invariant-loop : tie.invariant-loop
+abbrev invariant-loop : tie.invariant-loop-i
 invariant-loop out₀ at b divs cons p₀ i₀ out p i = (i ≤ divs) × (length out ≡ length out₀) × (p ≤ p₀ + longest_division * i) × Emitted (concat_map division_bytes (take i b.divisions)) out₀ p₀ p out
 
-abbrev decreases-loop : tie.decreases-loop
+abbrev decreases-loop : tie.decreases-loop-i
 decreases-loop out₀ at b divs cons p₀ i₀ out p i = divs - i
 
-abbrev invariant-loop2 : tie.invariant-loop2
+abbrev invariant-loop2 : tie.invariant-loop-j
 invariant-loop2 out₀ at b divs cons p₀ i j₀ out p j = (j ≤ cons) × (length out ≡ length out₀) × (p ≤ p₀ + longest_constraint * j) × Emitted (concat_map constraint_bytes (take j b.constraints)) out₀ p₀ p out
 
-abbrev decreases-loop2 : tie.decreases-loop2
+abbrev decreases-loop2 : tie.decreases-loop-j
 decreases-loop2 out₀ at b divs cons p₀ i j₀ out p j = cons - j
 
 mapped-length : (A B : Type 0) (f : A → B) (l : List A) (n : ℕ) → length (map f l) ≡ n → length l ≡ n
@@ -38,73 +38,73 @@ divisions-known st = search (rules, mapped-length)
 constraints-known : (st : lts.Start (emit-opening-reads.Asked, emit-opening-reads.Learnt, emit-division-reads.Asked, emit-division-reads.Learnt, emit-constraint-reads.Asked, emit-constraint-reads.Learnt) reads.Pre reads.Post invariant-loop decreases-loop invariant-loop2 decreases-loop2) → length st.args.t1.constraints ≡ 48
 constraints-known st = search (rules, mapped-length)
 
-emit-opening-requires : tie.Need-emit-opening-requires invariant-loop decreases-loop invariant-loop2 decreases-loop2
+emit-opening-requires : tie.Need-emit_opening-p-requires invariant-loop decreases-loop invariant-loop2 decreases-loop2
 emit-opening-requires c κs = c.before.before.requires.place
 
-loop-holds : tie.Need-loop-init invariant-loop decreases-loop invariant-loop2 decreases-loop2
-loop-holds c = (omega arith, refl, omega arith, emitted-none c.before.before.emit-opening.new.0 c.before.before.emit-opening.result)
+loop-holds : tie.Need-loop-i-init invariant-loop decreases-loop invariant-loop2 decreases-loop2
+loop-holds c = (omega arith, refl, omega arith, emitted-none c.before.before.emit_opening-p.new.0 c.before.before.emit_opening-p.result)
 
-mul-e : tie.Need-overflow-mul-e invariant-loop decreases-loop invariant-loop2 decreases-loop2
+mul-e : tie.Need-offset_bounds-b-i invariant-loop decreases-loop invariant-loop2 decreases-loop2
 mul-e c = let h = c.before.before.before.before.before.before.before.requires.divs in omega arith
 
-element-copy-out-e : tie.Need-element-copy-out-e invariant-loop decreases-loop invariant-loop2 decreases-loop2
+element-copy-out-e : tie.Need-bounds-b-i invariant-loop decreases-loop invariant-loop2 decreases-loop2
 element-copy-out-e c = let h = c.before.before.before.before.before.before.before.requires.divs in omega arith
 
-emit-division-requires : tie.Need-emit-division-requires invariant-loop decreases-loop invariant-loop2 decreases-loop2
-emit-division-requires c κs = let m = c.before.before.before in let o = m.before.before.before in let st = o.before.before.before in let e = o.emit-opening.ensures.ends in let h = st.requires.divs in let g = st.requires.place in omega arith
+emit-division-requires : tie.Need-emit_division-p-requires invariant-loop decreases-loop invariant-loop2 decreases-loop2
+emit-division-requires c κs = let m = c.before.before.before in let o = m.before.before.before in let st = o.before.before.before in let e = o.emit_opening-p.ensures.ends in let h = st.requires.divs in let g = st.requires.place in omega arith
 
-add-i : tie.Need-overflow-add-i invariant-loop decreases-loop invariant-loop2 decreases-loop2
+add-i : tie.Need-overflow_add-i invariant-loop decreases-loop invariant-loop2 decreases-loop2
 add-i c = omega arith
 
-loop-less : tie.Need-loop-smaller invariant-loop decreases-loop invariant-loop2 decreases-loop2
+loop-less : tie.Need-loop-i-smaller invariant-loop decreases-loop invariant-loop2 decreases-loop2
 loop-less c = omega arith
 
-loop-again : tie.Need-loop-preserved invariant-loop decreases-loop invariant-loop2 decreases-loop2
-loop-again c = let w = c.before.before in let m = w.before.before.before.before in let o = m.before.before.before in let st = o.before.before.before in let i = m.loop.i in let v = m.loop.invariant in
+loop-again : tie.Need-loop-i-preserved invariant-loop decreases-loop invariant-loop2 decreases-loop2
+loop-again c = let w = c.before.before in let m = w.before.before.before.before in let o = m.before.before.before in let st = o.before.before.before in let i = m.loop-i.i in let v = m.loop-i.invariant in
     let n = divisions-known st in let h = st.requires.divs in let l : i < length st.args.t1.divisions = omega arith in (
       omega arith,
-      w.emit-division.auto.0 ∙ v.1,
-      let e = w.emit-division.ensures.1 in omega arith,
-      emitted-next division_bytes st.args.t1.divisions _ i [] _ l refl v.3 w.emit-division.ensures.0,
+      w.emit_division-p.auto.0 ∙ v.1,
+      let e = w.emit_division-p.ensures.size in omega arith,
+      emitted-next division_bytes st.args.t1.divisions _ i [] _ l refl v.3 w.emit_division-p.ensures.bytes,
     )
 
-loop2-holds : tie.Need-loop2-init invariant-loop decreases-loop invariant-loop2 decreases-loop2
-loop2-holds c = (omega arith, refl, omega arith, emitted-none c.before.loop.out c.before.loop.p)
+loop2-holds : tie.Need-loop-j-init invariant-loop decreases-loop invariant-loop2 decreases-loop2
+loop2-holds c = (omega arith, refl, omega arith, emitted-none c.before.loop-i.out c.before.loop-i.p)
 
-mul-r : tie.Need-overflow-mul-r invariant-loop decreases-loop invariant-loop2 decreases-loop2
+mul-r : tie.Need-offset_bounds-b-j invariant-loop decreases-loop invariant-loop2 decreases-loop2
 mul-r c = let h = c.before.before.before.before.before.before.before.before.before.requires.cons in omega arith
 
-element-copy-out-r : tie.Need-element-copy-out-r invariant-loop decreases-loop invariant-loop2 decreases-loop2
+element-copy-out-r : tie.Need-bounds-b-j invariant-loop decreases-loop invariant-loop2 decreases-loop2
 element-copy-out-r c = let h = c.before.before.before.before.before.before.before.before.before.requires.cons in omega arith
 
-emit-constraint-requires : tie.Need-emit-constraint-requires invariant-loop decreases-loop invariant-loop2 decreases-loop2
+emit-constraint-requires : tie.Need-emit_constraint-p-requires invariant-loop decreases-loop invariant-loop2 decreases-loop2
 emit-constraint-requires c κs = let m₂ = c.before.before.before in let m = m₂.before.before in let o = m.before.before.before in let st = o.before.before.before in
-    let e = o.emit-opening.ensures.ends in let h = st.requires.divs in let k = st.requires.cons in let g = st.requires.place in let v = m.loop.invariant.2 in let w = m₂.loop2.invariant.2 in omega arith
+    let e = o.emit_opening-p.ensures.ends in let h = st.requires.divs in let k = st.requires.cons in let g = st.requires.place in let v = m.loop-i.invariant.2 in let w = m₂.loop-j.invariant.2 in omega arith
 
-add-j : tie.Need-overflow-add-j invariant-loop decreases-loop invariant-loop2 decreases-loop2
+add-j : tie.Need-overflow_add-j invariant-loop decreases-loop invariant-loop2 decreases-loop2
 add-j c = omega arith
 
-loop2-less : tie.Need-loop2-smaller invariant-loop decreases-loop invariant-loop2 decreases-loop2
+loop2-less : tie.Need-loop-j-smaller invariant-loop decreases-loop invariant-loop2 decreases-loop2
 loop2-less c = omega arith
 
-loop2-again : tie.Need-loop2-preserved invariant-loop decreases-loop invariant-loop2 decreases-loop2
-loop2-again c = let w = c.before.before in let m = w.before.before.before.before in let st = m.before.before.before.before.before.before.before.before in let j = m.loop2.j in let v = m.loop2.invariant in
+loop2-again : tie.Need-loop-j-preserved invariant-loop decreases-loop invariant-loop2 decreases-loop2
+loop2-again c = let w = c.before.before in let m = w.before.before.before.before in let st = m.before.before.before.before.before.before.before.before in let j = m.loop-j.j in let v = m.loop-j.invariant in
     let n = constraints-known st in let h = st.requires.cons in let l : j < length st.args.t1.constraints = omega arith in (
       omega arith,
-      w.emit-constraint.auto.0 ∙ v.1,
-      let e = w.emit-constraint.ensures.1 in omega arith,
-      emitted-next constraint_bytes st.args.t1.constraints _ j [] _ l refl v.3 w.emit-constraint.ensures.0,
+      w.emit_constraint-p.auto.0 ∙ v.1,
+      let e = w.emit_constraint-p.ensures.size in omega arith,
+      emitted-next constraint_bytes st.args.t1.constraints _ j [] _ l refl v.3 w.emit_constraint-p.ensures.bytes,
     )
 
-same_length : tie.Need-same-length invariant-loop decreases-loop invariant-loop2 decreases-loop2
-same_length c = let m₂ = c.before in let m = m₂.before.before in let o = m.before.before.before in m₂.loop2.invariant.1 ∙ m.loop.invariant.1 ∙ o.emit-opening.auto.0
+same_length : tie.Need-shape_of-out invariant-loop decreases-loop invariant-loop2 decreases-loop2
+same_length c = let m₂ = c.before in let m = m₂.before.before in let o = m.before.before.before in m₂.loop-j.invariant.1 ∙ m.loop-i.invariant.1 ∙ o.emit_opening-p.auto.0
 
 returns : tie.Need-returns invariant-loop decreases-loop invariant-loop2 decreases-loop2
 returns c = let m₂ = c.before in let m = m₂.before.before in let o = m.before.before.before in let st = o.before.before.before in let b = st.args.t1 in
     let i : m.loop.i ≡ b.divs = omega arith in let j : m₂.loop2.j ≡ b.cons = omega arith in
-    let x = subst (λ (k : ℕ). Emitted (concat_map division_bytes (take k b.divisions)) o.emit-opening.new.0 o.emit-opening.result m.loop.p m.loop.out) i m.loop.invariant.3 in
-    let y = subst (λ (k : ℕ). Emitted (concat_map constraint_bytes (take k b.constraints)) m.loop.out m.loop.p m₂.loop2.p m₂.loop2.out) j m₂.loop2.invariant.3 in
-    subst (λ (l : List ℕ). Emitted l st.args.out.now st.args.at m₂.loop2.p m₂.loop2.out) (sym (encode-basic b)) (emitted-more (emitted-more o.emit-opening.ensures x) y)
+    let x = subst (λ (k : ℕ). Emitted (concat_map division_bytes (take k b.divisions)) o.emit_opening-p.new.0 o.emit_opening-p.result m.loop-i.p m.loop-i.out) i m.loop-i.invariant.3 in
+    let y = subst (λ (k : ℕ). Emitted (concat_map constraint_bytes (take k b.constraints)) m.loop-i.out m.loop-i.p m₂.loop-j.p m₂.loop-j.out) j m₂.loop-j.invariant.3 in
+    subst (λ (l : List ℕ). Emitted l st.args.out.now st.args.at m₂.loop-j.p m₂.loop-j.out) (sym (encode-basic b)) (emitted-more (emitted-more o.emit_opening-p.ensures x) y)
 
 pub encode_basic_spec : {M : Type 1} → statement M
 encode_basic_spec =

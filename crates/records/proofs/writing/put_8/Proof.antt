@@ -3,13 +3,13 @@ use borrow.Author.Rules.{rules}
 use Rattle.records.proofs.writing.put_8.Statement.{statement}
 use Rattle.records.proofs.writing.put_8.Tie as tie
 
-slice-write-out : tie.Need-slice-write-out
+slice-write-out : tie.Need-bounds-out-at
 slice-write-out c = search rules
 
-add-result : tie.Need-overflow-add-result
+add-result : tie.Need-overflow_add-result
 add-result c = search rules
 
-same_length : tie.Need-same-length
+same_length : tie.Need-shape_of-out
 same_length c = search rules
 
 returns : tie.Need-returns

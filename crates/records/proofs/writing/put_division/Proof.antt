@@ -10,35 +10,35 @@ use borrow.Author.Rules.{rules}
 use Rattle.records.proofs.writing.put_division.Statement.{statement}
 use Rattle.records.proofs.writing.put_division.Tie as tie
 
-put-8-requires : tie.Need-put-8-requires
+put-8-requires : tie.Need-put_8-p-requires
 put-8-requires c κs = search rules
 
-cast-put-16 : tie.Need-overflow-cast-put-16
+cast-put-16 : tie.Need-overflow_cast-e
 cast-put-16 c = search rules
 
-put-16-requires : tie.Need-put-16-requires
+put-16-requires : tie.Need-put_16-p-requires
 put-16-requires c κs = search rules
 
 whole-requires : tie.Need-whole-requires
 whole-requires c κs = search rules
 
-put-32-requires : tie.Need-put-32-requires
+put-32-requires : tie.Need-put_32-p-requires
 put-32-requires c κs = search rules
 
-put-coefficients-requires : tie.Need-put-coefficients-requires
+put-coefficients-requires : tie.Need-put_coefficients-requires
 put-coefficients-requires c κs = search rules
 
-same_length : tie.Need-same-length
+same_length : tie.Need-shape_of-out
 same_length c = search rules
 
 returns : tie.Need-returns
 returns c = let four = c.before.before in let three = four.before.before.before.before.before in let two = three.before.before.before.before.before.before in let one = two.before.before.before.before.before in let st = one.before.before.before in
     let e = st.args.e in
-    let z : three.before.whole.result ≡ unsigned 4 e.constant = three.before.whole.ensures ∙ ap (unsigned 4) (to_z_of_z {w = w32} {z = e.constant} (record { sfits = three.before.before.struct_told.given.1.0.1 })) in
-    let p₃ : Emitted (signed_bytes 4 e.constant) two.put-16.new.0 two.put-16.result three.put_32.result three.put_32.new.0 =
-    subst (λ (v : ℕ). Emitted (bytes_of 4 v) two.put-16.new.0 two.put-16.result three.put_32.result three.put_32.new.0) z three.put_32.ensures in
-    let a = one.put-8.ensures.ends in let b = two.put-16.ensures.ends in let d = p₃.ends in let s = four.put-coefficients.ensures.1 in
-    (emitted-more (emitted-more (emitted-more one.put-8.ensures two.put-16.ensures) p₃) four.put-coefficients.ensures.0, omega arith)
+    let z : three.before.whole.result ≡ unsigned 4 e.constant = three.before.whole.ensures ∙ ap (unsigned 4) (to_z_of_z {w = w32} {z = e.constant} (record { sfits = three.before.before.struct_told-1.given.1.0.1 })) in
+    let p₃ : Emitted (signed_bytes 4 e.constant) two.put_16-p.new.0 two.put_16-p.result three.put_32-p.result three.put_32-p.new.0 =
+    subst (λ (v : ℕ). Emitted (bytes_of 4 v) two.put_16-p.new.0 two.put_16-p.result three.put_32-p.result three.put_32-p.new.0) z three.put_32-p.ensures in
+    let a = one.put_8-p.ensures.ends in let b = two.put_16-p.ensures.ends in let d = p₃.ends in let s = four.put_coefficients.ensures.size in
+    record { bytes = emitted-more (emitted-more (emitted-more one.put_8-p.ensures two.put_16-p.ensures) p₃) four.put_coefficients.ensures.bytes; size = omega arith }
 
 pub put_division_spec : {M : Type 1} → statement M
 put_division_spec =

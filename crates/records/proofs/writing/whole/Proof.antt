@@ -7,23 +7,23 @@ use Rattle.records.proofs.Emitting.{bits-wide, bits_below, bits-nonneg, bits-sum
 use Rattle.records.proofs.writing.whole.Statement.{statement}
 use Rattle.records.proofs.writing.whole.Tie as tie
 
-cast-result : tie.Need-overflow-cast-result
+cast-result : tie.Need-overflow_cast-result
 cast-result c = bits-wide w32 4 4294967296 refl (omega arith) (omega arith) _ c.before.ranges.x
 
-add-result : tie.Need-overflow-add-result
-add-result c = bits-sum w32 4 4294967296 refl (omega arith) (omega arith) _ c.before.ranges.x c.if1.true
+add-result : tie.Need-overflow_add-result
+add-result c = bits-sum w32 4 4294967296 refl (omega arith) (omega arith) _ c.before.ranges.x c.if-x-lt0.true
 
-cast-result-2 : tie.Need-overflow-cast-result-2
-cast-result-2 c = let l = bits_below w32 4 4294967296 refl (omega arith) (omega arith) _ c.before.ranges.x in cast-nat w64 _ _ (bits-negative w32 4 4294967296 refl (omega arith) (omega arith) _ c.before.ranges.x c.if1.true) (omega arith)
+cast-result-2 : tie.Need-overflow_cast-result-then-x-lt0
+cast-result-2 c = let l = bits_below w32 4 4294967296 refl (omega arith) (omega arith) _ c.before.ranges.x in cast-nat w64 _ _ (bits-negative w32 4 4294967296 refl (omega arith) (omega arith) _ c.before.ranges.x c.if-x-lt0.true) (omega arith)
 
-returns : tie.Need-returns
-returns c = ap nat_abs (bits-negative w32 4 4294967296 refl (omega arith) (omega arith) _ c.before.ranges.x c.if1.true)
+returns : tie.Need-returns-then-x-lt0
+returns c = ap nat_abs (bits-negative w32 4 4294967296 refl (omega arith) (omega arith) _ c.before.ranges.x c.if-x-lt0.true)
 
-cast-result-3 : tie.Need-overflow-cast-result-3
-cast-result-3 c = let l = bits_below w32 4 4294967296 refl (omega arith) (omega arith) _ c.before.ranges.x in cast-nat w64 _ _ (bits-nonneg w32 4 4294967296 refl (omega arith) (omega arith) _ c.before.ranges.x c.if1.false) (omega arith)
+cast-result-3 : tie.Need-overflow_cast-result-2
+cast-result-3 c = let l = bits_below w32 4 4294967296 refl (omega arith) (omega arith) _ c.before.ranges.x in cast-nat w64 _ _ (bits-nonneg w32 4 4294967296 refl (omega arith) (omega arith) _ c.before.ranges.x c.if-x-lt0.false) (omega arith)
 
-returns-2 : tie.Need-returns-2
-returns-2 c = ap nat_abs (bits-nonneg w32 4 4294967296 refl (omega arith) (omega arith) _ c.before.ranges.x c.if1.false)
+returns-2 : tie.Need-returns
+returns-2 c = ap nat_abs (bits-nonneg w32 4 4294967296 refl (omega arith) (omega arith) _ c.before.ranges.x c.if-x-lt0.false)
 
 pub whole_spec : {M : Type 1} → statement M
 whole_spec =

@@ -11,7 +11,7 @@ clear-requires : tie.Need-clear-requires
 clear-requires c κs = search rules
 
 -- src/results.rt:43:1
-same_length : tie.Need-same-length
+same_length : tie.Need-shape_of-out
 same_length c = search rules
 
 -- src/results.rt:43:1

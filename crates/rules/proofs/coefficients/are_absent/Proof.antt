@@ -15,48 +15,48 @@ use Rattle.rules.proofs.Numbers.{all-next, all-stop, all_end}
 use Rattle.rules.proofs.coefficients.are_absent.Statement.{statement}
 use Rattle.rules.proofs.coefficients.are_absent.Tie as tie
 
-abbrev invariant-loop : tie.invariant-loop
+abbrev invariant-loop : tie.invariant-loop-i
 invariant-loop n a i₀ i = (length a ≡ 8) × (all is_zero (drop i a) ≡ absent n a)
 
-abbrev decreases-loop : tie.decreases-loop
+abbrev decreases-loop : tie.decreases-loop-i
 decreases-loop n a i₀ i = 8 - i
 
-loop-holds : tie.Need-loop-init invariant-loop decreases-loop
+loop-holds : tie.Need-loop-i-init invariant-loop decreases-loop
 loop-holds c = (search rules, refl)
 
-mul-x : tie.Need-overflow-mul-x invariant-loop decreases-loop
+mul-x : tie.Need-offset_bounds-a-i invariant-loop decreases-loop
 mul-x c = search rules
 
-array-copy-out-x : tie.Need-array-copy-out-x invariant-loop decreases-loop
+array-copy-out-x : tie.Need-bounds-a-i invariant-loop decreases-loop
 array-copy-out-x c = search rules
 
-returns : tie.Need-returns invariant-loop decreases-loop
+returns : tie.Need-returns-then-x-ne0 invariant-loop decreases-loop
 returns c =
     let i = c.before.before in
-    let l = i.before.loop in
-    let t = i.loop-test.true in
+    let l = i.before.loop-i in
+    let t = i.loop-i-test.true in
     let h = l.invariant.0 in
-    all-stop is_zero _ l.i _ l.invariant.1 (omega arith) (is_zero-no (get_or i.before.before.args.t2 l.i (pos 0)) (λ e. c.if1.true (ap (of_z w32) e)))
+    all-stop is_zero _ l.i _ l.invariant.1 (omega arith) (is_zero-no (get_or i.before.before.args.t2 l.i (pos 0)) (λ e. c.if-x-ne0.true (ap (of_z w32) e)))
 
-add-i : tie.Need-overflow-add-i invariant-loop decreases-loop
+add-i : tie.Need-overflow_add-i invariant-loop decreases-loop
 add-i c = search rules
 
-loop-less : tie.Need-loop-smaller invariant-loop decreases-loop
+loop-less : tie.Need-loop-i-smaller invariant-loop decreases-loop
 loop-less c = search rules
 
-loop-again : tie.Need-loop-preserved invariant-loop decreases-loop
+loop-again : tie.Need-loop-i-preserved invariant-loop decreases-loop
 loop-again c =
     let i = c.before.before in
-    let l = i.before.loop in
-    let t = i.loop-test.true in
+    let l = i.before.loop-i in
+    let t = i.loop-i-test.true in
     let h = l.invariant.0 in
-    let z : get_or i.before.before.args.t2 l.i (pos 0) ≡ pos 0 = of_z-same {w = w32} (record { sfits = c.before.x.given }) (record { sfits = omega arith }) c.if1.false in
+    let z : get_or i.before.before.args.t2 l.i (pos 0) ≡ pos 0 = of_z-same {w = w32} (record { sfits = c.before.x-1.given }) (record { sfits = omega arith }) c.if-x-ne0.false in
     (h, all-next is_zero _ l.i _ l.invariant.1 (omega arith) (ap is_zero z))
 
-returns-2 : tie.Need-returns-2 invariant-loop decreases-loop
+returns-2 : tie.Need-returns invariant-loop decreases-loop
 returns-2 c =
-    let l = c.before.loop in
-    let t = c.loop-test.false in
+    let l = c.before.loop-i in
+    let t = c.loop-i-test.false in
     let h = l.invariant.0 in
     all_end is_zero _ l.i _ l.invariant.1 (omega arith)
 

@@ -14,55 +14,55 @@ use Rattle.rules.proofs.Numbers.{all-next, all-stop, all_end}
 use Rattle.rules.proofs.coefficients.are_coefficients.Statement.{statement}
 use Rattle.rules.proofs.coefficients.are_coefficients.Tie as tie
 
-abbrev invariant-loop : tie.invariant-loop
+abbrev invariant-loop : tie.invariant-loop-i
 invariant-loop a i₀ i = (length a ≡ 8) × (all coefficient (drop i a) ≡ all coefficient a)
 
-abbrev decreases-loop : tie.decreases-loop
+abbrev decreases-loop : tie.decreases-loop-i
 decreases-loop a i₀ i = 8 - i
 
 -- the number that was asked about
-asked : (c : tie.After-is-coefficient invariant-loop decreases-loop) → let m = c.before.before.before in coefficient (get_or m.before.args.t1 m.loop.i (pos 0)) ≡ c.is-coefficient.result
+asked : (c : tie.After-is_coefficient invariant-loop decreases-loop) → let m = c.before.before.before in coefficient (get_or m.before.args.t1 m.loop-i.i (pos 0)) ≡ c.is_coefficient.result
 asked c =
     let m = c.before.before.before in
-    ap coefficient (sym (to_z_of_z {w = w32} {z = get_or m.before.args.t1 m.loop.i (pos 0)} (record { sfits = c.before.x.given }))) ∙ sym c.is-coefficient.ensures
+    ap coefficient (sym (to_z_of_z {w = w32} {z = get_or m.before.args.t1 m.loop-i.i (pos 0)} (record { sfits = c.before.x-1.given }))) ∙ sym c.is_coefficient.ensures
 
-loop-holds : tie.Need-loop-init invariant-loop decreases-loop
+loop-holds : tie.Need-loop-i-init invariant-loop decreases-loop
 loop-holds c = (search rules, refl)
 
-mul-x : tie.Need-overflow-mul-x invariant-loop decreases-loop
+mul-x : tie.Need-offset_bounds-a-i invariant-loop decreases-loop
 mul-x c = search rules
 
-array-copy-out-x : tie.Need-array-copy-out-x invariant-loop decreases-loop
+array-copy-out-x : tie.Need-bounds-a-i invariant-loop decreases-loop
 array-copy-out-x c = search rules
 
-is-coefficient-requires : tie.Need-is-coefficient-requires invariant-loop decreases-loop
+is-coefficient-requires : tie.Need-is_coefficient-requires invariant-loop decreases-loop
 is-coefficient-requires c κs = search rules
 
-returns : tie.Need-returns invariant-loop decreases-loop
+returns : tie.Need-returns-then-not-is_coefficient invariant-loop decreases-loop
 returns c =
     let i = c.before.before.before in
-    let v = i.before.loop.invariant in
-    let t = i.loop-test.true in
-    all-stop coefficient _ i.before.loop.i _ v.1 (omega arith) (asked c.before ∙ not-true _ c.if1.true)
+    let v = i.before.loop-i.invariant in
+    let t = i.loop-i-test.true in
+    all-stop coefficient _ i.before.loop-i.i _ v.1 (omega arith) (asked c.before ∙ not-true _ c.if-not-is_coefficient.true-raw)
 
-add-i : tie.Need-overflow-add-i invariant-loop decreases-loop
+add-i : tie.Need-overflow_add-i invariant-loop decreases-loop
 add-i c = search rules
 
-loop-less : tie.Need-loop-smaller invariant-loop decreases-loop
+loop-less : tie.Need-loop-i-smaller invariant-loop decreases-loop
 loop-less c = search rules
 
-loop-again : tie.Need-loop-preserved invariant-loop decreases-loop
+loop-again : tie.Need-loop-i-preserved invariant-loop decreases-loop
 loop-again c =
     let i = c.before.before.before in
-    let v = i.before.loop.invariant in
-    let t = i.loop-test.true in
-    (v.0, all-next coefficient _ i.before.loop.i _ v.1 (omega arith) (asked c.before ∙ not-false _ c.if1.false))
+    let v = i.before.loop-i.invariant in
+    let t = i.loop-i-test.true in
+    (v.0, all-next coefficient _ i.before.loop-i.i _ v.1 (omega arith) (asked c.before ∙ not-false _ c.if-not-is_coefficient.false-raw))
 
-returns-2 : tie.Need-returns-2 invariant-loop decreases-loop
+returns-2 : tie.Need-returns invariant-loop decreases-loop
 returns-2 c =
-    let l = c.before.loop in
+    let l = c.before.loop-i in
     let v = l.invariant in
-    let t = c.loop-test.false in
+    let t = c.loop-i-test.false in
     all_end coefficient _ l.i _ v.1 (omega arith)
 
 pub are_coefficients_spec : {M : Type 1} → statement M

@@ -5,18 +5,18 @@ use Rattle.integers.specs.Mach.{to_z_of_z}
 use Rattle.rules.proofs.expressions.inequality_of.Statement.{statement}
 use Rattle.rules.proofs.expressions.inequality_of.Tie as tie
 
-narrowed-requires : tie.Need-narrowed-requires
+narrowed-requires : tie.Need-narrowed-axes-requires
 narrowed-requires c κs = search rules
 
-narrowed-requires-2 : tie.Need-narrowed-requires-2
+narrowed-requires-2 : tie.Need-narrowed-divisions-requires
 narrowed-requires-2 c κs = search rules
 
 returns : tie.Need-returns
 returns c =
     let q = c.before.before in
     let t = q.before.before in
-    let z = to_z_of_z {w = w32} {z = t.before.args.e.constant} (record { sfits = t.struct_told.given.0.1 }) in
-    rw (z, c.before.narrowed.ensures, c.narrowed2.ensures)
+    let z = to_z_of_z {w = w32} {z = t.before.args.e.constant} (record { sfits = t.struct_told-1.given.0.1 }) in
+    rw (z, c.before.narrowed-axes.ensures, c.narrowed-divisions.ensures)
 
 pub inequality_of_spec : {M : Type 1} → statement M
 inequality_of_spec = tie.close (tie.spec narrowed-requires narrowed-requires-2 returns)

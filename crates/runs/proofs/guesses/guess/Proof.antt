@@ -11,66 +11,66 @@ use Rattle.bounds.proofs.Bounds.{ends-back, ends-mono}
 use Rattle.runs.proofs.guesses.guess.Statement.{statement}
 use Rattle.runs.proofs.guesses.guess.Tie as tie
 
-body-requires : tie.Need-body-requires
+body-requires : tie.Need-body-t-requires
 body-requires c κs = c.before.requires.3.whole
 
-add-end-at : tie.Need-overflow-add-end-at
+add-end-at : tie.Need-overflow_add-i
 add-end-at c = search rules
 
-mul-end-at : tie.Need-overflow-mul-end-at
+mul-end-at : tie.Need-offset_bounds-r-i
 mul-end-at c = search rules
 
-element-copy-out-end-at : tie.Need-element-copy-out-end-at
+element-copy-out-end-at : tie.Need-bounds-r-i
 element-copy-out-end-at c = search rules
 
 -- the body of the constraint
-after : (x : tie.After-body) → constraint_body ≤ length x.body.result.now
-after x = subst (λ (t : List ℕ). constraint_body ≤ length t) (sym x.body.ensures) x.before.before.requires.3.body
+after : (x : tie.After-body-t) → constraint_body ≤ length x.body-t.result.now
+after x = subst (λ (t : List ℕ). constraint_body ≤ length t) (sym x.body-t.ensures) x.before.before.requires.3.body
 
-end-at-requires : tie.Need-end-at-requires
+end-at-requires : tie.Need-end_at-g-requires
 end-at-requires c κs =
     let x = c.before in let st = x.before.before in let h = after x in
     (omega arith, record { axis = st.requires.2.axis; from_size = back-within (omega arith) st.requires.2.to_size; to_size = back-within (omega arith) st.requires.2.from_size }, back-within (omega arith) (st.requires.0.greatest st.args.i st.requires.3.few))
 
-extreme-requires : tie.Need-extreme-requires
+extreme-requires : tie.Need-extreme-high-requires
 extreme-requires c κs =
-    let x = c.before.before in let st = x.before.before in (after x, ends-mono (omega arith) (ends-back st.requires.1), back-within (omega arith) (within-mono (omega arith) c.end-at.ensures.1))
+    let x = c.before.before in let st = x.before.before in (after x, ends-mono (omega arith) (ends-back st.requires.1), back-within (omega arith) (within-mono (omega arith) c.end_at-g.ensures.size))
 
-magnitude-requires : tie.Need-magnitude-requires
+magnitude-requires : tie.Need-magnitude-short-requires
 magnitude-requires c κs = search rules
 
-guess-from-requires : tie.Need-guess-from-requires
+guess-from-requires : tie.Need-guess_from-requires
 guess-from-requires c κs =
     let x = c.before.before.before.before.before in let st = x.before.before in
     (st.requires.0, record { axis = st.requires.2.axis; from_size = back-within (omega arith) st.requires.2.from_size; to_size = back-within (omega arith) st.requires.2.to_size }, after x, st.requires.4)
 
-returns : tie.Need-returns
+returns : tie.Need-returns-then-high-lt0
 returns c = search rules
 
-mul-end-at-2 : tie.Need-overflow-mul-end-at-2
+mul-end-at-2 : tie.Need-offset_bounds-r-i-2
 mul-end-at-2 c = search rules
 
-element-copy-out-end-at-2 : tie.Need-element-copy-out-end-at-2
+element-copy-out-end-at-2 : tie.Need-bounds-r-i-2
 element-copy-out-end-at-2 c = search rules
 
-end-at-requires-2 : tie.Need-end-at-requires-2
+end-at-requires-2 : tie.Need-end_at-f-requires
 end-at-requires-2 c κs =
     let x = c.before.before.before.before.before in let st = x.before.before in let h = after x in
     (omega arith, record { axis = st.requires.2.axis; from_size = back-within (omega arith) st.requires.2.from_size; to_size = back-within (omega arith) st.requires.2.to_size }, back-within (omega arith) (st.requires.0.least st.args.i st.requires.3.few))
 
-extreme-requires-2 : tie.Need-extreme-requires-2
+extreme-requires-2 : tie.Need-extreme-low-requires
 extreme-requires-2 c κs =
-    let x = c.before.before.before.before.before.before in let st = x.before.before in (after x, ends-mono (omega arith) st.requires.1, back-within (omega arith) (within-mono (omega arith) c.end-at2.ensures.1))
+    let x = c.before.before.before.before.before.before in let st = x.before.before in (after x, ends-mono (omega arith) st.requires.1, back-within (omega arith) (within-mono (omega arith) c.end_at-f.ensures.size))
 
-magnitude-requires-2 : tie.Need-magnitude-requires-2
+magnitude-requires-2 : tie.Need-magnitude-short-requires-2
 magnitude-requires-2 c κs = search rules
 
-guess-from-requires-2 : tie.Need-guess-from-requires-2
+guess-from-requires-2 : tie.Need-guess_from-requires-2
 guess-from-requires-2 c κs =
     let x = c.before.before.before.before.before.before.before.before in let st = x.before.before in
     (st.requires.0, record { axis = st.requires.2.axis; from_size = back-within (omega arith) st.requires.2.from_size; to_size = back-within (omega arith) st.requires.2.to_size }, after x, st.requires.4)
 
-returns-2 : tie.Need-returns-2
+returns-2 : tie.Need-returns
 returns-2 c = search rules
 
 pub guess_spec : {M : Type 1} → statement M

@@ -13,18 +13,18 @@ use Rattle.bounds.proofs.Extremes.{back-within}
 use Rattle.runs.proofs.guesses.left_over.Statement.{statement}
 use Rattle.runs.proofs.guesses.left_over.Tie as tie
 
-end-at-requires : tie.Need-end-at-requires
+end-at-requires : tie.Need-end_at-n-requires
 end-at-requires c κs = search rules
 
-cast-d : tie.Need-overflow-cast-d
+cast-d : tie.Need-overflow_cast-d
 cast-d c = search rules
 
-floor-div-requires : tie.Need-floor-div-requires
+floor-div-requires : tie.Need-floor_div-q-requires
 floor-div-requires c κs = let st = c.before.before in let e = st.args.e in rw (to_z-nat w64 e 65536 st.requires.2 tt) (record { lt = lt→ltb 0 e st.requires.1 })
 
 -- the divisor's size, the quotient's, and its product
-module _ (c : tie.After-floor-div) where
-  abbrev x : tie.After-end-at
+module _ (c : tie.After-floor_div-q) where
+  abbrev x : tie.After-end_at-n
   x = c.before
 
   abbrev st : tie.Start
@@ -45,10 +45,10 @@ module _ (c : tie.After-floor-div) where
   product : SFits w64 (c.floor-div.result *ℤ pos st.args.e)
   product = within-fits (omega arith) (within-mul quotient-size divisor-size)
 
-mul-magnitude : tie.Need-overflow-mul-magnitude
+mul-magnitude : tie.Need-overflow_mul-q
 mul-magnitude c = ask (quotient c) (divisor c) ◌*ℤ◌ (product c)
 
-sub-magnitude : tie.Need-overflow-sub-magnitude
+sub-magnitude : tie.Need-overflow_sub-n
 sub-magnitude c =
     ask (b-of {z = (x c).end-at.result} (record { sfits = (x c).end-at.type-inv })) (b-op (quotient c) (divisor c) ◌*ℤ◌ (product c)) ◌-ℤ◌
     (within-fits (omega arith) (within-sub (x c).end-at.ensures.1 (within-mul (quotient-size c) (divisor-size c))))

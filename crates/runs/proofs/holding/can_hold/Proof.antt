@@ -14,41 +14,41 @@ use borrow.Author.Rules.{rules}
 use Rattle.runs.proofs.holding.can_hold.Statement.{statement}
 use Rattle.runs.proofs.holding.can_hold.Tie as tie
 
-no-values-requires : tie.Need-no-values-requires
+no-values-requires : tie.Need-no_values-ql-requires
 no-values-requires c κs = search rules
 
-no-values-requires-2 : tie.Need-no-values-requires-2
+no-values-requires-2 : tie.Need-no_values-qh-requires
 no-values-requires-2 c κs = search rules
 
-slice-aggregate-bounded : tie.Need-slice-aggregate-bounded
+slice-aggregate-bounded : tie.Need-slice_bounds-bounded-end
 slice-aggregate-bounded c = search rules
 
-slice-aggregate-bounded-2 : tie.Need-slice-aggregate-bounded-2
+slice-aggregate-bounded-2 : tie.Need-slice_bounds-bounded-end-2
 slice-aggregate-bounded-2 c = search rules
 
-bounded-requires : tie.Need-bounded-requires
+bounded-requires : tie.Need-bounded-p-requires
 bounded-requires c κs = search rules
 
-array-share-prefix-ql : tie.Need-array-share-prefix-ql
+array-share-prefix-ql : tie.Need-slice_bounds-ql-end
 array-share-prefix-ql c = search rules
 
-slice-aggregate-first-failing : tie.Need-slice-aggregate-first-failing
+slice-aggregate-first-failing : tie.Need-slice_bounds-first_failing-end
 slice-aggregate-first-failing c =
-    let d = c.before.before.before in let f = d.bounded.ensures.few in let l = d.bounded.ensures.lows in
-    omega (arith, length-take d.bounded.result.count d.bounded.new.1.1.1.1.1.0)
+    let d = c.before.before.before in let f = d.bounded-p.ensures.few in let l = d.bounded-p.ensures.lows in
+    omega (arith, length-take d.bounded-p.result.count d.bounded-p.new.1.1.1.1.1.0)
 
-array-share-prefix-qh : tie.Need-array-share-prefix-qh
+array-share-prefix-qh : tie.Need-slice_bounds-qh-end
 array-share-prefix-qh c = search rules
 
-slice-aggregate-first-failing-2 : tie.Need-slice-aggregate-first-failing-2
+slice-aggregate-first-failing-2 : tie.Need-slice_bounds-first_failing-end-2
 slice-aggregate-first-failing-2 c =
-    let d = c.before.before.before.before in let f = d.bounded.ensures.few in let l = d.bounded.ensures.highs in
-    omega (arith, length-take d.bounded.result.count d.bounded.new.1.1.1.1.1.1.0)
+    let d = c.before.before.before.before in let f = d.bounded-p.ensures.few in let l = d.bounded-p.ensures.highs in
+    omega (arith, length-take d.bounded-p.result.count d.bounded-p.new.1.1.1.1.1.1.0)
 
-first-failing-requires : tie.Need-first-failing-requires
+first-failing-requires : tie.Need-first_failing-f-requires
 first-failing-requires c κs =
-    let d = c.before.before.before.before in let st = d.before.before.before.before.before.before in let e = d.bounded.ensures in
-    let ql = d.bounded.new.1.1.1.1.1.0 in let qh = d.bounded.new.1.1.1.1.1.1.0 in let m = d.bounded.result.count in
+    let d = c.before.before.before.before in let st = d.before.before.before.before.before.before in let e = d.bounded-p.ensures in
+    let ql = d.bounded-p.new.1.1.1.1.1.0 in let qh = d.bounded-p.new.1.1.1.1.1.1.0 in let m = d.bounded-p.result.count in
     let f = e.few in let l = e.lows in let h = e.highs in (
       st.requires.0,
       st.requires.1,
@@ -64,11 +64,11 @@ told false c f t = sym (t refl)
 returns : tie.Need-returns
 returns c =
     let y = c.before in let d = y.before.before.before.before.before in let a = d.before.before.before.before.before.before.args in
-    let e = y.first-failing.ensures in let xs = box_of a.low.now a.high.now in let b = basic_at a.s.now (start_of a.r.now) in
-    let m = d.bounded.result.count in
-    let qs = box_of (take m d.bounded.new.1.1.1.1.1.0) (take m d.bounded.new.1.1.1.1.1.1.0) in
-    let whole : all (can_stand xs qs) b.constraints ≡ can_hold xs b = ap (λ (z : List Interval). all (can_stand xs z) b.constraints) d.bounded.ensures.is in
-    told y.first-failing.result.fails (can_hold xs b) (λ q. sym whole ∙ e.among q (can_stand xs qs) (e.falls q)) (λ q. sym whole ∙ e.stands q)
+    let e = y.first_failing-f.ensures in let xs = box_of a.low.now a.high.now in let b = basic_at a.s.now (start_of a.r.now) in
+    let m = d.bounded-p.result.count in
+    let qs = box_of (take m d.bounded-p.new.1.1.1.1.1.0) (take m d.bounded-p.new.1.1.1.1.1.1.0) in
+    let whole : all (can_stand xs qs) b.constraints ≡ can_hold xs b = ap (λ (z : List Interval). all (can_stand xs z) b.constraints) d.bounded-p.ensures.is in
+    told y.first_failing-f.result.fails (can_hold xs b) (λ q. sym whole ∙ e.among q (can_stand xs qs) (e.falls q)) (λ q. sym whole ∙ e.stands q)
 
 pub can_hold_spec : {M : Type 1} → statement M
 can_hold_spec =

@@ -11,38 +11,38 @@ use Rattle.runs.proofs.holding.failing_run.Tie as tie
 settle-requires : tie.Need-settle-requires
 settle-requires c κs = search rules
 
-no-values-requires : tie.Need-no-values-requires
+no-values-requires : tie.Need-no_values-ql-requires
 no-values-requires c κs = search rules
 
-no-values-requires-2 : tie.Need-no-values-requires-2
+no-values-requires-2 : tie.Need-no_values-qh-requires
 no-values-requires-2 c κs = search rules
 
-slice-aggregate-bounded : tie.Need-slice-aggregate-bounded
+slice-aggregate-bounded : tie.Need-slice_bounds-bounded-end
 slice-aggregate-bounded c = search rules
 
-slice-aggregate-bounded-2 : tie.Need-slice-aggregate-bounded-2
+slice-aggregate-bounded-2 : tie.Need-slice_bounds-bounded-end-2
 slice-aggregate-bounded-2 c = search rules
 
-bounded-requires : tie.Need-bounded-requires
+bounded-requires : tie.Need-bounded-p-requires
 bounded-requires c κs = search rules
 
-array-share-prefix-ql : tie.Need-array-share-prefix-ql
+array-share-prefix-ql : tie.Need-slice_bounds-ql-end
 array-share-prefix-ql c = search rules
 
-slice-aggregate-constraints-run : tie.Need-slice-aggregate-constraints-run
+slice-aggregate-constraints-run : tie.Need-slice_bounds-constraints_run-end
 slice-aggregate-constraints-run c =
     let d = c.before.before.before.before in let f = d.bounded.ensures.few in let l = d.bounded.ensures.lows in
     omega (arith, length-take d.bounded.result.count d.bounded.new.1.1.1.1.1.0)
 
-array-share-prefix-qh : tie.Need-array-share-prefix-qh
+array-share-prefix-qh : tie.Need-slice_bounds-qh-end
 array-share-prefix-qh c = search rules
 
-slice-aggregate-constraints-run-2 : tie.Need-slice-aggregate-constraints-run-2
+slice-aggregate-constraints-run-2 : tie.Need-slice_bounds-constraints_run-end-2
 slice-aggregate-constraints-run-2 c =
     let d = c.before.before.before.before.before in let f = d.bounded.ensures.few in let l = d.bounded.ensures.highs in
     omega (arith, length-take d.bounded.result.count d.bounded.new.1.1.1.1.1.1.0)
 
-constraints-run-requires : tie.Need-constraints-run-requires
+constraints-run-requires : tie.Need-constraints_run-requires
 constraints-run-requires c κs =
     let d = c.before.before.before.before.before in let y = d.before.before.before.before.before.before in let st = y.before.before.before in let e = d.bounded.ensures in
     let ql = d.bounded.new.1.1.1.1.1.0 in let qh = d.bounded.new.1.1.1.1.1.1.0 in let m = d.bounded.result.count in
@@ -61,7 +61,7 @@ returns : tie.Need-returns
 returns c =
     let d = c.before.before.before.before.before.before in let y = d.before.before.before.before.before.before in let st = y.before.before.before in let a = st.args in
     record {
-      run = subst (λ (p : ℕ). Failing a.s.now a.k a.low.now a.high.now p a.most c.constraints-run.result) y.settle.ensures.1 c.constraints-run.ensures;
+      run = subst (λ (p : ℕ). Failing a.s.now a.k a.low.now a.high.now p a.most c.constraints_run.result) y.settle.ensures.1 c.constraints_run.ensures;
       row = y.settle.ensures.0.row;
       place = y.settle.ensures.1;
     }

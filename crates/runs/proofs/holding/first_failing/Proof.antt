@@ -20,16 +20,16 @@ use Rattle.bounds.proofs.Bounds.{Opening, opening-start, opening-at, opening-for
 use Rattle.runs.proofs.holding.first_failing.Statement.{statement}
 use Rattle.runs.proofs.holding.first_failing.Tie as tie
 
-abbrev invariant-loop2 : tie.invariant-loop2
+abbrev invariant-loop2 : tie.invariant-loop-k-2
 invariant-loop2 s k low high r ql qh first i₀ at₀ i at = Opening s (start_of r) (can_stand (box_of low high) (box_of ql qh)) at i × (at₀ ≤ at)
 
-abbrev decreases-loop2 : tie.decreases-loop2
+abbrev decreases-loop2 : tie.decreases-loop-k-2
 decreases-loop2 s k low high r ql qh first i₀ at₀ i at = length s - at
 
-abbrev invariant-loop : tie.invariant-loop
+abbrev invariant-loop : tie.invariant-loop-k
 invariant-loop s k low high r ql qh first i₀ at₀ i at = Opening s (start_of r) (can_stand (box_of low high) (box_of ql qh)) at i
 
-abbrev decreases-loop : tie.decreases-loop
+abbrev decreases-loop : tie.decreases-loop-k
 decreases-loop s k low high r ql qh first i₀ at₀ i at = length s - at
 
 module _ (st : tie.Start invariant-loop2 decreases-loop2 invariant-loop decreases-loop) where
@@ -65,15 +65,15 @@ module _ (st : tie.Start invariant-loop2 decreases-loop2 invariant-loop decrease
     less : (p : ℕ) → p ≡ next_of s at → length s - p < length s - at
     less p e = let r = here.whole.room in let w = here.whole.known in omega arith
 
-loop-holds : tie.Need-loop-init invariant-loop2 decreases-loop2 invariant-loop decreases-loop
+loop-holds : tie.Need-loop-k-init invariant-loop2 decreases-loop2 invariant-loop decreases-loop
 loop-holds c = let st = c.before in let p = st.requires in opening-start (s st) (start st) st.args.first (length st.args.ql.now) (ok st) p.0.row.opened p.3 p.4
 
-loop2-holds : tie.Need-loop2-init invariant-loop2 decreases-loop2 invariant-loop decreases-loop
-loop2-holds c = (c.loop.invariant, le_refl c.loop.at)
+loop2-holds : tie.Need-loop-k-2-init invariant-loop2 decreases-loop2 invariant-loop decreases-loop
+loop2-holds c = (c.loop-k.invariant, le_refl c.loop-k.at)
 
 -- ---- those without a number
-module _ (t : tie.Then1 invariant-loop2 decreases-loop2 invariant-loop decreases-loop) where
-  abbrev m₁ : tie.At-loop2 invariant-loop2 decreases-loop2 invariant-loop decreases-loop
+module _ (t : tie.In-loop-k-2 invariant-loop2 decreases-loop2 invariant-loop decreases-loop) where
+  abbrev m₁ : tie.At-loop-k-2 invariant-loop2 decreases-loop2 invariant-loop decreases-loop
   m₁ = t.before.before
 
   abbrev st₁ : tie.Start invariant-loop2 decreases-loop2 invariant-loop decreases-loop
@@ -82,48 +82,48 @@ module _ (t : tie.Then1 invariant-loop2 decreases-loop2 invariant-loop decreases
   test₁ : is_constraint (get_or (s st₁) m₁.loop2.at 0) ≡ true
   test₁ = ap (λ (x : Bool). x || is_numbered (get_or (s st₁) m₁.loop2.at 0)) (sym t.before.bare-at.ensures ∙ t.if1.taken)
 
-bare-at-requires : tie.Need-bare-at-requires invariant-loop2 decreases-loop2 invariant-loop decreases-loop
+bare-at-requires : tie.Need-bare_at-requires invariant-loop2 decreases-loop2 invariant-loop decreases-loop
 bare-at-requires c κs = search rules
 
-can-stand-requires : tie.Need-can-stand-requires invariant-loop2 decreases-loop2 invariant-loop decreases-loop
+can-stand-requires : tie.Need-can_stand-requires invariant-loop2 decreases-loop2 invariant-loop decreases-loop
 can-stand-requires c κs = let p = (st₁ c).requires in (p.0, p.1, p.2, rule (st₁ c) (m₁ c).loop2.at (m₁ c).loop2.i (m₁ c).loop2.invariant.0 (test₁ c))
 
-failed₁ : (c : tie.Then2 invariant-loop2 decreases-loop2 invariant-loop decreases-loop) → let t = c.before.before in ok (st₁ t) (constraint_at (s (st₁ t)) (m₁ t).loop2.at) ≡ false
-failed₁ c = sym c.before.can-stand.ensures ∙ not-true _ c.if2.true
+failed₁ : (c : tie.Then-not-can_stand invariant-loop2 decreases-loop2 invariant-loop decreases-loop) → let t = c.before.before in ok (st₁ t) (constraint_at (s (st₁ t)) (m₁ t).loop2.at) ≡ false
+failed₁ c = sym c.before.can_stand.ensures ∙ not-true _ c.if-not-can_stand.true-raw
 
-returns : tie.Need-returns invariant-loop2 decreases-loop2 invariant-loop decreases-loop
+returns : tie.Need-returns-then-not-can_stand invariant-loop2 decreases-loop2 invariant-loop decreases-loop
 returns c = let t = c.before.before in let l = (m₁ t).loop2 in stops (st₁ t) l.at l.i l.inv.0 (test₁ t) (failed₁ c)
 
-next-requires : tie.Need-next-requires invariant-loop2 decreases-loop2 invariant-loop decreases-loop
+next-requires : tie.Need-next-at-requires invariant-loop2 decreases-loop2 invariant-loop decreases-loop
 next-requires c κs = let t = c.before.before in let l = (m₁ t).loop2 in (here (st₁ t) l.at l.i l.inv.0 (test₁ t)).whole
 
-add-i : tie.Need-overflow-add-i invariant-loop2 decreases-loop2 invariant-loop decreases-loop
+add-i : tie.Need-overflow_add-i invariant-loop2 decreases-loop2 invariant-loop decreases-loop
 add-i c = let t = c.before.before.before in let l = (m₁ t).loop2 in let f = (rule (st₁ t) l.at l.i l.inv.0 (test₁ t)).few in omega arith
 
-loop2-less : tie.Need-loop2-smaller invariant-loop2 decreases-loop2 invariant-loop decreases-loop
-loop2-less c = let t = c.before.before.before in let l = (m₁ t).loop2 in less (st₁ t) l.at l.i l.inv.0 (test₁ t) c.next.result c.next.ensures
+loop2-less : tie.Need-loop-k-2-smaller invariant-loop2 decreases-loop2 invariant-loop decreases-loop
+loop2-less c = let t = c.before.before.before in let l = (m₁ t).loop2 in less (st₁ t) l.at l.i l.inv.0 (test₁ t) c.next-at.result c.next-at.ensures
 
-loop2-again : tie.Need-loop2-preserved invariant-loop2 decreases-loop2 invariant-loop decreases-loop
+loop2-again : tie.Need-loop-k-2-preserved invariant-loop2 decreases-loop2 invariant-loop decreases-loop
 loop2-again c =
     let e = c.before in let y = e.before in let t = y.before in let l = (m₁ t).loop2 in let b = l.inv.1 in
-    (on (st₁ t) l.at l.i l.inv.0 (test₁ t) c.next.result c.next.ensures (sym y.can-stand.ensures ∙ not-false _ e.if2.false), omega (arith, c.next.ensures))
+    (on (st₁ t) l.at l.i l.inv.0 (test₁ t) c.next-at.result c.next-at.ensures (sym y.can_stand.ensures ∙ not-false _ e.if-not-can_stand.false-raw), omega (arith, c.next-at.ensures))
 
 -- ---- one of the others
-constraint-at-requires : tie.Need-constraint-at-requires invariant-loop2 decreases-loop2 invariant-loop decreases-loop
+constraint-at-requires : tie.Need-constraint_at-requires invariant-loop2 decreases-loop2 invariant-loop decreases-loop
 constraint-at-requires c κs = search rules
 
-returns-2 : tie.Need-returns-2 invariant-loop2 decreases-loop2 invariant-loop decreases-loop
+returns-2 : tie.Need-returns-then-not-constraint_at invariant-loop2 decreases-loop2 invariant-loop decreases-loop
 returns-2 c =
     let y = c.before in let m = y.before.before.before in let st = m.before.before.before in
     record {
       rule = λ e. absurd (subst T (sym e) tt);
       falls = λ e. absurd (subst T (sym e) tt);
       among = λ e. absurd (subst T (sym e) tt);
-      stands = λ _. sym (opening-end (s st) (start st) (ok st) m.loop2.at m.loop2.i m.loop2.invariant.0 (sym y.constraint-at.ensures ∙ not-true _ c.if3.true));
+      stands = λ _. sym (opening-end (s st) (start st) (ok st) m.loop-k-2.at m.loop-k-2.i m.loop-k-2.invariant.0 (sym y.constraint_at.ensures ∙ not-true _ c.if-not-constraint_at.true-raw));
     }
 
-module _ (t : tie.Else3 invariant-loop2 decreases-loop2 invariant-loop decreases-loop) where
-  abbrev m₂ : tie.At-loop2 invariant-loop2 decreases-loop2 invariant-loop decreases-loop
+module _ (t : tie.Else-not-constraint_at invariant-loop2 decreases-loop2 invariant-loop decreases-loop) where
+  abbrev m₂ : tie.At-loop-k-2 invariant-loop2 decreases-loop2 invariant-loop decreases-loop
   m₂ = t.before.before.before.before
 
   abbrev st₂ : tie.Start invariant-loop2 decreases-loop2 invariant-loop decreases-loop
@@ -132,30 +132,30 @@ module _ (t : tie.Else3 invariant-loop2 decreases-loop2 invariant-loop decreases
   test₂ : is_constraint (get_or (s st₂) m₂.loop2.at 0) ≡ true
   test₂ = sym t.before.constraint-at.ensures ∙ not-false _ t.if3.left
 
-can-stand-requires-2 : tie.Need-can-stand-requires-2 invariant-loop2 decreases-loop2 invariant-loop decreases-loop
+can-stand-requires-2 : tie.Need-can_stand-requires-in-loop-k invariant-loop2 decreases-loop2 invariant-loop decreases-loop
 can-stand-requires-2 c κs = let p = (st₂ c).requires in (p.0, p.1, p.2, rule (st₂ c) (m₂ c).loop2.at (m₂ c).loop2.i (m₂ c).loop2.invariant.0 (test₂ c))
 
-failed₂ : (c : tie.Then4 invariant-loop2 decreases-loop2 invariant-loop decreases-loop) → let t = c.before.before in ok (st₂ t) (constraint_at (s (st₂ t)) (m₂ t).loop2.at) ≡ false
-failed₂ c = sym c.before.can-stand2.ensures ∙ not-true _ c.if4.true
+failed₂ : (c : tie.Then-not-can_stand-2 invariant-loop2 decreases-loop2 invariant-loop decreases-loop) → let t = c.before.before in ok (st₂ t) (constraint_at (s (st₂ t)) (m₂ t).loop2.at) ≡ false
+failed₂ c = sym c.before.can_stand-in-loop-k.ensures ∙ not-true _ c.if-not-can_stand-2.true-raw
 
-returns-3 : tie.Need-returns-3 invariant-loop2 decreases-loop2 invariant-loop decreases-loop
+returns-3 : tie.Need-returns-then-not-can_stand-2 invariant-loop2 decreases-loop2 invariant-loop decreases-loop
 returns-3 c = let t = c.before.before in let l = (m₂ t).loop2 in stops (st₂ t) l.at l.i l.inv.0 (test₂ t) (failed₂ c)
 
-next-requires-2 : tie.Need-next-requires-2 invariant-loop2 decreases-loop2 invariant-loop decreases-loop
+next-requires-2 : tie.Need-next-at-requires-in-loop-k invariant-loop2 decreases-loop2 invariant-loop decreases-loop
 next-requires-2 c κs = let t = c.before.before in let l = (m₂ t).loop2 in (here (st₂ t) l.at l.i l.inv.0 (test₂ t)).whole
 
-add-i-2 : tie.Need-overflow-add-i-2 invariant-loop2 decreases-loop2 invariant-loop decreases-loop
+add-i-2 : tie.Need-overflow_add-i-in-loop-k invariant-loop2 decreases-loop2 invariant-loop decreases-loop
 add-i-2 c = let t = c.before.before.before in let l = (m₂ t).loop2 in let f = (rule (st₂ t) l.at l.i l.inv.0 (test₂ t)).few in omega arith
 
-loop-less : tie.Need-loop-smaller invariant-loop2 decreases-loop2 invariant-loop decreases-loop
+loop-less : tie.Need-loop-k-smaller invariant-loop2 decreases-loop2 invariant-loop decreases-loop
 loop-less c =
     let t = c.before.before.before in let l = (m₂ t).loop2 in let b = l.inv.1 in
-    let f = less (st₂ t) l.at l.i l.inv.0 (test₂ t) c.next2.result c.next2.ensures in omega arith
+    let f = less (st₂ t) l.at l.i l.inv.0 (test₂ t) c.next-at-in-loop-k.result c.next-at-in-loop-k.ensures in omega arith
 
-loop-again : tie.Need-loop-preserved invariant-loop2 decreases-loop2 invariant-loop decreases-loop
+loop-again : tie.Need-loop-k-preserved invariant-loop2 decreases-loop2 invariant-loop decreases-loop
 loop-again c =
     let e = c.before in let y = e.before in let t = y.before in let l = (m₂ t).loop2 in
-    on (st₂ t) l.at l.i l.inv.0 (test₂ t) c.next2.result c.next2.ensures (sym y.can-stand2.ensures ∙ not-false _ e.if4.false)
+    on (st₂ t) l.at l.i l.inv.0 (test₂ t) c.next-at-in-loop-k.result c.next-at-in-loop-k.ensures (sym y.can_stand-in-loop-k.ensures ∙ not-false _ e.if-not-can_stand-2.false-raw)
 
 pub first_failing_spec : {M : Type 1} → statement M
 first_failing_spec =

@@ -12,46 +12,46 @@ use Rattle.bounds.proofs.Bounds.{ends-mono}
 use Rattle.runs.proofs.keeping.constraint_keeps.Statement.{statement}
 use Rattle.runs.proofs.keeping.constraint_keeps.Tie as tie
 
-body-requires : tie.Need-body-requires
+body-requires : tie.Need-body-t-requires
 body-requires c κs = c.before.requires.3.whole
 
-mul-end-at : tie.Need-overflow-mul-end-at
+mul-end-at : tie.Need-offset_bounds-r-i
 mul-end-at c = search rules
 
-element-copy-out-end-at : tie.Need-element-copy-out-end-at
+element-copy-out-end-at : tie.Need-bounds-r-i
 element-copy-out-end-at c = search rules
 
 -- the body of the constraint
-after : (x : tie.After-body) → constraint_body ≤ length x.body.result.now
-after x = subst (λ (t : List ℕ). constraint_body ≤ length t) (sym x.body.ensures) x.before.before.requires.3.body
+after : (x : tie.After-body-t) → constraint_body ≤ length x.body-t.result.now
+after x = subst (λ (t : List ℕ). constraint_body ≤ length t) (sym x.body-t.ensures) x.before.before.requires.3.body
 
-end-at-requires : tie.Need-end-at-requires
+end-at-requires : tie.Need-end_at-f-requires
 end-at-requires c κs =
     let x = c.before in let st = x.before.before in let h = after x in
     (omega arith, record { axis = st.requires.2.axis; from_size = back-within (omega arith) st.requires.2.from_size; to_size = back-within (omega arith) st.requires.2.to_size }, back-within (omega arith) (st.requires.0.least st.args.i st.requires.3.few))
 
-extreme-requires : tie.Need-extreme-requires
+extreme-requires : tie.Need-extreme-low-requires
 extreme-requires c κs =
-    let x = c.before.before in let st = x.before.before in (after x, ends-mono (omega arith) st.requires.1, back-within (omega arith) (within-mono (omega arith) c.end-at.ensures.1))
+    let x = c.before.before in let st = x.before.before in (after x, ends-mono (omega arith) st.requires.1, back-within (omega arith) (within-mono (omega arith) c.end_at-f.ensures.size))
 
-magnitude-requires : tie.Need-magnitude-requires
+magnitude-requires : tie.Need-magnitude-short-requires
 magnitude-requires c κs = search rules
 
-add-short : tie.Need-overflow-add-short
+add-short : tie.Need-overflow_add-short
 add-short c =
     let e = c.before in let f = e.before in let st = f.before.before.before.before in let q = st.requires.1 in
-    let w = back-within (omega arith) (e.extreme.ensures.1 most_quotient most_quotient (back-within (omega arith) f.end-at.ensures.1) q.lows q.highs) in
-    omega (arith, c.magnitude.ensures, w.size)
+    let w = back-within (omega arith) (e.extreme-low.ensures.size most_quotient most_quotient (back-within (omega arith) f.end_at-f.ensures.size) q.lows q.highs) in
+    omega (arith, c.magnitude-short.ensures, w.size)
 
 -- the constraint's place, from the guess on
-module _ (x : tie.After-guess-from) where
-  abbrev there : tie.After-body
+module _ (x : tie.After-guess_from-m) where
+  abbrev there : tie.After-body-t
   there = x.before.before.before.before.before
 
   abbrev st : tie.Start
   st = there.before.before
 
-guess-from-requires : tie.Need-guess-from-requires
+guess-from-requires : tie.Need-guess_from-m-requires
 guess-from-requires c κs =
     let x = c.before.before.before.before in let st = x.before.before in
     (st.requires.0, record { axis = st.requires.2.axis; from_size = back-within (omega arith) st.requires.2.from_size; to_size = back-within (omega arith) st.requires.2.to_size }, after x, st.requires.4)
@@ -59,18 +59,18 @@ guess-from-requires c κs =
 code-requires : tie.Need-code-requires
 code-requires c κs = search rules
 
-is-equality-requires : tie.Need-is-equality-requires
+is-equality-requires : tie.Need-is_equality-requires
 is-equality-requires c κs = search rules
 
-guess-from-requires-2 : tie.Need-guess-from-requires-2
+guess-from-requires-2 : tie.Need-guess_from-requires
 guess-from-requires-2 c κs =
     let g = c.before.before.before in let y = st g in
-    (y.pre.0, record { axis = y.pre.2.axis; from_size = back-within (omega arith) y.pre.2.from_size; to_size = back-within (omega arith) y.pre.2.to_size }, after (there g), g.guess-from.ensures.0)
+    (y.pre.0, record { axis = y.pre.2.axis; from_size = back-within (omega arith) y.pre.2.from_size; to_size = back-within (omega arith) y.pre.2.to_size }, after (there g), g.guess_from-m.ensures.0)
 
-returns : tie.Need-returns
-returns c = let a = c.guess-from2.ensures.1 in let g = c.before.before.before.before in let b = g.guess-from.ensures.1 in (c.guess-from2.ensures.0, omega arith)
+returns : tie.Need-returns-then-is_equality
+returns c = let a = c.guess_from.ensures.1 in let g = c.before.before.before.before in let b = g.guess_from-m.ensures.1 in (c.guess_from.ensures.0, omega arith)
 
-returns-2 : tie.Need-returns-2
+returns-2 : tie.Need-returns
 returns-2 c = search rules
 
 pub constraint_keeps_spec : {M : Type 1} → statement M

@@ -20,35 +20,35 @@ use Rattle.runs.proofs.keeping.constraints_keep.Tie as tie
 abbrev whichever : Constraint → Bool
 whichever c = true
 
-abbrev invariant-loop : tie.invariant-loop
+abbrev invariant-loop : tie.invariant-loop-k
 invariant-loop s k low high r ql qh first most from to m₀ i₀ at₀ m i at = Opening s (start_of r) whichever at i × (0 < m) × (m ≤ most)
 
-abbrev decreases-loop : tie.decreases-loop
+abbrev decreases-loop : tie.decreases-loop-k
 decreases-loop s k low high r ql qh first most from to m₀ i₀ at₀ m i at = length s - at
 
 axis : (st : tie.Start invariant-loop decreases-loop) → st.args.k < most_axes
 axis st = let a = st.requires.0.axis in let b = st.requires.1.few in omega arith
 
-gap-requires : tie.Need-gap-requires invariant-loop decreases-loop
+gap-requires : tie.Need-gap-from-requires invariant-loop decreases-loop
 gap-requires c κs =
     let st = c.before in let p = st.requires in let a = axis st in (p.0.axis, p.1.lows, omega arith, p.0.row.places, p.0.row.lows st.args.k a)
 
-gap-requires-2 : tie.Need-gap-requires-2 invariant-loop decreases-loop
+gap-requires-2 : tie.Need-gap-to-requires invariant-loop decreases-loop
 gap-requires-2 c κs =
     let st = c.before.before in let p = st.requires in let a = axis st in let q = p.1.same in let h = p.0.axis in
     (omega arith, p.1.highs, omega arith, p.0.row.places, p.0.row.highs st.args.k a)
 
-loop-holds : tie.Need-loop-init invariant-loop decreases-loop
+loop-holds : tie.Need-loop-k-init invariant-loop decreases-loop
 loop-holds c =
     let st = c.before.before.before in let a = st.args in let p = st.requires in let h = p.5 in
     (opening-start a.s.now (start_of a.r.now) a.first (length a.ql.now) whichever p.0.row.opened p.3 p.4, h, omega arith)
 
 -- a turn: its start, the constraint at its place
-module _ (t : tie.Then1 invariant-loop decreases-loop) where
-  abbrev m : tie.At-loop invariant-loop decreases-loop
+module _ (t : tie.In-loop-k invariant-loop decreases-loop) where
+  abbrev m : tie.At-loop-k invariant-loop decreases-loop
   m = t.before.before
 
-  abbrev gaps : tie.After-gap2 invariant-loop decreases-loop
+  abbrev gaps : tie.After-gap-to invariant-loop decreases-loop
   gaps = m.before
 
   abbrev st : tie.Start invariant-loop decreases-loop
@@ -69,13 +69,13 @@ module _ (t : tie.Then1 invariant-loop decreases-loop) where
   few : m.loop.i < 56
   few = opening-few s start whichever m.loop.at m.loop.i m.loop.inv.0 test
 
-constraint-at-requires : tie.Need-constraint-at-requires invariant-loop decreases-loop
+constraint-at-requires : tie.Need-constraint_at-requires invariant-loop decreases-loop
 constraint-at-requires c κs = search rules
 
-returns : tie.Need-returns invariant-loop decreases-loop
+returns : tie.Need-returns-then-m-eq1 invariant-loop decreases-loop
 returns c = let v = (m c.before).loop.inv in let a = v.1 in let b = v.2 in (omega arith, omega arith)
 
-constraint-keeps-requires : tie.Need-constraint-keeps-requires invariant-loop decreases-loop
+constraint-keeps-requires : tie.Need-constraint_keeps-m-requires invariant-loop decreases-loop
 constraint-keeps-requires c κs =
     let t = c.before in let a = (st t).args in let p = (st t).requires in let g2 = gaps t in let g1 = g2.before in let l = (m t).loop in (
       row_loose a.s.now (length a.low.now) a.r.now p.1.few p.0.row,
@@ -85,29 +85,29 @@ constraint-keeps-requires c κs =
       l.inv.1,
     )
 
-next-requires : tie.Need-next-requires invariant-loop decreases-loop
+next-requires : tie.Need-next-at-requires invariant-loop decreases-loop
 next-requires c κs = (here c.before.before).whole
 
 -- behind the turn
-abbrev turn : tie.After-next invariant-loop decreases-loop → tie.Then1 invariant-loop decreases-loop
+abbrev turn : tie.After-next-at invariant-loop decreases-loop → tie.In-loop-k invariant-loop decreases-loop
 turn c = c.before.before.before
 
-add-i : tie.Need-overflow-add-i invariant-loop decreases-loop
+add-i : tie.Need-overflow_add-i invariant-loop decreases-loop
 add-i c = let f = few (turn c) in omega arith
 
-loop-less : tie.Need-loop-smaller invariant-loop decreases-loop
-loop-less c = let h = (here (turn c)).whole in let r = h.room in let w = h.known in omega (arith, c.next.ensures)
+loop-less : tie.Need-loop-k-smaller invariant-loop decreases-loop
+loop-less c = let h = (here (turn c)).whole in let r = h.room in let w = h.known in omega (arith, c.next-at.ensures)
 
-loop-again : tie.Need-loop-preserved invariant-loop decreases-loop
+loop-again : tie.Need-loop-k-preserved invariant-loop decreases-loop
 loop-again c =
-    let t = turn c in let l = (m t).loop in let v = l.inv in let b = v.2 in let k = c.before.constraint-keeps.ensures in let d = k.1 in (
-      subst (λ (p : ℕ). Opening (s t) (start t) whichever p (l.i + 1)) (sym c.next.ensures) (opening-next (s t) (start t) whichever l.at l.i v.0 (test t) refl),
+    let t = turn c in let l = (m t).loop in let v = l.inv in let b = v.2 in let k = c.before.constraint_keeps-m.ensures in let d = k.1 in (
+      subst (λ (p : ℕ). Opening (s t) (start t) whichever p (l.i + 1)) (sym c.next-at.ensures) (opening-next (s t) (start t) whichever l.at l.i v.0 (test t) refl),
       k.0,
       omega arith,
     )
 
-returns-2 : tie.Need-returns-2 invariant-loop decreases-loop
-returns-2 c = let v = c.before.before.loop.invariant in (v.1, v.2)
+returns-2 : tie.Need-returns invariant-loop decreases-loop
+returns-2 c = let v = c.before.before.loop-k.invariant in (v.1, v.2)
 
 pub constraints_keep_spec : {M : Type 1} → statement M
 constraints_keep_spec =

@@ -7,41 +7,41 @@ use borrow.Author.Rules.{rules}
 use Rattle.runs.proofs.keeping.keeps.Statement.{statement}
 use Rattle.runs.proofs.keeping.keeps.Tie as tie
 
-no-values-requires : tie.Need-no-values-requires
+no-values-requires : tie.Need-no_values-ql-requires
 no-values-requires c κs = search rules
 
-no-values-requires-2 : tie.Need-no-values-requires-2
+no-values-requires-2 : tie.Need-no_values-qh-requires
 no-values-requires-2 c κs = search rules
 
-slice-aggregate-bounded : tie.Need-slice-aggregate-bounded
+slice-aggregate-bounded : tie.Need-slice_bounds-bounded-end
 slice-aggregate-bounded c = search rules
 
-slice-aggregate-bounded-2 : tie.Need-slice-aggregate-bounded-2
+slice-aggregate-bounded-2 : tie.Need-slice_bounds-bounded-end-2
 slice-aggregate-bounded-2 c = search rules
 
-bounded-requires : tie.Need-bounded-requires
+bounded-requires : tie.Need-bounded-p-requires
 bounded-requires c κs = search rules
 
-array-share-prefix-ql : tie.Need-array-share-prefix-ql
+array-share-prefix-ql : tie.Need-slice_bounds-ql-end
 array-share-prefix-ql c = search rules
 
-slice-aggregate-constraints-keep : tie.Need-slice-aggregate-constraints-keep
+slice-aggregate-constraints-keep : tie.Need-slice_bounds-constraints_keep-end
 slice-aggregate-constraints-keep c =
-    let d = c.before.before.before in let f = d.bounded.ensures.few in let l = d.bounded.ensures.lows in
-    omega (arith, length-take d.bounded.result.count d.bounded.new.1.1.1.1.1.0)
+    let d = c.before.before.before in let f = d.bounded-p.ensures.few in let l = d.bounded-p.ensures.lows in
+    omega (arith, length-take d.bounded-p.result.count d.bounded-p.new.1.1.1.1.1.0)
 
-array-share-prefix-qh : tie.Need-array-share-prefix-qh
+array-share-prefix-qh : tie.Need-slice_bounds-qh-end
 array-share-prefix-qh c = search rules
 
-slice-aggregate-constraints-keep-2 : tie.Need-slice-aggregate-constraints-keep-2
+slice-aggregate-constraints-keep-2 : tie.Need-slice_bounds-constraints_keep-end-2
 slice-aggregate-constraints-keep-2 c =
-    let d = c.before.before.before.before in let f = d.bounded.ensures.few in let l = d.bounded.ensures.highs in
-    omega (arith, length-take d.bounded.result.count d.bounded.new.1.1.1.1.1.1.0)
+    let d = c.before.before.before.before in let f = d.bounded-p.ensures.few in let l = d.bounded-p.ensures.highs in
+    omega (arith, length-take d.bounded-p.result.count d.bounded-p.new.1.1.1.1.1.1.0)
 
-constraints-keep-requires : tie.Need-constraints-keep-requires
+constraints-keep-requires : tie.Need-constraints_keep-requires
 constraints-keep-requires c κs =
-    let d = c.before.before.before.before in let st = d.before.before.before.before.before.before in let e = d.bounded.ensures in
-    let ql = d.bounded.new.1.1.1.1.1.0 in let qh = d.bounded.new.1.1.1.1.1.1.0 in let m = d.bounded.result.count in
+    let d = c.before.before.before.before in let st = d.before.before.before.before.before.before in let e = d.bounded-p.ensures in
+    let ql = d.bounded-p.new.1.1.1.1.1.0 in let qh = d.bounded-p.new.1.1.1.1.1.1.0 in let m = d.bounded-p.result.count in
     let f = e.few in let l = e.lows in let h = e.highs in (
       st.requires.0,
       st.requires.1,

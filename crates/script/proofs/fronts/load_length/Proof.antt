@@ -6,14 +6,14 @@ use Rattle.session.specs.Script.{load_length}
 use Rattle.script.proofs.fronts.load_length.Statement.{statement}
 use Rattle.script.proofs.fronts.load_length.Tie as tie
 
-u16-at-requires : tie.Need-u16-at-requires
-u16-at-requires c κs = let h = c.before.before.requires c.if1.true in omega arith
+u16-at-requires : tie.Need-u16_at-requires
+u16-at-requires c κs = let h = c.before.before.requires c.if-b-eq64.true in omega arith
 
-returns : tie.Need-returns
-returns c = (c.u16-at.ensures.0 ∙ ap (λ (x : Bool). cond x (load_length c.before.before.before.args.s.now) 0) (sym (eq-eqb _ _ c.before.if1.true)), c.u16-at.ensures.1)
+returns : tie.Need-returns-then-b-eq64
+returns c = record { is = c.u16_at.ensures.is ∙ ap (λ (x : Bool). cond x (load_length c.before.before.before.args.s.now) 0) (sym (eq-eqb _ _ c.before.if-b-eq64.true)); small = c.u16_at.ensures.small }
 
-returns-2 : tie.Need-returns-2
-returns-2 c = (ap (λ (x : Bool). cond x (load_length c.before.before.args.s.now) 0) (sym (ne_eqb _ _ c.if1.false)), omega arith)
+returns-2 : tie.Need-returns
+returns-2 c = record { is = ap (λ (x : Bool). cond x (load_length c.before.before.args.s.now) 0) (sym (ne_eqb _ _ c.if-b-eq64.false)); small = omega arith }
 
 pub load_length_spec : {M : Type 1} → statement M
 load_length_spec = tie.close (tie.spec u16-at-requires returns returns-2)

@@ -8,28 +8,28 @@ use borrow.Author.Rules.{rules}
 use Rattle.script.proofs.turns.cursor_fits.Statement.{statement}
 use Rattle.script.proofs.turns.cursor_fits.Tie as tie
 
-returns : tie.Need-returns
-returns c = simp (lt-leb _ _ c.if1.true)
+returns : tie.Need-returns-then-set-gt3
+returns c = simp (lt-leb _ _ c.if-set-gt3.true)
 
-mul-if2 : tie.Need-overflow-mul-if2
+mul-if2 : tie.Need-offset_bounds-lengths-set
 mul-if2 c = search rules
 
-shared-slice-read-if2 : tie.Need-shared-slice-read-if2
+shared-slice-read-if2 : tie.Need-bounds-lengths-set
 shared-slice-read-if2 c = search rules
 
-returns-2 : tie.Need-returns-2
-returns-2 c = simp (le-leb _ _ c.before.before.if1.false, lt-leb _ _ c.if2.true)
+returns-2 : tie.Need-returns-then-lengths-set
+returns-2 c = simp (le-leb _ _ c.before.before.if-set-gt3.false, lt-leb _ _ c.if-lengths-set.true)
 
-returns-3 : tie.Need-returns-3
-returns-3 c = simp (le-leb _ _ c.before.before.before.before.if1.false, le-leb _ _ c.before.before.if2.false, lt-leb _ _ c.if3.true)
+returns-3 : tie.Need-returns-then-c-gt-SET_BYTES
+returns-3 c = simp (le-leb _ _ c.before.before.before.before.if-set-gt3.false, le-leb _ _ c.before.before.if-lengths-set.false, lt-leb _ _ c.if-c-gt-SET_BYTES.true)
 
-returns-4 : tie.Need-returns-4
+returns-4 : tie.Need-returns
 returns-4 c =
     let at-if2 = c.before.before.before in let at-if1 = at-if2.before.before in let st = at-if1.before in
     let k = st.args.c in
     sym
     (ap₂ (λ (x y : Bool). x && (y && (leb k.basics room && leb k.divisions 8))) (le-leb _ _ at-if1.if1.false) (le-leb _ _ at-if2.if2.false) ∙ ap
-    (λ (z : Bool). z && leb k.divisions 8) (le-leb _ _ c.before.if3.false))
+    (λ (z : Bool). z && leb k.divisions 8) (le-leb _ _ c.before.if-c-gt-SET_BYTES.false))
 
 pub cursor_fits_spec : {M : Type 1} → statement M
 cursor_fits_spec =

@@ -13,46 +13,46 @@ use borrow.Author.Rules.{rules}
 use Rattle.script.proofs.turns.lengths_fit.Statement.{statement}
 use Rattle.script.proofs.turns.lengths_fit.Tie as tie
 
-abbrev invariant-loop : tie.invariant-loop
+abbrev invariant-loop : tie.invariant-loop-i
 invariant-loop lengths i₀ i = (i ≤ length lengths) × (all (λ (l : ℕ). leb l room) (drop i lengths) ≡ all (λ (l : ℕ). leb l room) lengths)
 
-abbrev decreases-loop : tie.decreases-loop
+abbrev decreases-loop : tie.decreases-loop-i
 decreases-loop lengths i₀ i = length lengths - i
 
-loop-holds : tie.Need-loop-init invariant-loop decreases-loop
+loop-holds : tie.Need-loop-i-init invariant-loop decreases-loop
 loop-holds c = (omega arith, refl)
 
-mul-if1 : tie.Need-overflow-mul-if1 invariant-loop decreases-loop
+mul-if1 : tie.Need-offset_bounds-lengths-i invariant-loop decreases-loop
 mul-if1 c = search rules
 
-shared-slice-read-if1 : tie.Need-shared-slice-read-if1 invariant-loop decreases-loop
+shared-slice-read-if1 : tie.Need-bounds-lengths-i invariant-loop decreases-loop
 shared-slice-read-if1 c = search rules
 
-returns : tie.Need-returns invariant-loop decreases-loop
+returns : tie.Need-returns-then-lengths-i-gt-SET_BYTES invariant-loop decreases-loop
 returns c =
     let in-loop = c.before.before.before in let st = in-loop.before in
     sym
-    (sym in-loop.loop.invariant.1 ∙ all_from in-loop.loop.i st.args.lengths.now c.before.before.loop-test.true ∙ ap
-    (λ (x : Bool). x && all (λ (l : ℕ). leb l room) (drop (in-loop.loop.i + 1) st.args.lengths.now)) (lt-leb _ _ c.if1.true))
+    (sym in-loop.loop.invariant.1 ∙ all_from in-loop.loop.i st.args.lengths.now c.before.before.loop-i-test.true ∙ ap
+    (λ (x : Bool). x && all (λ (l : ℕ). leb l room) (drop (in-loop.loop.i + 1) st.args.lengths.now)) (lt-leb _ _ c.if-lengths-i-gt-SET_BYTES.true))
 
-add-i : tie.Need-overflow-add-i invariant-loop decreases-loop
+add-i : tie.Need-overflow_add-i invariant-loop decreases-loop
 add-i c = search rules
 
-loop-less : tie.Need-loop-smaller invariant-loop decreases-loop
+loop-less : tie.Need-loop-i-smaller invariant-loop decreases-loop
 loop-less c = omega arith
 
-loop-again : tie.Need-loop-preserved invariant-loop decreases-loop
+loop-again : tie.Need-loop-i-preserved invariant-loop decreases-loop
 loop-again c =
     let in-loop = c.before.before.before in let st = in-loop.before in (
       omega arith,
       sym
-          (all_from in-loop.loop.i st.args.lengths.now c.before.before.loop-test.true ∙ ap
-          (λ (x : Bool). x && all (λ (l : ℕ). leb l room) (drop (in-loop.loop.i + 1) st.args.lengths.now)) (le-leb _ _ c.if1.false))
+          (all_from in-loop.loop.i st.args.lengths.now c.before.before.loop-i-test.true ∙ ap
+          (λ (x : Bool). x && all (λ (l : ℕ). leb l room) (drop (in-loop.loop.i + 1) st.args.lengths.now)) (le-leb _ _ c.if-lengths-i-gt-SET_BYTES.false))
           ∙ in-loop.loop.invariant.1,
     )
 
-returns-2 : tie.Need-returns-2 invariant-loop decreases-loop
-returns-2 c = sym (sym c.before.loop.invariant.1 ∙ ap (all (λ (l : ℕ). leb l room)) (drop_of_length-le c.before.before.args.lengths.now c.loop-test.false))
+returns-2 : tie.Need-returns invariant-loop decreases-loop
+returns-2 c = sym (sym c.before.loop-i.invariant.1 ∙ ap (all (λ (l : ℕ). leb l room)) (drop_of_length-le c.before.before.args.lengths.now c.loop-i-test.false))
 
 pub lengths_fit_spec : {M : Type 1} → statement M
 lengths_fit_spec =

@@ -15,7 +15,7 @@ use Rattle.script.proofs.turns.line.Statement.{statement}
 use Rattle.script.proofs.turns.line.Tie as tie
 
 -- ---- the command at the place, and what the tests say of it
-module _ (c : tie.After-is-opening) where
+module _ (c : tie.After-is_opening) where
   abbrev st : tie.Start
   st = c.before.before.before.before
 
@@ -31,74 +31,74 @@ module _ (c : tie.After-is-opening) where
   opening : c.is-opening.result ≡ is_opening b
   opening = c.is-opening.ensures ∙ ap is_opening c.before.code.ensures
 
-division : (c : tie.After-is-division) → c.is-division.result ≡ is_division (b c.before.before.before)
-division c = c.is-division.ensures ∙ ap is_division c.before.before.before.before.code.ensures
+division : (c : tie.After-is_division) → c.is_division.result ≡ is_division (b c.before.before.before)
+division c = c.is_division.ensures ∙ ap is_division c.before.before.before.before.code-b.ensures
 
-code-requires : tie.Need-code-requires
+code-requires : tie.Need-code-b-requires
 code-requires c κs = search rules
 
-is-opening-requires : tie.Need-is-opening-requires
+is-opening-requires : tie.Need-is_opening-requires
 is-opening-requires c κs = search rules
 
 slice-aggregate-counted-line : tie.Need-slice-aggregate-counted-line
 slice-aggregate-counted-line c = search rules
 
-add-counted-line : tie.Need-overflow-add-counted-line
+add-counted-line : tie.Need-overflow_add-basics
 add-counted-line c = search rules
 
-counted-line-requires : tie.Need-counted-line-requires
+counted-line-requires : tie.Need-counted_line-requires
 counted-line-requires c κs = search rules
 
-same_length : tie.Need-same-length
+same_length : tie.Need-shape_of-out-then-is_opening
 same_length c = search rules
 
-returns : tie.Need-returns
+returns : tie.Need-returns-then-is_opening
 returns c =
     let y = c.before.before.before.before.before in let o = y.before in let a = (st o).args in
-    writes-same (omega arith) (line-basic a.axes a.c (b o) (drop (at o + 1) (s o)) (sym (opening o) ∙ y.if1.true)) c.before.before.counted-line.ensures
+    writes-same (omega arith) (line-basic a.axes a.c (b o) (drop (at o + 1) (s o)) (sym (opening o) ∙ y.if1.true)) c.before.before.counted_line.ensures
 
-body-requires : tie.Need-body-requires
+body-requires : tie.Need-body-t-requires
 body-requires c κs = (st c.before).pre.whole
 
-is-division-requires : tie.Need-is-division-requires
+is-division-requires : tie.Need-is_division-requires
 is-division-requires c κs = search rules
 
 head-requires : tie.Need-head-requires
 head-requires c κs = (st c.before.before.before.before.before).pre.whole
 
-division-line-requires : tie.Need-division-line-requires
+division-line-requires : tie.Need-division_line-requires
 division-line-requires c κs =
     let y = c.before.before in let d = y.before in let o = d.before.before.before in let p = (st o).requires in
-    (p.line_long, p.axes, subst (λ (t : List ℕ). division_body ≤ length t) (sym d.before.body.ensures) (body-room (b o) (s o) (at o) division_body (width-division (b o) (sym (division d) ∙ y.if2.true)) p.whole.room))
+    (p.line_long, p.axes, subst (λ (t : List ℕ). division_body ≤ length t) (sym d.before.body-t.ensures) (body-room (b o) (s o) (at o) division_body (width-division (b o) (sym (division d) ∙ y.if-is_division.true)) p.whole.room))
 
-same-length-2 : tie.Need-same-length-2
+same-length-2 : tie.Need-shape_of-out-then-is_division
 same-length-2 c = search rules
 
-returns-2 : tie.Need-returns-2
+returns-2 : tie.Need-returns-then-is_division
 returns-2 c =
     let h = c.before.before.before in let y = h.before.before in let d = y.before in let e = d.before.before in let o = e.before in let a = (st o).args in
     writes-same (omega arith)
-    (ap₂ (λ (m : ℕ) (t : List ℕ). T.division_line a.axes (read_division m t)) h.head.ensures.0 d.before.body.ensures
-    ∙ line-division a.axes a.c (b o) (drop (at o + 1) (s o)) (sym (opening o) ∙ e.if1.false) (sym (division d) ∙ y.if2.true))
-    c.before.before.division-line.ensures
+    (ap₂ (λ (m : ℕ) (t : List ℕ). T.division_line a.axes (read_division m t)) h.head.ensures.is d.before.body-t.ensures
+    ∙ line-division a.axes a.c (b o) (drop (at o + 1) (s o)) (sym (opening o) ∙ e.if-is_opening.false) (sym (division d) ∙ y.if-is_division.true))
+    c.before.before.division_line.ensures
 
-constraint-line-requires : tie.Need-constraint-line-requires
+constraint-line-requires : tie.Need-constraint_line-requires
 constraint-line-requires c κs =
     let y = c.before in let d = y.before in let e = d.before.before in let o = e.before in let p = (st o).requires in
-    let f : is_division (b o) ≡ false = sym (division d) ∙ y.if2.false in let n = eqb-false (b o) _ (sym (opening o) ∙ e.if1.false) in let k = p.whole.known in
+    let f : is_division (b o) ≡ false = sym (division d) ∙ y.if-is_division.false in let n = eqb-false (b o) _ (sym (opening o) ∙ e.if-is_opening.false) in let k = p.whole.known in
     let w = width-constraint (b o) n f (other-code (b o) n f (λ z. omega arith)) in
-    (p.line_long, p.axes, p.few_divisions, subst (λ (t : List ℕ). constraint_body ≤ length t) (sym d.before.body.ensures) (body-room (b o) (s o) (at o) constraint_body w p.whole.room))
+    (p.line_long, p.axes, p.few_divisions, subst (λ (t : List ℕ). constraint_body ≤ length t) (sym d.before.body-t.ensures) (body-room (b o) (s o) (at o) constraint_body w p.whole.room))
 
-same-length-3 : tie.Need-same-length-3
+same-length-3 : tie.Need-shape_of-out
 same-length-3 c = search rules
 
-returns-3 : tie.Need-returns-3
+returns-3 : tie.Need-returns
 returns-3 c =
     let y = c.before.before.before.before in let d = y.before in let e = d.before.before in let o = e.before in let a = (st o).args in
     writes-same (omega arith)
-    (ap₂ (λ (m : ℕ) (t : List ℕ). T.constraint_line a.axes a.c.divisions (read_constraint (kind_of m) t)) o.before.code.ensures d.before.body.ensures
-    ∙ line-constraint a.axes a.c (b o) (drop (at o + 1) (s o)) (sym (opening o) ∙ e.if1.false) (sym (division d) ∙ y.if2.false))
-    c.before.before.constraint-line.ensures
+    (ap₂ (λ (m : ℕ) (t : List ℕ). T.constraint_line a.axes a.c.divisions (read_constraint (kind_of m) t)) o.before.code-b.ensures d.before.body-t.ensures
+    ∙ line-constraint a.axes a.c (b o) (drop (at o + 1) (s o)) (sym (opening o) ∙ e.if-is_opening.false) (sym (division d) ∙ y.if-is_division.false))
+    c.before.before.constraint_line.ensures
 
 pub line_spec : {M : Type 1} → statement M
 line_spec =

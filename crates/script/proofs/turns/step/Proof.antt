@@ -17,28 +17,28 @@ usable-requires c κs = search rules
 silent-requires : tie.Need-silent-requires
 silent-requires c κs = search rules
 
-same_length : tie.Need-same-length
+same_length : tie.Need-shape_of-tables-then-not-usable
 same_length c = search rules
 
-same-length-2 : tie.Need-same-length-2
+same-length-2 : tie.Need-shape_of-lengths-then-not-usable
 same-length-2 c = search rules
 
-same-length-3 : tie.Need-same-length-3
+same-length-3 : tie.Need-shape_of-res-then-not-usable
 same-length-3 c = search rules
 
-returns : tie.Need-returns
+returns : tie.Need-returns-then-not-usable
 returns c =
     let st = c.before.before.before.before.before.before.before.before.before.before.before in
     turn-same
     (sym
     (turn-misused st.args.state (memory st.args.tables.now st.args.lengths.now st.args.res.now) (length st.args.out.now) st.args.ended st.args.input.now
-    (sym c.before.before.usable.ensures ∙ not-true _ c.before.if1.true)))
+    (sym c.before.before.usable.ensures ∙ not-true _ c.before.if-not-usable.true-raw)))
     (quiet-turn st.args.state (memory st.args.tables.now st.args.lengths.now st.args.res.now) Misused st.args.out.now c.silent.ensures)
 
-enum-known-listing : tie.Need-enum-known-listing
+enum-known-listing : tie.Need-enum_known-listing
 enum-known-listing c = search rules
 
-listing-turn-requires : tie.Need-listing-turn-requires
+listing-turn-requires : tie.Need-listing_turn-requires
 listing-turn-requires c κs =
     let at-listing = c.before.before.before.before in let at-if1 = at-listing.before.before in let at-usable = at-if1.before in
     let st = at-usable.before.before.before.before.before.before.before.before.before in
@@ -51,29 +51,29 @@ listing-turn-requires c κs =
       l.usable_is.line_long,
     )
 
-enum_told : tie.Need-enum-told
+enum_told : tie.Need-enum_told-1
 enum_told c = search rules
 
-front-turn-requires : tie.Need-front-turn-requires
+front-turn-requires : tie.Need-front_turn-requires
 front-turn-requires c κs =
     let at-if1 = c.before.before.before.before.before.before in let at-usable = at-if1.before in
     let st = at-usable.before.before.before.before.before.before.before.before.before in
     (lent st.args.state (memory st.args.tables.now st.args.lengths.now st.args.res.now) st.args.out.now
     (sym at-usable.usable.ensures ∙ not-false _ at-if1.if1.false)).usable_is
 
-same-length-4 : tie.Need-same-length-4
+same-length-4 : tie.Need-shape_of-tables-in-From
 same-length-4 c = search rules
 
-same-length-5 : tie.Need-same-length-5
+same-length-5 : tie.Need-shape_of-lengths-in-From
 same-length-5 c = search rules
 
-same-length-6 : tie.Need-same-length-6
+same-length-6 : tie.Need-shape_of-res-in-From
 same-length-6 c = search rules
 
-same-length-7 : tie.Need-same-length-7
+same-length-7 : tie.Need-shape_of-out-in-From
 same-length-7 c = search rules
 
-returns-2 : tie.Need-returns-2
+returns-2 : tie.Need-returns-in-From
 returns-2 c =
     let at-listing = c.before.before.before.before.before.before.before in let at-if1 = at-listing.before.before in let at-usable = at-if1.before in
     let st = at-usable.before.before.before.before.before.before.before.before.before in
@@ -83,21 +83,21 @@ returns-2 c =
     (sym at-usable.usable.ensures ∙ not-false _ at-if1.if1.false) (From at-listing.listing.given.0.0) at-listing.listing.given.1))
     (line-memory st.args.state.axes (memory st.args.tables.now st.args.lengths.now st.args.res.now) at-listing.listing.given.0.0
     (drop at-listing.listing.given.0.0.place (table_at st.args.tables.now st.args.lengths.now at-listing.listing.given.0.0.set))
-    c.before.before.listing-turn.ensures)
+    c.before.before.listing_turn.ensures)
 
-same-length-8 : tie.Need-same-length-8
+same-length-8 : tie.Need-shape_of-tables-in-Nothing
 same-length-8 c = search rules
 
-same-length-9 : tie.Need-same-length-9
+same-length-9 : tie.Need-shape_of-lengths-in-Nothing
 same-length-9 c = search rules
 
-same-length-10 : tie.Need-same-length-10
+same-length-10 : tie.Need-shape_of-res-in-Nothing
 same-length-10 c = search rules
 
-same-length-11 : tie.Need-same-length-11
+same-length-11 : tie.Need-shape_of-out-in-Nothing
 same-length-11 c = search rules
 
-returns-3 : tie.Need-returns-3
+returns-3 : tie.Need-returns-in-Nothing
 returns-3 c =
     let at-front-turn = c.before.before.before.before.before.before.before.before in let at-enum-told = at-front-turn.before.before.before.before.before in
     let at-if1 = at-enum-told.before.before in let at-usable = at-if1.before in let st = at-usable.before.before.before.before.before.before.before.before.before in

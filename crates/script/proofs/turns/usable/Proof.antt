@@ -5,41 +5,41 @@ use borrow.Author.Rules.{rules}
 use Rattle.script.proofs.turns.usable.Statement.{statement}
 use Rattle.script.proofs.turns.usable.Tie as tie
 
-returns : tie.Need-returns
+returns : tie.Need-returns-then-tables-ne32000
 unfolding Rattle.session.specs.Turns.usable
-returns c = rw (ne_eqb _ _ c.if1.true)
+returns c = rw (ne_eqb _ _ c.if-tables-ne32000.true)
 
-returns-2 : tie.Need-returns-2
+returns-2 : tie.Need-returns-then-lengths-ne4
 unfolding Rattle.session.specs.Turns.usable
-returns-2 c = rw (eq-eqb _ _ c.before.if1.false, ne_eqb _ _ c.if2.true)
+returns-2 c = rw (eq-eqb _ _ c.before.if-tables-ne32000.false, ne_eqb _ _ c.if-lengths-ne4.true)
 
-lengths-fit-requires : tie.Need-lengths-fit-requires
+lengths-fit-requires : tie.Need-lengths_fit-requires
 lengths-fit-requires c κs = search rules
 
-returns-3 : tie.Need-returns-3
+returns-3 : tie.Need-returns-then-not-lengths_fit
 unfolding Rattle.session.specs.Turns.usable
-returns-3 c = rw (eq-eqb _ _ c.before.before.before.if1.false, eq-eqb _ _ c.before.before.if2.false, sym c.before.lengths-fit.ensures ∙ not-true _ c.if3.true)
+returns-3 c = rw (eq-eqb _ _ c.before.before.before.if-tables-ne32000.false, eq-eqb _ _ c.before.before.if-lengths-ne4.false, sym c.before.lengths_fit.ensures ∙ not-true _ c.if-not-lengths_fit.true-raw)
 
-returns-4 : tie.Need-returns-4
+returns-4 : tie.Need-returns-then-res-ne-SET_BYTES
 unfolding Rattle.session.specs.Turns.usable
 returns-4 c =
     let at-if2 = c.before.before.before in let at-if1 = at-if2.before in
-    rw (eq-eqb _ _ at-if1.if1.false, eq-eqb _ _ at-if2.if2.false, sym c.before.before.lengths-fit.ensures ∙ not-false _ c.before.if3.false, ne_eqb _ _ c.if4.true)
+    rw (eq-eqb _ _ at-if1.if1.false, eq-eqb _ _ at-if2.if2.false, sym c.before.before.lengths_fit.ensures ∙ not-false _ c.before.if-not-lengths_fit.false-raw, ne_eqb _ _ c.if-res-ne-SET_BYTES.true)
 
-returns-5 : tie.Need-returns-5
+returns-5 : tie.Need-returns-then-width-lt512
 unfolding Rattle.session.specs.Turns.usable
 returns-5 c =
     let at-lengths-fit = c.before.before.before in let at-if2 = at-lengths-fit.before in let at-if1 = at-if2.before in
     rw (
       eq-eqb _ _ at-if1.if1.false,
       eq-eqb _ _ at-if2.if2.false,
-      sym at-lengths-fit.lengths-fit.ensures ∙ not-false _ c.before.before.if3.false,
+      sym at-lengths-fit.lengths-fit.ensures ∙ not-false _ c.before.before.if-not-lengths_fit.false-raw,
       eq-eqb _ _
-          c.before.if4.false,
-      lt-leb _ _ c.if5.true,
+          c.before.if-res-ne-SET_BYTES.false,
+      lt-leb _ _ c.if-width-lt512.true,
     )
 
-returns-6 : tie.Need-returns-6
+returns-6 : tie.Need-returns-then-axes-gt-AXES
 unfolding Rattle.session.specs.Turns.usable
 returns-6 c =
     let at-if3 = c.before.before.before in let at-lengths-fit = at-if3.before in let at-if2 = at-lengths-fit.before in let at-if1 = at-if2.before in
@@ -48,21 +48,21 @@ returns-6 c =
       eq-eqb _ _ at-if2.if2.false,
       sym at-lengths-fit.lengths-fit.ensures ∙ not-false _ at-if3.if3.false,
       eq-eqb _ _
-          c.before.before.if4.false,
-      le-leb _ _ c.before.if5.false,
-      lt-leb _ _ c.if6.true,
+          c.before.before.if-res-ne-SET_BYTES.false,
+      le-leb _ _ c.before.if-width-lt512.false,
+      lt-leb _ _ c.if-axes-gt-AXES.true,
     )
 
-enum_told : tie.Need-enum-told
+enum_told : tie.Need-enum_told-1
 enum_told c = search rules
 
-enum-known-listing : tie.Need-enum-known-listing
+enum-known-listing : tie.Need-enum_known-listing
 enum-known-listing c = search rules
 
-cursor-fits-requires : tie.Need-cursor-fits-requires
+cursor-fits-requires : tie.Need-cursor_fits-requires
 cursor-fits-requires c κs = search rules
 
-returns-7 : tie.Need-returns-7
+returns-7 : tie.Need-returns-in-Nothing
 unfolding Rattle.session.specs.Turns.usable
 returns-7 c =
     let at-if5 = c.before.before.before in let at-if4 = at-if5.before in let at-if3 = at-if4.before in let at-lengths-fit = at-if3.before in let at-if2 = at-lengths-fit.before in
@@ -74,16 +74,16 @@ returns-7 c =
       eq-eqb _ _ at-if4.if4.false,
       le-leb _ _
           at-if5.if5.false,
-      le-leb _ _ c.before.before.if6.false,
-      c.enum_told.given.1,
+      le-leb _ _ c.before.before.if-axes-gt-AXES.false,
+      c.enum_told-1.given.1,
     )
 
-returns-8 : tie.Need-returns-8
+returns-8 : tie.Need-returns-in-From
 unfolding Rattle.session.specs.Turns.usable
 returns-8 c =
     let at-if6 = c.before.before.before.before in let at-if5 = at-if6.before in let at-if4 = at-if5.before in let at-if3 = at-if4.before in let at-lengths-fit = at-if3.before in
     let at-if2 = at-lengths-fit.before in let at-if1 = at-if2.before in
-    c.cursor-fits.ensures ∙ rw (
+    c.cursor_fits.ensures ∙ rw (
       eq-eqb _ _ at-if1.if1.false,
       eq-eqb _ _ at-if2.if2.false,
       sym at-lengths-fit.lengths-fit.ensures ∙ not-false _ at-if3.if3.false,
@@ -91,7 +91,7 @@ returns-8 c =
       le-leb _ _
           at-if5.if5.false,
       le-leb _ _ at-if6.if6.false,
-      c.before.before.listing.given.1,
+      c.before.before.listing-1.given.1,
     )
 
 pub usable_spec : {M : Type 1} → statement M

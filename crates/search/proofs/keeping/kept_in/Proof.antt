@@ -10,16 +10,16 @@ use borrow.Author.Rules.{rules}
 use Rattle.search.proofs.keeping.kept_in.Statement.{statement}
 use Rattle.search.proofs.keeping.kept_in.Tie as tie
 
-slice-relend-prefix-kept : tie.Need-slice-relend-prefix-kept
+slice-relend-prefix-kept : tie.Need-slice_bounds-kept-end
 slice-relend-prefix-kept c = search rules
 
-slice-aggregate-kept : tie.Need-slice-aggregate-kept
+slice-aggregate-kept : tie.Need-slice_bounds-kept-end-2
 slice-aggregate-kept c = let st = c.before.before in let i = st.requires.0.inside in omega (arith, length-take st.args.count st.args.rows.now)
 
 kept-requires : tie.Need-kept-requires
 kept-requires c κs = search rules
 
-same_length : tie.Need-same-length
+same_length : tie.Need-shape_of-rows
 same_length c = search rules
 
 returns : tie.Need-returns
@@ -28,7 +28,7 @@ returns c =
     let k : length ys ≡ length (take n r) = o.kept.auto.1.1.1.1.1.0 in let i = st.requires.0.inside in
     let l : length ys ≡ n = omega (arith, length-take n r) in
     let e : take n (ys ++ drop n r) ≡ ys = ap (λ (j : ℕ). take j (ys ++ drop n r)) (sym l) ∙ take-append_seam ys (drop n r) in
-    (o.kept.ensures.0, record { inside = omega (arith, length_front r ys n k); used = subst (Rows st.args.s.now (length st.args.low.now)) (sym e) o.kept.ensures.1 })
+    record { is = o.kept.ensures.is; rows = record { inside = omega (arith, length_front r ys n k); used = subst (Rows st.args.s.now (length st.args.low.now)) (sym e) o.kept.ensures.rows } }
 
 pub kept_in_spec : {M : Type 1} → statement M
 kept_in_spec = tie.close (tie.spec slice-relend-prefix-kept slice-aggregate-kept kept-requires same_length returns)

@@ -33,16 +33,16 @@ one st =
       passed = λ j o. let z : st.args.i ≡ st.args.i + j = omega arith in subst (λ (w : ℕ). passes_at st.args.s.now st.args.p w ≡ true) z st.requires.4;
     }
 
-returns : tie.Need-returns
-returns c = let st = c.before.before in (one st, st.requires.1)
+returns : tie.Need-returns-then-not-ask
+returns c = let st = c.before.before in record { is = one st; rows = st.requires.1 }
 
-span-of-requires : tie.Need-span-of-requires
+span-of-requires : tie.Need-span_of-span-requires
 span-of-requires c κs =
     let st = c.before.before.before.before.before in let g = st.requires.0.standing in
     (axis-of g, g.low_size, g.high_size, g.ordered st.args.p.k)
 
 -- once the span is known
-module _ (x : tie.After-span-of) where
+module _ (x : tie.After-span_of-span) where
   abbrev st : tie.Start
   st = x.before.before.before.before.before.before
 
@@ -61,21 +61,21 @@ module _ (x : tie.After-span-of) where
   span-is : x.Span-of.result ≡ span_at p
   span-is = x.Span-of.ensures.0
 
-sub-fewer : tie.Need-overflow-sub-fewer
+sub-fewer : tie.Need-overflow_sub-span
 sub-fewer c = let e = span-is c in let h = (st c).requires.2 in omega arith
 
-add-fewer : tie.Need-overflow-add-fewer
+add-fewer : tie.Need-overflow_add-span
 add-fewer c = let o = c.Span-of.ensures.1 in omega arith
 
-sub-fewer-2 : tie.Need-overflow-sub-fewer-2
+sub-fewer-2 : tie.Need-overflow_sub-limit
 sub-fewer-2 c = let h = (st c).requires.3 in omega arith
 
-fewer-requires : tie.Need-fewer-requires
+fewer-requires : tie.Need-fewer-most-requires
 fewer-requires c κs = search rules
 
 -- as many values as the side and the limit leave
-module _ (f : tie.After-fewer) where
-  abbrev x : tie.After-span-of
+module _ (f : tie.After-fewer-most) where
+  abbrev x : tie.After-span_of-span
   x = f.before
 
   abbrev most : ℕ
@@ -90,16 +90,16 @@ module _ (f : tie.After-fewer) where
   some : 0 < most
   some = let h = (st x).pre.3 in f.fewer.ensures.2 (omega arith) (omega arith)
 
-value-at-requires : tie.Need-value-at-requires
+value-at-requires : tie.Need-value_at-v-requires
 value-at-requires c κs =
     let y = x c in let h = (st y).pre.2 in let e = span-is y in let o = y.Span-of.ensures.1 in (axis-of (g y), omega arith, (g y).low_size)
 
 -- at the value: its sides
-module _ (y : tie.After-value-at) where
-  abbrev f : tie.After-fewer
+module _ (y : tie.After-value_at-v) where
+  abbrev f : tie.After-fewer-most
   f = y.before
 
-  abbrev z : tie.After-span-of
+  abbrev z : tie.After-span_of-span
   z = x f
 
   abbrev lows : List ℤ
@@ -132,31 +132,31 @@ module _ (y : tie.After-value-at) where
   sided : Sided (s z) (p z).k (take (p z).n lows) (take (p z).n highs) (p z).live (most f)
   sided = next_fits (s z) (p z).n (p z).k (p z).low (p z).high (g z) (i z) (st z).pre.2 lows highs lows-are highs-are (p z).live (most f) (st z).pre.0.lives (some f) (on-side f)
 
-mul_low : tie.Need-overflow-mul-low
+mul_low : tie.Need-offset_bounds-low-k
 mul_low c = let a = axis-of (g (z c)) in omega arith
 
-array-set-from-low : tie.Need-array-set-from-low
+array-set-from-low : tie.Need-bounds-low-k
 array-set-from-low c = let a = axis-of (g (z c)) in omega arith
 
-mul-high : tie.Need-overflow-mul-high
+mul-high : tie.Need-offset_bounds-high-k
 mul-high c = let a = axis-of (g (z c)) in omega arith
 
-array-set-from-high : tie.Need-array-set-from-high
+array-set-from-high : tie.Need-bounds-high-k
 array-set-from-high c = let a = axis-of (g (z c)) in omega arith
 
-array-share-prefix-low : tie.Need-array-share-prefix-low
+array-share-prefix-low : tie.Need-slice_bounds-low-end
 array-share-prefix-low c = lows-fit c
 
-slice-aggregate-kept-in : tie.Need-slice-aggregate-kept-in
+slice-aggregate-kept-in : tie.Need-slice_bounds-kept_in-end
 slice-aggregate-kept-in c = lows-length c.before
 
-array-share-prefix-high : tie.Need-array-share-prefix-high
+array-share-prefix-high : tie.Need-slice_bounds-high-end
 array-share-prefix-high c = highs-fit c.before
 
-slice-aggregate-kept-in-2 : tie.Need-slice-aggregate-kept-in-2
+slice-aggregate-kept-in-2 : tie.Need-slice_bounds-kept_in-end-2
 slice-aggregate-kept-in-2 c = highs-length c.before.before
 
-kept-in-requires : tie.Need-kept-in-requires
+kept-in-requires : tie.Need-kept_in-requires
 kept-in-requires c κs =
     let v = c.before.before.before in let y = z v in let d = sided v in (
       subst (λ (j : ℕ). Rowed (s y) j (p y).count (st y).args.rows.now) (lows-length v) (st y).pre.1,
@@ -166,19 +166,16 @@ kept-in-requires c κs =
       some (f v),
     )
 
-returns-2 : tie.Need-returns-2
+returns-2 : tie.Need-returns
 returns-2 c =
-    let v = c.before.before.before.before in let y = z v in let e = c.kept_in.ensures.0 in let m = c.kept_in.result in let h = on-side (f v) in let r = in-limit (f v) in let q = e.few in (
-      record {
+    let v = c.before.before.before.before in let y = z v in let e = c.kept_in.ensures.is in let m = c.kept_in.result in let h = on-side (f v) in let r = in-limit (f v) in let q = e.few in record { is = record {
         some = e.some;
         inside = omega arith;
         room = omega arith;
         passed = λ j o. by (λ (x : Bool). passes_at (s y) (p y) (i y + j) ≡ true) (ltb 1 m)
             (λ x. value_passes (s y) (p y).n (p y).k (p y).low (p y).high (g y) (i y) (st y).pre.2 m (lows v) (highs v) (lows-are v) (highs-are v) (e.is (ltb-true 1 m x)) j o)
             (λ x. let l = ltb-false 1 m x in let w : i y ≡ i y + j = omega arith in subst (λ (w : ℕ). passes_at (s y) (p y) w ≡ true) w (st y).pre.4);
-      },
-      subst (λ (j : ℕ). Rowed (s y) j (p y).count c.kept_in.new.1.1.1.1.1.1.0) (sym (lows-length v)) c.kept_in.ensures.1,
-    )
+      }; rows = subst (λ (j : ℕ). Rowed (s y) j (p y).count c.kept_in.new.1.1.1.1.1.1.0) (sym (lows-length v)) c.kept_in.ensures.rows }
 
 pub lasting_spec : {M : Type 1} → statement M
 lasting_spec =

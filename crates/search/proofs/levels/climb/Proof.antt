@@ -22,29 +22,29 @@ use Rattle.search.proofs.levels.climb.Tie as tie
 abbrev Beside : ℕ → List ℤ → List ℤ → Type 0
 Beside k x y = (z : ℤ) → set x k z ≡ set y k z
 
-abbrev invariant-loop : tie.invariant-loop
+abbrev invariant-loop : tie.invariant-loop-i
 invariant-loop s p from tested rows₀ n k side low₀ high₀ live limit span t₀ i₀ rows low high t i =
     (span ≡ span_at p) × (i ≡ from + t) × (t ≤ suc span - from) × (tested + t ≤ p.limit) × Failed s p from t × Rowed s p.n p.count rows × Beside p.k low p.low × Beside p.k high p.high
 
-abbrev decreases-loop : tie.decreases-loop
+abbrev decreases-loop : tie.decreases-loop-i
 decreases-loop s p from tested rows₀ n k side low₀ high₀ live limit span t₀ i₀ rows low high t i = suc span - i
 
 axis-of : {s : List ℕ} {n k : ℕ} {l h : List ℤ} → Standing s n k l h → k < 8
 axis-of g = let y = g.axes in let z = g.left in omega arith
 
-span-of-requires : tie.Need-span-of-requires invariant-loop decreases-loop
+span-of-requires : tie.Need-span_of-span-requires invariant-loop decreases-loop
 span-of-requires c κs =
     let st = c.before.before.before.before.before in let g = st.requires.0.standing in
     (axis-of g, g.low_size, g.high_size, g.ordered st.args.p.k)
 
-loop-holds : tie.Need-loop-init invariant-loop decreases-loop
+loop-holds : tie.Need-loop-i-init invariant-loop decreases-loop
 loop-holds c =
     let st = c.before.before.before.before.before.before in
     let w = st.requires.0.within in (c.Span-of.ensures.0, omega arith, omega arith, omega arith, λ j h. absurd (omega arith), st.requires.1, λ z. refl, λ z. refl)
 
 -- at a value: the start, the loop, and what is known there
-module _ (c : tie.In-loop invariant-loop decreases-loop) where
-  abbrev m : tie.At-loop invariant-loop decreases-loop
+module _ (c : tie.In-loop-i invariant-loop decreases-loop) where
+  abbrev m : tie.At-loop-i invariant-loop decreases-loop
   m = c.before
 
   abbrev st : tie.Start invariant-loop decreases-loop
@@ -69,21 +69,21 @@ module _ (c : tie.In-loop invariant-loop decreases-loop) where
   far = let h = here in let e = m.loop.inv.0 in let o = m.before.Span-of.ensures.1 in omega arith
 
 -- below the limit
-room : (c : tie.Else1 invariant-loop decreases-loop) → (st c.before).args.tested + (m c.before).loop.t < (p c.before).limit
-room c = let lp = c.before in lt_of ((st lp).args.tested + (m lp).loop.t) (p lp).limit (m lp).loop.invariant.3 c.if1.false
+room : (c : tie.Else-tested-t invariant-loop decreases-loop) → (st c.before).args.tested + (m c.before).loop.t < (p c.before).limit
+room c = let lp = c.before in lt_of ((st lp).args.tested + (m lp).loop.t) (p lp).limit (m lp).loop.invariant.3 c.if-tested-t.false
 
-add-if1 : tie.Need-overflow-add-if1 invariant-loop decreases-loop
+add-if1 : tie.Need-overflow_add-tested invariant-loop decreases-loop
 add-if1 c = let w = (m c).loop.invariant.3 in let l = (st c).requires.0.fits in omega arith
 
-returns : tie.Need-returns invariant-loop decreases-loop
-returns c = let lp = c.before in let v = (m lp).loop.invariant in let h = here lp in let e = v.1 in (exhausted (m lp).loop.t v.4 (omega arith) c.if1.true (m lp).loop.i, v.5)
+returns : tie.Need-returns-then-tested-t invariant-loop decreases-loop
+returns c = let lp = c.before in let v = (m lp).loop.invariant in let h = here lp in let e = v.1 in record { is = exhausted (m lp).loop.t v.4 (omega arith) c.if-tested-t.true (m lp).loop.i; rows = v.5 }
 
-value-at-requires : tie.Need-value-at-requires invariant-loop decreases-loop
+value-at-requires : tie.Need-value_at-v-requires invariant-loop decreases-loop
 value-at-requires c κs = let lp = c.before in (axis-of (g lp), far lp, (g lp).low_size)
 
 -- ---- the sides at the value
-module _ (y : tie.After-value-at invariant-loop decreases-loop) where
-  abbrev lp : tie.In-loop invariant-loop decreases-loop
+module _ (y : tie.After-value_at-v invariant-loop decreases-loop) where
+  abbrev lp : tie.In-loop-i invariant-loop decreases-loop
   lp = y.before.before
 
   abbrev lows : List ℤ
@@ -113,33 +113,33 @@ module _ (y : tie.After-value-at invariant-loop decreases-loop) where
   highs-length : (p lp).n ≡ length (take (p lp).n highs)
   highs-length = axes-length (s lp) (p lp).n (p lp).k (p lp).low (p lp).high (g lp) (m lp).loop.i (here lp) lows highs lows-are highs-are (p lp).high highs (g lp).highs highs-are
 
-mul_low : tie.Need-overflow-mul-low invariant-loop decreases-loop
+mul_low : tie.Need-offset_bounds-low-k invariant-loop decreases-loop
 mul_low c = let a = axis-of (g (lp c)) in omega arith
 
-array-set-from-low : tie.Need-array-set-from-low invariant-loop decreases-loop
+array-set-from-low : tie.Need-bounds-low-k invariant-loop decreases-loop
 array-set-from-low c = let a = axis-of (g (lp c)) in omega arith
 
-mul-high : tie.Need-overflow-mul-high invariant-loop decreases-loop
+mul-high : tie.Need-offset_bounds-high-k invariant-loop decreases-loop
 mul-high c = let a = axis-of (g (lp c)) in omega arith
 
-array-set-from-high : tie.Need-array-set-from-high invariant-loop decreases-loop
+array-set-from-high : tie.Need-bounds-high-k invariant-loop decreases-loop
 array-set-from-high c = let a = axis-of (g (lp c)) in omega arith
 
-add-fewer : tie.Need-overflow-add-fewer invariant-loop decreases-loop
+add-fewer : tie.Need-overflow_add-span invariant-loop decreases-loop
 add-fewer c = let f = (m (lp c)).before.Span-of.ensures.1 in omega arith
 
-add-fewer-2 : tie.Need-overflow-add-fewer-2 invariant-loop decreases-loop
+add-fewer-2 : tie.Need-overflow_add-tested-in-loop-i invariant-loop decreases-loop
 add-fewer-2 c = let h = room c.before in let l = (st (lp c)).pre.0.fits in omega arith
 
-sub-fewer : tie.Need-overflow-sub-fewer invariant-loop decreases-loop
+sub-fewer : tie.Need-overflow_sub-limit invariant-loop decreases-loop
 sub-fewer c = let h = room c.before in omega arith
 
-fewer-requires : tie.Need-fewer-requires invariant-loop decreases-loop
+fewer-requires : tie.Need-fewer-most-requires invariant-loop decreases-loop
 fewer-requires c κs = search rules
 
 -- ---- as many values as the side and the limit leave
-module _ (f : tie.After-fewer invariant-loop decreases-loop) where
-  abbrev at_value : tie.In-loop invariant-loop decreases-loop
+module _ (f : tie.After-fewer-most invariant-loop decreases-loop) where
+  abbrev at_value : tie.In-loop-i invariant-loop decreases-loop
   at_value = lp f.before
 
   on-side : (m at_value).loop.i + f.fewer.result ≤ suc (span_at (p at_value))
@@ -151,34 +151,34 @@ module _ (f : tie.After-fewer invariant-loop decreases-loop) where
   some : 0 < f.fewer.result
   some = let r : (st at_value).args.tested + (m at_value).loop.t < (p at_value).limit = room f.before.before in f.fewer.ensures.2 (omega arith) (omega arith)
 
-array-share-prefix-low : tie.Need-array-share-prefix-low invariant-loop decreases-loop
+array-share-prefix-low : tie.Need-slice_bounds-low-end invariant-loop decreases-loop
 array-share-prefix-low c = lows-fit c.before
 
-slice-aggregate-opened-in : tie.Need-slice-aggregate-opened-in invariant-loop decreases-loop
+slice-aggregate-opened-in : tie.Need-slice_bounds-opened_in-end invariant-loop decreases-loop
 slice-aggregate-opened-in c = lows-length c.before.before
 
-array-share-prefix-high : tie.Need-array-share-prefix-high invariant-loop decreases-loop
+array-share-prefix-high : tie.Need-slice_bounds-high-end invariant-loop decreases-loop
 array-share-prefix-high c = highs-fit c.before.before
 
-slice-aggregate-opened-in-2 : tie.Need-slice-aggregate-opened-in-2 invariant-loop decreases-loop
+slice-aggregate-opened-in-2 : tie.Need-slice_bounds-opened_in-end-in-loop-i invariant-loop decreases-loop
 slice-aggregate-opened-in-2 c = highs-length c.before.before.before
 
-opened-in-requires : tie.Need-opened-in-requires invariant-loop decreases-loop
+opened-in-requires : tie.Need-opened_in-o-requires invariant-loop decreases-loop
 opened-in-requires c κs =
     let f = c.before.before.before in let y = f.before in let l = lp y in (
       subst (λ (j : ℕ). Rowed (s l) j (p l).count (m l).loop.rows) (lows-length y) (m l).loop.inv.5,
-      next_fits (s l) (p l).n (p l).k (p l).low (p l).high (g l) (m l).loop.i (here l) (lows y) (highs y) (lows-are y) (highs-are y) (p l).live f.fewer.result (st l).pre.0.lives (some f) (on-side f),
+      next_fits (s l) (p l).n (p l).k (p l).low (p l).high (g l) (m l).loop.i (here l) (lows y) (highs y) (lows-are y) (highs-are y) (p l).live f.fewer-most.result (st l).pre.0.lives (some f) (on-side f),
     )
 
 -- ---- what the test of the value says
-module _ (o : tie.After-opened-in invariant-loop decreases-loop) where
-  abbrev f : tie.After-fewer invariant-loop decreases-loop
+module _ (o : tie.After-opened_in-o invariant-loop decreases-loop) where
+  abbrev f : tie.After-fewer-most invariant-loop decreases-loop
   f = o.before.before.before.before
 
-  abbrev y : tie.After-value-at invariant-loop decreases-loop
+  abbrev y : tie.After-value_at-v invariant-loop decreases-loop
   y = f.before
 
-  abbrev l : tie.In-loop invariant-loop decreases-loop
+  abbrev l : tie.In-loop-i invariant-loop decreases-loop
   l = lp y
 
   tested-is : passes_at (s l) (p l) (m l).loop.i ≡ o.Opened-in.result.any
@@ -193,36 +193,33 @@ module _ (o : tie.After-opened-in invariant-loop decreases-loop) where
   run_room : (st l).args.tested + (m l).loop.t + o.Opened-in.result.run ≤ (p l).limit
   run_room = let a = in-limit f in let b : o.Opened-in.result.run ≤ f.fewer.result = o.Opened-in.ensures.0.few in omega arith
 
-add-passed : tie.Need-overflow-add-passed invariant-loop decreases-loop
+add-passed : tie.Need-overflow_add-t invariant-loop decreases-loop
 add-passed c = let o = c.before.before in let h = room (y o).before in let k = (st (l o)).pre.0.fits in omega arith
 
-add-passed-2 : tie.Need-overflow-add-passed-2 invariant-loop decreases-loop
+add-passed-2 : tie.Need-overflow_add-i invariant-loop decreases-loop
 add-passed-2 c = let h = far (l c.before.before) in omega arith
 
 passed-requires : tie.Need-passed-requires invariant-loop decreases-loop
 passed-requires c κs = axis-of (g (l c.before.before))
 
-returns-2 : tie.Need-returns-2 invariant-loop decreases-loop
+returns-2 : tie.Need-returns-then-o invariant-loop decreases-loop
 returns-2 c =
-    let th = c.before.before in let o = th.before in let lp = l o in let a = (st lp).args in let v = (m lp).loop.inv in (
-      climbed-passing (s lp) (p lp) a.from (m lp).loop.t v.4 (m lp).loop.i v.1 a.tested (here lp) (room (y o).before) (tested-is o ∙ th.if2.true) (lows (y o)) (highs (y o)) (lows-are (y o)) (highs-are (y o))
-          o.Opened-in.result.live o.Opened-in.ensures.0.still c.passed.result c.passed.ensures,
-      rowed o,
-    )
+    let th = c.before.before in let o = th.before in let lp = l o in let a = (st lp).args in let v = (m lp).loop.inv in record { is = climbed-passing (s lp) (p lp) a.from (m lp).loop.t v.4 (m lp).loop.i v.1 a.tested (here lp) (room (y o).before) (tested-is o ∙ th.if-o.true) (lows (y o)) (highs (y o)) (lows-are (y o)) (highs-are (y o))
+          o.Opened-in.result.live o.Opened-in.ensures.0.still c.passed.result c.passed.ensures; rows = rowed o }
 
-cast_t : tie.Need-overflow-cast-t invariant-loop decreases-loop
+cast_t : tie.Need-overflow_cast-t invariant-loop decreases-loop
 cast_t c = let o = c.before in let h = run_room o in let k = (st (l o)).pre.0.fits in omega arith
 
-add-t : tie.Need-overflow-add-t invariant-loop decreases-loop
+add-t : tie.Need-overflow_add-t-in-loop-i invariant-loop decreases-loop
 add-t c = let o = c.before in let h = run_room o in let k = (st (l o)).pre.0.fits in omega arith
 
-add-i : tie.Need-overflow-add-i invariant-loop decreases-loop
+add-i : tie.Need-overflow_add-i-in-loop-i invariant-loop decreases-loop
 add-i c = let o = c.before in let h = run_inside o in let e = (m (l o)).loop.inv.0 in let z = (m (l o)).before.Span-of.ensures.1 in omega arith
 
-loop-less : tie.Need-loop-smaller invariant-loop decreases-loop
+loop-less : tie.Need-loop-i-smaller invariant-loop decreases-loop
 loop-less c = let o = c.before in let h = (l o).loop-test.true in let q = o.Opened-in.ensures.0.some in omega arith
 
-loop-again : tie.Need-loop-preserved invariant-loop decreases-loop
+loop-again : tie.Need-loop-i-preserved invariant-loop decreases-loop
 loop-again c =
     let o = c.before in let lp = l o in let a = (st lp).args in let v = (m lp).loop.inv in let n = o.Opened-in.result.run in
     let e = v.0 in let q = v.1 in let h = run_inside o in let r = run_room o in (
@@ -231,14 +228,14 @@ loop-again c =
       omega arith,
       omega arith,
       failed-more (s lp) (p lp) a.from (m lp).loop.t v.4 (m lp).loop.i v.1 n
-          (value-fails (s lp) (p lp).n (p lp).k (p lp).low (p lp).high (g lp) (m lp).loop.i (here lp) n (lows (y o)) (highs (y o)) (lows-are (y o)) (highs-are (y o)) (o.Opened-in.ensures.0.far c.if2.false)),
+          (value-fails (s lp) (p lp).n (p lp).k (p lp).low (p lp).high (g lp) (m lp).loop.i (here lp) n (lows (y o)) (highs (y o)) (lows-are (y o)) (highs-are (y o)) (o.Opened-in.ensures.0.far c.if-o.false)),
       rowed o,
       λ z. set-set (m lp).loop.low (p lp).k _ z ∙ v.6 z,
       λ z. set-set (m lp).loop.high (p lp).k _ z ∙ v.7 z,
     )
 
-returns-3 : tie.Need-returns-3 invariant-loop decreases-loop
-returns-3 c = let m = c.before in let v = m.loop.invariant in let e = v.0 in let i = v.1 in let h = v.2 in let q = c.loop-test.false in (past m.loop.t v.4 (omega arith) v.3 m.loop.i, v.5)
+returns-3 : tie.Need-returns invariant-loop decreases-loop
+returns-3 c = let m = c.before in let v = m.loop-i.invariant in let e = v.0 in let i = v.1 in let h = v.2 in let q = c.loop-i-test.false in record { is = past m.loop-i.t v.4 (omega arith) v.3 m.loop-i.i; rows = v.5 }
 
 pub climb_spec : {M : Type 1} → statement M
 climb_spec =

@@ -13,16 +13,16 @@ use Rattle.search.proofs.levels.final_trail.Tie as tie
 abbrev trail : tie.Start → ℕ → Bool → Trail
 trail st w b = record { way = w; point = cond b st.args.r.at.low (padded []); tested = st.args.tested }
 
-zeros-requires : tie.Need-zeros-requires
+zeros-requires : tie.Need-zeros-z-requires
 zeros-requires c κs = search rules
 
-returns : tie.Need-returns
-returns c = let st = c.before.before.before.before.before in let e = c.if1.true in ap₂ (trail st) (sym e) (sym (eq-eqb st.args.r.way 1 e))
+returns : tie.Need-returns-then-r-eq1
+returns c = let st = c.before.before.before.before.before in let e = c.if-r-eq1.true in ap₂ (trail st) (sym e) (sym (eq-eqb st.args.r.way 1 e))
 
-returns-2 : tie.Need-returns-2
+returns-2 : tie.Need-returns
 returns-2 c =
     let z = c.before.before.before.before in let st = z.before in
-    ap (λ (p : List ℤ). record { way = st.args.r.way; point = p; tested = st.args.tested }) z.zeros.ensures ∙ ap (trail st st.args.r.way) (sym (ne_eqb st.args.r.way 1 c.if1.false))
+    ap (λ (p : List ℤ). record { way = st.args.r.way; point = p; tested = st.args.tested }) z.zeros-z.ensures ∙ ap (trail st st.args.r.way) (sym (ne_eqb st.args.r.way 1 c.if-r-eq1.false))
 
 pub final_trail_spec : {M : Type 1} → statement M
 final_trail_spec = tie.close (tie.spec zeros-requires returns returns-2)

@@ -11,17 +11,17 @@ use Rattle.search.proofs.levels.passed.Tie as tie
 abbrev stop : tie.Start → Bool → Stop
 stop st b = let a = st.args in record { way = cond b 1 3; tested = a.tested; next = a.next; at = next_of a.p a.low a.high a.live }
 
-add-if1 : tie.Need-overflow-add-if1
+add-if1 : tie.Need-overflow_add-q
 add-if1 c = search rules
 
-add-if1-2 : tie.Need-overflow-add-if1-2
+add-if1-2 : tie.Need-overflow_add-p
 add-if1-2 c = search rules
 
-returns : tie.Need-returns
-returns c = let st = c.before.before.before.before in ap (stop st) (sym (eq-eqb (st.args.p.k + 1) st.args.p.n c.if1.true))
+returns : tie.Need-returns-then-p
+returns c = let st = c.before.before.before.before in ap (stop st) (sym (eq-eqb (st.args.p.k + 1) st.args.p.n c.if-p.true))
 
-returns-2 : tie.Need-returns-2
-returns-2 c = let st = c.before.before.before.before in ap (stop st) (sym (ne_eqb (st.args.p.k + 1) st.args.p.n c.if1.false))
+returns-2 : tie.Need-returns
+returns-2 c = let st = c.before.before.before.before in ap (stop st) (sym (ne_eqb (st.args.p.k + 1) st.args.p.n c.if-p.false))
 
 pub passed_spec : {M : Type 1} → statement M
 passed_spec = tie.close (tie.spec add-if1 add-if1-2 returns returns-2)

@@ -14,43 +14,43 @@ use borrow.Author.Rules.{rules}
 use Rattle.search.proofs.levels.span_of.Statement.{statement}
 use Rattle.search.proofs.levels.span_of.Tie as tie
 
-mul-a : tie.Need-overflow-mul-a
+mul-a : tie.Need-offset_bounds-low-k
 mul-a c = search rules
 
-array-copy-out-a : tie.Need-array-copy-out-a
+array-copy-out-a : tie.Need-bounds-low-k
 array-copy-out-a c = search rules
 
-mul-b : tie.Need-overflow-mul-b
+mul-b : tie.Need-offset_bounds-high-k
 mul-b c = search rules
 
-array-copy-out-b : tie.Need-array-copy-out-b
+array-copy-out-b : tie.Need-bounds-high-k
 array-copy-out-b c = search rules
 
 abbrev diff : tie.Start → ℤ
 diff st = get_or st.args.t2 st.args.k (pos 0) -ℤ get_or st.args.t1 st.args.k (pos 0)
 
-size : (c : tie.After-b) → Within 2097152 (diff c.before.before)
+size : (c : tie.After-b-1) → Within 2097152 (diff c.before.before)
 size c = let st = c.before.before in within-mono (omega arith) (within-sub (st.requires.2.at st.args.k) (st.requires.1.at st.args.k))
 
-back : (c : tie.After-b) → let st = c.before.before in
+back : (c : tie.After-b-1) → let st = c.before.before in
     to_z w64 (of_z w64 (get_or st.args.t2 st.args.k (pos 0))) -ℤ to_z w64 (of_z w64 (get_or st.args.t1 st.args.k (pos 0))) ≡ diff st
 back c =
     let st = c.before.before in
     ap₂ ◌-ℤ◌ (to_z_of_z (within-fits (omega arith) (st.requires.2.at st.args.k))) (to_z_of_z (within-fits (omega arith) (st.requires.1.at st.args.k)))
 
-nonneg : (c : tie.After-b) → pos 0 ≤ℤ diff c.before.before
+nonneg : (c : tie.After-b-1) → pos 0 ≤ℤ diff c.before.before
 nonneg c =
     let st = c.before.before in
     lia-le (get_or st.args.t1 st.args.k (pos 0) ∷ get_or st.args.t2 st.args.k (pos 0) ∷ []) (le st.requires.3 ∷ []) (search lin depth 30) (omega arith)
 
-sub-result : tie.Need-overflow-sub-result
+sub-result : tie.Need-overflow_sub-result
 sub-result c = rw (back c) (within-fits (omega arith) (size c))
 
-cast-result : tie.Need-overflow-cast-result
+cast-result : tie.Need-overflow_cast-result
 cast-result c = cast-nat w64 _ (nat_abs (diff c.before.before)) (to_z_of_z (sub-result c) ∙ back c ∙ sym (nat_abs-nonneg (nonneg c))) (let s = (size c).size in omega arith)
 
 returns : tie.Need-returns
-returns c = let e = ap nat_abs (to_z_of_z (sub-result c) ∙ back c) in (e, let s = (size c).size in omega (arith, e))
+returns c = let e = ap nat_abs (to_z_of_z (sub-result c) ∙ back c) in record { is = e; size = let s = (size c).size in omega (arith, e) }
 
 pub span_of_spec : {M : Type 1} → statement M
 span_of_spec =

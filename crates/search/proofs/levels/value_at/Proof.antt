@@ -11,28 +11,28 @@ use borrow.Author.Rules.{rules}
 use Rattle.search.proofs.levels.value_at.Statement.{statement}
 use Rattle.search.proofs.levels.value_at.Tie as tie
 
-mul-a : tie.Need-overflow-mul-a
+mul-a : tie.Need-offset_bounds-low-k
 mul-a c = search rules
 
-array-copy-out-a : tie.Need-array-copy-out-a
+array-copy-out-a : tie.Need-bounds-low-k
 array-copy-out-a c = search rules
 
-cast-result : tie.Need-overflow-cast-result
+cast-result : tie.Need-overflow_cast-result
 cast-result c = search rules
 
-a-size : (c : tie.After-a) → let st = c.before in Within 1048576 (get_or st.args.t1 st.args.k (pos 0))
+a-size : (c : tie.After-a-1) → let st = c.before in Within 1048576 (get_or st.args.t1 st.args.k (pos 0))
 a-size c = let st = c.before in st.requires.2.at st.args.k
 
-sum_is : (c : tie.After-a) → let st = c.before in
+sum_is : (c : tie.After-a-1) → let st = c.before in
     to_z w64 (of_z w64 (get_or st.args.t1 st.args.k (pos 0))) +ℤ to_z w64 st.args.i ≡ get_or st.args.t1 st.args.k (pos 0) +ℤ pos st.args.i
 sum_is c =
     let st = c.before in
     ap₂ ◌+ℤ◌ (to_z_of_z (within-fits (omega arith) (a-size c))) (to_z-nat w64 st.args.i 2097153 (omega (arith, st.requires.1)) tt)
 
-sum-size : (c : tie.After-a) → let st = c.before in Within 3145728 (get_or st.args.t1 st.args.k (pos 0) +ℤ pos st.args.i)
+sum-size : (c : tie.After-a-1) → let st = c.before in Within 3145728 (get_or st.args.t1 st.args.k (pos 0) +ℤ pos st.args.i)
 sum-size c = let st = c.before in let i : Within 2097152 (pos st.args.i) = record { size = st.requires.1 } in within-mono (omega arith) (within-add (a-size c) i)
 
-add-result : tie.Need-overflow-add-result
+add-result : tie.Need-overflow_add-result
 add-result c = rw (sum_is c) (within-fits (omega arith) (sum-size c))
 
 returns : tie.Need-returns

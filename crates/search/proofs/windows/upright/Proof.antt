@@ -13,47 +13,47 @@ use Rattle.search.proofs.Searching.{sides-next, sides-stop, sides-end}
 use Rattle.search.proofs.windows.upright.Statement.{statement}
 use Rattle.search.proofs.windows.upright.Tie as tie
 
-abbrev invariant-loop : tie.invariant-loop
+abbrev invariant-loop : tie.invariant-loop-i
 invariant-loop low high i₀ i = (i ≤ 8) × (length low ≡ 8) × (length high ≡ 8) × (upright (box_of (drop i low) (drop i high)) ≡ upright (box_of low high))
 
-abbrev decreases-loop : tie.decreases-loop
+abbrev decreases-loop : tie.decreases-loop-i
 decreases-loop low high i₀ i = 8 - i
 
-loop-holds : tie.Need-loop-init invariant-loop decreases-loop
+loop-holds : tie.Need-loop-i-init invariant-loop decreases-loop
 loop-holds c = (search rules, search rules, search rules, refl)
 
-mul-a : tie.Need-overflow-mul-a invariant-loop decreases-loop
+mul-a : tie.Need-offset_bounds-low-i invariant-loop decreases-loop
 mul-a c = search rules
 
-array-copy-out-a : tie.Need-array-copy-out-a invariant-loop decreases-loop
+array-copy-out-a : tie.Need-bounds-low-i invariant-loop decreases-loop
 array-copy-out-a c = search rules
 
-mul-b : tie.Need-overflow-mul-b invariant-loop decreases-loop
+mul-b : tie.Need-offset_bounds-high-i invariant-loop decreases-loop
 mul-b c = search rules
 
-array-copy-out-b : tie.Need-array-copy-out-b invariant-loop decreases-loop
+array-copy-out-b : tie.Need-bounds-high-i invariant-loop decreases-loop
 array-copy-out-b c = search rules
 
-returns : tie.Need-returns invariant-loop decreases-loop
+returns : tie.Need-returns-then-b-a invariant-loop decreases-loop
 returns c =
-    let b = c.before in let a = b.before in let m = a.before.before in let st = m.before in let v = m.loop.invariant in let i = m.loop.i in
-    let fa : SFits w32 (get_or st.args.t1 i (pos 0)) = record { sfits = a.a.given } in let fb : SFits w32 (get_or st.args.t2 i (pos 0)) = record { sfits = b.b.given } in
-    sides-stop st.args.t1 st.args.t2 i v.3 (omega arith) (omega arith) (le-no (get_or st.args.t1 i (pos 0)) (get_or st.args.t2 i (pos 0)) (is_lt (b-of fb) (b-of fa) c.if1.true))
+    let b = c.before in let a = b.before in let m = a.before.before in let st = m.before in let v = m.loop-i.invariant in let i = m.loop-i.i in
+    let fa : SFits w32 (get_or st.args.t1 i (pos 0)) = record { sfits = a.a-1.given } in let fb : SFits w32 (get_or st.args.t2 i (pos 0)) = record { sfits = b.b-1.given } in
+    sides-stop st.args.t1 st.args.t2 i v.3 (omega arith) (omega arith) (le-no (get_or st.args.t1 i (pos 0)) (get_or st.args.t2 i (pos 0)) (is_lt (b-of fb) (b-of fa) c.if-b-a.true))
 
-add-i : tie.Need-overflow-add-i invariant-loop decreases-loop
+add-i : tie.Need-overflow_add-i invariant-loop decreases-loop
 add-i c = search rules
 
-loop-less : tie.Need-loop-smaller invariant-loop decreases-loop
+loop-less : tie.Need-loop-i-smaller invariant-loop decreases-loop
 loop-less c = omega arith
 
-loop-again : tie.Need-loop-preserved invariant-loop decreases-loop
+loop-again : tie.Need-loop-i-preserved invariant-loop decreases-loop
 loop-again c =
-    let b = c.before in let a = b.before in let m = a.before.before in let st = m.before in let v = m.loop.invariant in let i = m.loop.i in
-    let fa : SFits w32 (get_or st.args.t1 i (pos 0)) = record { sfits = a.a.given } in let fb : SFits w32 (get_or st.args.t2 i (pos 0)) = record { sfits = b.b.given } in
-    (omega arith, v.1, v.2, sides-next st.args.t1 st.args.t2 i v.3 (omega arith) (omega arith) (le_yes (get_or st.args.t1 i (pos 0)) (get_or st.args.t2 i (pos 0)) (is_ge (b-of fb) (b-of fa) c.if1.false)))
+    let b = c.before in let a = b.before in let m = a.before.before in let st = m.before in let v = m.loop-i.invariant in let i = m.loop-i.i in
+    let fa : SFits w32 (get_or st.args.t1 i (pos 0)) = record { sfits = a.a-1.given } in let fb : SFits w32 (get_or st.args.t2 i (pos 0)) = record { sfits = b.b-1.given } in
+    (omega arith, v.1, v.2, sides-next st.args.t1 st.args.t2 i v.3 (omega arith) (omega arith) (le_yes (get_or st.args.t1 i (pos 0)) (get_or st.args.t2 i (pos 0)) (is_ge (b-of fb) (b-of fa) c.if-b-a.false)))
 
-returns-2 : tie.Need-returns-2 invariant-loop decreases-loop
-returns-2 c = let m = c.before in let st = m.before in let v = m.loop.invariant in sides-end st.args.t1 st.args.t2 m.loop.i v.3 (omega arith)
+returns-2 : tie.Need-returns invariant-loop decreases-loop
+returns-2 c = let m = c.before in let st = m.before in let v = m.loop-i.invariant in sides-end st.args.t1 st.args.t2 m.loop-i.i v.3 (omega arith)
 
 pub upright_spec : {M : Type 1} → statement M
 upright_spec =

@@ -13,27 +13,27 @@ use Rattle.sharing.proofs.history.make.Reads as make-reads
 use Rattle.simplex.proofs.choose.choose_at.Reads as choose-at-reads
 
 begun : (c : tie.Start) → let a = c.args in Going a.n a.t.now a.place.now a.kinds.now a.past.now a.columns.now a.start a.t.now a.place.now a.past.now a.columns.now a.start
-begun c = let a = c.args in going_start a.n a.t.now a.place.now a.kinds.now a.past.now a.columns.now a.start c.requires.0 c.requires.1.0.0 c.requires.1.0.1 c.requires.1.1.0
+begun c = let a = c.args in going_start a.n a.t.now a.place.now a.kinds.now a.past.now a.columns.now a.start c.requires.fine c.requires.past_len.0.0 c.requires.past_len.0.1 c.requires.past_len.1.0
 
-pivots : (c : tie.After-m2) → let a = c.before.before.before.before.before.before.before.before.args in move_of a.t.now a.place.now a.kinds.now (200 - a.start) ≡ Pivot c.m2.given.0.0 c.m2.given.0.1.0
-pivots c = sym c.before.before.choose-at.ensures ∙ c.m2.given.1
+pivots : (c : tie.In-Pivot-2) → let a = c.before.before.before.before.before.before.before.before.args in move_of a.t.now a.place.now a.kinds.now (200 - a.start) ≡ Pivot c.m-in-Pivot-1.given.0.0 c.m-in-Pivot-1.given.0.1.0
+pivots c = sym c.before.before.choose_at-m.ensures ∙ c.m-in-Pivot-1.given.1
 
 gone : (c : tie.After-make) → let a = c.before.before.before.before.before.before.before.before.before.before.before.before.before.before.args in Going a.n a.t.now a.place.now a.kinds.now a.past.now a.columns.now a.start c.make.new.0 c.make.new.1.1.0 c.make.new.1.1.1.0 c.make.new.1.1.1.1.0 (a.start + 1)
 gone c =
     let a = c.before.before.before.before.before.before.before.before.before.before.before.before.before.before.args in
     let p = c.before.before.before.before.before.before in
-    going-made a.n a.t.now a.place.now a.kinds.now a.past.now a.columns.now a.start a.t.now a.place.now a.past.now a.columns.now a.start (begun c.before.before.before.before.before.before.before.before.before.before.before.before.before.before) p.m2.given.0.0 p.m2.given.0.1.0 (pivots p) _ _ _ _ c.make.ensures
+    going-made a.n a.t.now a.place.now a.kinds.now a.past.now a.columns.now a.start a.t.now a.place.now a.past.now a.columns.now a.start (begun c.before.before.before.before.before.before.before.before.before.before.before.before.before.before) p.m-in-Pivot-1.given.0.0 p.m-in-Pivot-1.given.0.1.0 (pivots p) _ _ _ _ c.make.ensures
 
-sub-choose-at : tie.Need-overflow-sub-choose-at
+sub-choose-at : tie.Need-overflow_sub-start
 sub-choose-at c = search rules
 
-choose-at-requires : tie.Need-choose-at-requires
+choose-at-requires : tie.Need-choose_at-m-requires
 choose-at-requires c κs = search rules
 
-enum-known-m : tie.Need-enum-known-m
+enum-known-m : tie.Need-enum_known-m
 enum-known-m c = search rules
 
-enum-known-m-2 : tie.Need-enum-known-m-2
+enum-known-m-2 : tie.Need-enum_known-m-in-Pivot-1
 enum-known-m-2 c = search rules
 
 make-requires : tie.Need-make-requires
@@ -41,41 +41,41 @@ make-requires c κs =
     let a = c.before.before.before.before.before.before.before.before.before.before.before.before.before.args in
     let p = c.before.before.before.before.before in
     let g = begun c.before.before.before.before.before.before.before.before.before.before.before.before.before in
-    let v = p.m2.given.0.0 in
-    let w = p.m2.given.0.1.0 in
+    let v = p.m-in-Pivot-1.given.0.0 in
+    let w = p.m-in-Pivot-1.given.0.1.0 in
     let h = made-less a.n a.t.now a.place.now a.kinds.now a.past.now a.columns.now a.start a.t.now a.place.now a.past.now a.columns.now a.start g v w (pivots p) in
     (crosses a.n a.t.now a.place.now a.kinds.now a.past.now a.columns.now a.start a.t.now a.place.now a.past.now a.columns.now a.start g v w (pivots p), (subst (λ n. a.start < n) (sym g.many) h, subst (λ n. a.start < n) (sym g.many') h))
 
-add-go-on : tie.Need-overflow-add-go-on
+add-go-on : tie.Need-overflow_add-start
 add-go-on c = search rules
 
-go-on-requires : tie.Need-go-on-requires
+go-on-requires : tie.Need-go_on-requires
 go-on-requires c κs = let g = gone c.before.before.before.before.before.before.before.before.before.before in (g.fine, ((g.many, g.many'), g.most))
 
-same_length : tie.Need-same-length
+same_length : tie.Need-shape_of-t-in-Stop
 same_length c = search rules
 
-same-length-2 : tie.Need-same-length-2
+same-length-2 : tie.Need-shape_of-place-in-Stop
 same-length-2 c = search rules
 
-returns : tie.Need-returns
+returns : tie.Need-returns-in-Stop
 returns c =
     let a = c.before.before.before.before.before.before.before.before.before.args in
-    going_end a.n a.t.now a.place.now a.kinds.now a.past.now a.columns.now a.start a.t.now a.place.now a.past.now a.columns.now a.start (begun c.before.before.before.before.before.before.before.before.before) c.before.m.given.0.0 (sym c.before.before.before.choose-at.ensures ∙ c.before.m.given.1)
+    going_end a.n a.t.now a.place.now a.kinds.now a.past.now a.columns.now a.start a.t.now a.place.now a.past.now a.columns.now a.start (begun c.before.before.before.before.before.before.before.before.before) c.before.m-1.given.0.0 (sym c.before.before.before.choose_at-m.ensures ∙ c.before.m-1.given.1)
 
-same-length-3 : tie.Need-same-length-3
+same-length-3 : tie.Need-shape_of-t-in-Pivot
 same-length-3 c = search rules
 
-same-length-4 : tie.Need-same-length-4
+same-length-4 : tie.Need-shape_of-place-in-Pivot
 same-length-4 c = search rules
 
-same-length-5 : tie.Need-same-length-5
+same-length-5 : tie.Need-shape_of-past
 same-length-5 c = search rules
 
-same-length-6 : tie.Need-same-length-6
+same-length-6 : tie.Need-shape_of-columns
 same-length-6 c = search rules
 
-returns-2 : tie.Need-returns-2
+returns-2 : tie.Need-returns-in-Pivot
 returns-2 c =
     let a = c.before.before.before.before.before.before.before.before.before.before.before.before.before.before.before.before.before.before.before.before.before.before.before.before.before.before.before.before.before.before.before.args in
     let y = c.before.before.before.before.before.before.before.before.before.before.before.before.before.before.before.before.before in

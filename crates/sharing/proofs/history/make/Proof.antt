@@ -8,52 +8,52 @@ use Rattle.sharing.proofs.history.make.Reads as reads
 use Rattle.sharing.proofs.history.make.Lts as lts
 use Rattle.simplex.proofs.run.pivot.Reads as pivot-reads
 
-mul-i : tie.Need-overflow-mul-i
+mul-i : tie.Need-offset_bounds-place-v
 mul-i c = search rules
 
-slice-read-i : tie.Need-slice-read-i
+slice-read-i : tie.Need-bounds-place-v
 slice-read-i c = search rules
 
-mul-j : tie.Need-overflow-mul-j
+mul-j : tie.Need-offset_bounds-place-w
 mul-j c = search rules
 
-slice-read-j : tie.Need-slice-read-j
+slice-read-j : tie.Need-bounds-place-w
 slice-read-j c = search rules
 
-sub-j : tie.Need-overflow-sub-j
+sub-j : tie.Need-overflow_sub-j
 sub-j c = search rules
 
 pivot-requires : tie.Need-pivot-requires
 pivot-requires c κs = search rules
 
-mul-p : tie.Need-overflow-mul-p
+mul-p : tie.Need-offset_bounds-t-i
 mul-p c = search rules
 
-slice-copy-out-p : tie.Need-slice-copy-out-p
+slice-copy-out-p : tie.Need-slice_copy_out-p
 slice-copy-out-p c = search rules
 
-mul-p-2 : tie.Need-overflow-mul-p-2
+mul-p-2 : tie.Need-offset_bounds-past-k
 mul-p-2 c = search rules
 
-slice-set-from-p : tie.Need-slice-set-from-p
+slice-set-from-p : tie.Need-bounds-past-k
 slice-set-from-p c = search rules
 
-mul-columns : tie.Need-overflow-mul-columns
+mul-columns : tie.Need-offset_bounds-columns-k
 mul-columns c = search rules
 
-slice-write-columns : tie.Need-slice-write-columns
+slice-write-columns : tie.Need-bounds-columns-k
 slice-write-columns c = search rules
 
-same_length : tie.Need-same-length
+same_length : tie.Need-shape_of-t
 same_length c = search rules
 
-same-length-2 : tie.Need-same-length-2
+same-length-2 : tie.Need-shape_of-place
 same-length-2 c = search rules
 
-same-length-3 : tie.Need-same-length-3
+same-length-3 : tie.Need-shape_of-past
 same-length-3 c = search rules
 
-same-length-4 : tie.Need-same-length-4
+same-length-4 : tie.Need-shape_of-columns
 same-length-4 c = search rules
 
 returns : tie.Need-returns

@@ -20,28 +20,28 @@ use Rattle.sharing.proofs.history.pass.Lts as lts
 use Rattle.tableau.proofs.small.Reads as small-reads
 use Rattle.tableau.proofs.replace.Reads as replace-reads
 
-add-e : tie.Need-overflow-add-e
+add-e : tie.Need-overflow_add-e
 add-e c = search rules
 
-mul-e : tie.Need-overflow-mul-e
+mul-e : tie.Need-offset_bounds-r-j
 mul-e c = search rules
 
-element-copy-out-e : tie.Need-element-copy-out-e
+element-copy-out-e : tie.Need-bounds-r-j
 element-copy-out-e c = search rules
 
-returns : tie.Need-returns
-returns c = pass-zero c.before.before.args.j c.before.before.args.q.now c.before.before.args.r.now (ap is_zero (bits-zero (get_or c.before.before.args.r.now (c.before.before.args.j + 2) (pos 0)) c.before.e.given c.if1.true))
+returns : tie.Need-returns-then-e-eq0
+returns c = pass-zero c.before.before.args.j c.before.before.args.q.now c.before.before.args.r.now (ap is_zero (bits-zero (get_or c.before.before.args.r.now (c.before.before.args.j + 2) (pos 0)) c.before.e-1.given c.if-e-eq0.true))
 
 small-requires : tie.Need-small-requires
 small-requires c κs = search rules
 
-returns-2 : tie.Need-returns-2
-returns-2 c = pass-wide c.before.before.before.before.before.args.j c.before.before.before.before.before.args.q.now c.before.before.before.before.before.args.r.now (is_zero-no (get_or c.before.before.before.before.before.args.r.now (c.before.before.before.before.before.args.j + 2) (pos 0)) (λ h. c.before.before.before.if1.false (ap (of_z w64) h))) (sym c.before.small.ensures ∙ not-true _ c.if2.true)
+returns-2 : tie.Need-returns-then-not-small
+returns-2 c = pass-wide c.before.before.before.before.before.args.j c.before.before.before.before.before.args.q.now c.before.before.before.before.before.args.r.now (is_zero-no (get_or c.before.before.before.before.before.args.r.now (c.before.before.before.before.before.args.j + 2) (pos 0)) (λ h. c.before.before.before.if1.false (ap (of_z w64) h))) (sym c.before.small.ensures ∙ not-true _ c.if-not-small.true-raw)
 
-element-copy-out-m : tie.Need-element-copy-out-m
+element-copy-out-m : tie.Need-bounds-q-0
 element-copy-out-m c = search rules
 
-array-set-of-p : tie.Need-array-set-of-p
+array-set-of-p : tie.Need-array_set_of-p
 array-set-of-p c = search rules
 
 replace-requires : tie.Need-replace-requires
@@ -49,16 +49,16 @@ replace-requires c κs =
     let d = c.before.before.before.before.before.before.before.before.before.requires.1.1.divisor in
     let w = c.before.before.before.before.before.before.before.before.before.requires.1.0 in
     let r = c.before.before.before.before.before.before.before.before.before.args.r.now in
-    let n : small_of r ≡ true = sym c.before.before.before.before.before.small.ensures ∙ not-false _ c.before.before.before.before.if2.false in
+    let n : small_of r ≡ true = sym c.before.before.before.before.before.small.ensures ∙ not-false _ c.before.before.before.before.if-not-small.false-raw in
     rw (back (wider d.near)) (c.before.before.before.before.before.before.before.before.before.requires.0, (w.line, (d.line, (small-within r n, (d.small, (d.none, (d.near, (d.over, w.over))))))))
 
-returns-3 : tie.Need-returns-3
+returns-3 : tie.Need-returns
 returns-3 c =
     let d = c.before.before.before.before.before.before.before.before.before.before.requires.1.1.divisor in
     let r = c.before.before.before.before.before.before.before.before.before.before.args.r.now in
     let j = c.before.before.before.before.before.before.before.before.before.before.args.j in
     let q = c.before.before.before.before.before.before.before.before.before.before.args.q.now in
-    let x = pass-put j q r (is_zero-no (get_or c.before.before.before.before.before.before.before.before.before.before.args.r.now (c.before.before.before.before.before.before.before.before.before.before.args.j + 2) (pos 0)) (λ h. c.before.before.before.before.before.before.before.before.if1.false (ap (of_z w64) h))) (sym c.before.before.before.before.before.before.small.ensures ∙ not-false _ c.before.before.before.before.before.if2.false) in
+    let x = pass-put j q r (is_zero-no (get_or c.before.before.before.before.before.before.before.before.before.before.args.r.now (c.before.before.before.before.before.before.before.before.before.before.args.j + 2) (pos 0)) (λ h. c.before.before.before.before.before.before.before.before.if1.false (ap (of_z w64) h))) (sym c.before.before.before.before.before.before.small.ensures ∙ not-false _ c.before.before.before.before.before.if-not-small.false-raw) in
     record { test = x.test; row = c.replace.ensures ∙ ap (λ m. replace_row r j m (set q 0 (pos 0))) (back (wider d.near)) ∙ x.row }
 
 pub pass_spec : {M : Type 1} → statement M

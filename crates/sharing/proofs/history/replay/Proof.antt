@@ -10,25 +10,25 @@ use Rattle.sharing.proofs.history.replay.Reads as reads
 use Rattle.sharing.proofs.history.replay.Lts as lts
 use Rattle.sharing.proofs.history.pass.Reads as pass-reads
 
-abbrev invariant-loop : tie.invariant-loop
+abbrev invariant-loop : tie.invariant-loop-k
 invariant-loop r₀ n past columns made k₀ r k = Replaying n made past columns r₀ r k
 
-abbrev decreases-loop : tie.decreases-loop
+abbrev decreases-loop : tie.decreases-loop-k
 decreases-loop r₀ n past columns made k₀ r k = made - k
 
-loop-holds : tie.Need-loop-init invariant-loop decreases-loop
-loop-holds c = replay-start _ _ _ _ _ c.before.requires.0
+loop-holds : tie.Need-loop-k-init invariant-loop decreases-loop
+loop-holds c = replay-start _ _ _ _ _ c.before.requires.whole
 
-mul-pass : tie.Need-overflow-mul-pass invariant-loop decreases-loop
+mul-pass : tie.Need-offset_bounds-past-k invariant-loop decreases-loop
 mul-pass c = search rules
 
-shared-slice-element-pass : tie.Need-shared-slice-element-pass invariant-loop decreases-loop
-shared-slice-element-pass c = let h = c.before.loop-test.true in let p = c.before.before.before.before.requires.1.0.0 in omega arith
+shared-slice-element-pass : tie.Need-bounds-past-k invariant-loop decreases-loop
+shared-slice-element-pass c = let h = c.before.loop-k-test.true in let p = c.before.before.before.before.requires.made_in_bounds.0.0 in omega arith
 
-mul-pass-2 : tie.Need-overflow-mul-pass-2 invariant-loop decreases-loop
+mul-pass-2 : tie.Need-offset_bounds-columns-k invariant-loop decreases-loop
 mul-pass-2 c = search rules
 
-shared-slice-read-pass : tie.Need-shared-slice-read-pass invariant-loop decreases-loop
+shared-slice-read-pass : tie.Need-bounds-columns-k invariant-loop decreases-loop
 shared-slice-read-pass c = let h = c.before.before.before.loop-test.true in let p = c.before.before.before.before.before.before.requires.1.0.1 in omega arith
 
 pass-requires : tie.Need-pass-requires invariant-loop decreases-loop
@@ -39,36 +39,36 @@ pass-requires c κs =
     let p = c.before.before.before.before.before.before.requires in
     (replay-column a.n a.made a.past.now a.columns.now a.r.now p.1.0.0 p.1.1 l.k l.r l.invariant h, (l.invariant.whole, replay-left a.n a.made a.past.now a.columns.now a.r.now p.1.0.0 p.1.1 l.k l.r l.invariant h))
 
-returns : tie.Need-returns invariant-loop decreases-loop
+returns : tie.Need-returns-then-not-pass invariant-loop decreases-loop
 returns c =
     let a = c.before.before.before.before.before.before.before.before.args in
     let l = c.before.before.before.before.before.before.loop in
     let h = c.before.before.before.before.before.loop-test.true in
     let p = c.before.before.before.before.before.before.before.before.requires in
-    let b = not-true _ c.if1.true in
+    let b = not-true _ c.if-not-pass.true-raw in
     let x = replay-off a.n a.made a.past.now a.columns.now a.r.now p.1.0.0 p.1.1 l.k l.r l.invariant h _ _ c.before.pass.ensures b in
     record { all = sym b ∙ x.all; row = x.row }
 
-add-k : tie.Need-overflow-add-k invariant-loop decreases-loop
+add-k : tie.Need-overflow_add-k invariant-loop decreases-loop
 add-k c = let h = c.before.before.before.before.before.loop-test.true in let p = c.before.before.before.before.before.before.before.before.requires.1.0.0 in search rules
 
-loop-less : tie.Need-loop-smaller invariant-loop decreases-loop
+loop-less : tie.Need-loop-k-smaller invariant-loop decreases-loop
 loop-less c = let h = c.before.before.before.before.before.loop-test.true in omega arith
 
-loop-again : tie.Need-loop-preserved invariant-loop decreases-loop
+loop-again : tie.Need-loop-k-preserved invariant-loop decreases-loop
 loop-again c =
     let a = c.before.before.before.before.before.before.before.before.args in
     let l = c.before.before.before.before.before.before.loop in
     let h = c.before.before.before.before.before.loop-test.true in
     let p = c.before.before.before.before.before.before.before.before.requires in
-    replay-on a.n a.made a.past.now a.columns.now a.r.now p.1.0.0 p.1.1 l.k l.r l.invariant h _ _ c.before.pass.ensures (not-false _ c.if1.false)
+    replay-on a.n a.made a.past.now a.columns.now a.r.now p.1.0.0 p.1.1 l.k l.r l.invariant h _ _ c.before.pass.ensures (not-false _ c.if-not-pass.false-raw)
 
-returns-2 : tie.Need-returns-2 invariant-loop decreases-loop
+returns-2 : tie.Need-returns invariant-loop decreases-loop
 returns-2 c =
     let a = c.before.before.before.args in
-    let l = c.before.loop in
+    let l = c.before.loop-k in
     let p = c.before.before.before.requires in
-    replay-end a.n a.made a.past.now a.columns.now a.r.now p.1.0.0 p.1.1 l.k l.r l.invariant c.loop-test.false
+    replay-end a.n a.made a.past.now a.columns.now a.r.now p.1.0.0 p.1.1 l.k l.r l.invariant c.loop-k-test.false
 
 pub replay_spec : {M : Type 1} → statement M
 replay_spec =

@@ -13,71 +13,71 @@ use Rattle.sharing.proofs.history.rest.Lts as lts
 use Rattle.simplex.proofs.choose.choose.Reads as choose-reads
 use Rattle.simplex.proofs.run.pivot.Reads as pivot-reads
 
-abbrev invariant-loop : tie.invariant-loop
+abbrev invariant-loop : tie.invariant-loop-x
 invariant-loop t₀ n place₀ kinds most left₀ t place left = Fine n t place kinds × (run_table kinds left t place ≡ run_table kinds most t₀ place₀) × (length t ≡ length t₀) × (length place ≡ length place₀)
 
-abbrev decreases-loop : tie.decreases-loop
+abbrev decreases-loop : tie.decreases-loop-x
 decreases-loop t₀ n place₀ kinds most left₀ t place left = left
 
-loop-holds : tie.Need-loop-init invariant-loop decreases-loop
+loop-holds : tie.Need-loop-x-init invariant-loop decreases-loop
 loop-holds c = (c.before.before.requires, refl, refl, refl)
 
-choose-requires : tie.Need-choose-requires invariant-loop decreases-loop
+choose-requires : tie.Need-choose-m-requires invariant-loop decreases-loop
 choose-requires c κs = c.before.before.loop.invariant.0
 
-enum-known-m : tie.Need-enum-known-m invariant-loop decreases-loop
+enum-known-m : tie.Need-enum_known-m invariant-loop decreases-loop
 enum-known-m c = search rules
 
-same_length : tie.Need-same-length invariant-loop decreases-loop
+same_length : tie.Need-shape_of-t-in-Stop invariant-loop decreases-loop
 same_length c = c.before.before.before.before.before.before.loop.invariant.2
 
-same-length-2 : tie.Need-same-length-2 invariant-loop decreases-loop
+same-length-2 : tie.Need-shape_of-place-in-Stop invariant-loop decreases-loop
 same-length-2 c = c.before.before.before.before.before.before.loop.invariant.3
 
-returns : tie.Need-returns invariant-loop decreases-loop
+returns : tie.Need-returns-in-Stop invariant-loop decreases-loop
 returns c =
     let a = c.before.before.before.before.before.before.before.before.before.args in
     let l = c.before.before.before.before.before.before.loop in
-    let e : move_of l.t l.place a.kinds.now l.left ≡ Stop c.before.m.given.0.0 = sym c.before.before.before.choose.ensures ∙ c.before.m.given.1 in
-    ap (λ o. o.verdict) (sym (run-stop a.kinds.now l.left l.t l.place c.before.m.given.0.0 e) ∙ l.invariant.1)
+    let e : move_of l.t l.place a.kinds.now l.left ≡ Stop c.before.m.given.0.0 = sym c.before.before.before.choose-m.ensures ∙ c.before.m-1.given.1 in
+    ap (λ o. o.verdict) (sym (run-stop a.kinds.now l.left l.t l.place c.before.m-1.given.0.0 e) ∙ l.invariant.1)
 
-enum-known-m-2 : tie.Need-enum-known-m-2 invariant-loop decreases-loop
+enum-known-m-2 : tie.Need-enum_known-m-in-Pivot-1 invariant-loop decreases-loop
 enum-known-m-2 c = search rules
 
 pivot-requires : tie.Need-pivot-requires invariant-loop decreases-loop
 pivot-requires c κs =
     let a = c.before.before.before.before.before.before.before.before.before.before.before.args in
     let l = c.before.before.before.before.before.before.before.before.loop in
-    let v = c.before.before.before.m2.given.0.0 in
-    let w = c.before.before.before.m2.given.0.1.0 in
-    let e : move_of l.t l.place a.kinds.now l.left ≡ Pivot v w = sym c.before.before.before.before.before.choose.ensures ∙ c.before.before.before.m2.given.1 in
+    let v = c.before.before.before.m-in-Pivot-1.given.0.0 in
+    let w = c.before.before.before.m-in-Pivot-1.given.0.1.0 in
+    let e : move_of l.t l.place a.kinds.now l.left ≡ Pivot v w = sym c.before.before.before.before.before.choose-m.ensures ∙ c.before.before.before.m-in-Pivot-1.given.1 in
     crossing a.n l.t l.place a.kinds.now l.left v w l.invariant.0 e
 
-sub-left : tie.Need-overflow-sub-left invariant-loop decreases-loop
+sub-left : tie.Need-overflow_sub-left invariant-loop decreases-loop
 sub-left c =
     let a = c.before.before.before.before.before.before.before.before.before.before.before.before.before.before.before.args in
     let l = c.before.before.before.before.before.before.before.before.before.before.before.before.loop in
-    let v = c.before.before.before.before.before.before.before.m2.given.0.0 in
-    let w = c.before.before.before.before.before.before.before.m2.given.0.1.0 in
-    let e : move_of l.t l.place a.kinds.now l.left ≡ Pivot v w = sym c.before.before.before.before.before.before.before.before.before.choose.ensures ∙ c.before.before.before.before.before.before.before.m2.given.1 in
+    let v = c.before.before.before.before.before.before.before.m-in-Pivot-1.given.0.0 in
+    let w = c.before.before.before.before.before.before.before.m-in-Pivot-1.given.0.1.0 in
+    let e : move_of l.t l.place a.kinds.now l.left ≡ Pivot v w = sym c.before.before.before.before.before.before.before.before.before.choose-m.ensures ∙ c.before.before.before.before.before.before.before.m-in-Pivot-1.given.1 in
     pivot-left a.kinds.now l.left l.t l.place v w e
 
-loop-less : tie.Need-loop-smaller invariant-loop decreases-loop
+loop-less : tie.Need-loop-x-smaller invariant-loop decreases-loop
 loop-less c =
     let a = c.before.before.before.before.before.before.before.before.before.before.before.before.before.before.before.args in
     let l = c.before.before.before.before.before.before.before.before.before.before.before.before.loop in
-    let v = c.before.before.before.before.before.before.before.m2.given.0.0 in
-    let w = c.before.before.before.before.before.before.before.m2.given.0.1.0 in
-    let e : move_of l.t l.place a.kinds.now l.left ≡ Pivot v w = sym c.before.before.before.before.before.before.before.before.before.choose.ensures ∙ c.before.before.before.before.before.before.before.m2.given.1 in
+    let v = c.before.before.before.before.before.before.before.m-in-Pivot-1.given.0.0 in
+    let w = c.before.before.before.before.before.before.before.m-in-Pivot-1.given.0.1.0 in
+    let e : move_of l.t l.place a.kinds.now l.left ≡ Pivot v w = sym c.before.before.before.before.before.before.before.before.before.choose-m.ensures ∙ c.before.before.before.before.before.before.before.m-in-Pivot-1.given.1 in
     let h = pivot-left a.kinds.now l.left l.t l.place v w e in omega arith
 
-loop-again : tie.Need-loop-preserved invariant-loop decreases-loop
+loop-again : tie.Need-loop-x-preserved invariant-loop decreases-loop
 loop-again c =
     let a = c.before.before.before.before.before.before.before.before.before.before.before.before.before.before.before.args in
     let l = c.before.before.before.before.before.before.before.before.before.before.before.before.loop in
-    let v = c.before.before.before.before.before.before.before.m2.given.0.0 in
-    let w = c.before.before.before.before.before.before.before.m2.given.0.1.0 in
-    let e : move_of l.t l.place a.kinds.now l.left ≡ Pivot v w = sym c.before.before.before.before.before.before.before.before.before.choose.ensures ∙ c.before.before.before.before.before.before.before.m2.given.1 in
+    let v = c.before.before.before.before.before.before.before.m-in-Pivot-1.given.0.0 in
+    let w = c.before.before.before.before.before.before.before.m-in-Pivot-1.given.0.1.0 in
+    let e : move_of l.t l.place a.kinds.now l.left ≡ Pivot v w = sym c.before.before.before.before.before.before.before.before.before.choose-m.ensures ∙ c.before.before.before.before.before.before.before.m-in-Pivot-1.given.1 in
     let x = crossing a.n l.t l.place a.kinds.now l.left v w l.invariant.0 e in
     let (et, ep) = c.before.before.before.pivot.ensures in
     rw (et, ep) (

@@ -15,70 +15,70 @@ use Rattle.sharing.proofs.working.append.Lts as lts
 use Rattle.sharing.proofs.history.go_from.Reads as go-from-reads
 use Rattle.tableau.proofs.is_violated.Reads as is-violated-reads
 
-array-copy-out-e : tie.Need-array-copy-out-e
+array-copy-out-e : tie.Need-bounds-r-1
 array-copy-out-e c = search rules
 
-mul-t18 : tie.Need-overflow-mul-t18
+mul-t18 : tie.Need-offset_bounds-rows-m
 mul-t18 c = search rules
 
-slice-set-from-rows : tie.Need-slice-set-from-rows
+slice-set-from-rows : tie.Need-bounds-rows-m
 slice-set-from-rows c = search rules
 
-mul-place : tie.Need-overflow-mul-place
+mul-place : tie.Need-offset_bounds-place-v
 mul-place c = search rules
 
-slice-write-place : tie.Need-slice-write-place
+slice-write-place : tie.Need-bounds-place-v
 slice-write-place c = search rules
 
-slice-write-kinds : tie.Need-slice-write-kinds
+slice-write-kinds : tie.Need-bounds-kinds-v
 slice-write-kinds c = search rules
 
-is-violated-requires : tie.Need-is-violated-requires
+is-violated-requires : tie.Need-is_violated-requires
 is-violated-requires c κs = search rules
 
-add-t24 : tie.Need-overflow-add-t24
+add-t24 : tie.Need-overflow_add-result
 add-t24 c = search rules
 
-same_length : tie.Need-same-length
+same_length : tie.Need-shape_of-rows-then-not-is_violated
 same_length c = search rules
 
-same-length-2 : tie.Need-same-length-2
+same-length-2 : tie.Need-shape_of-place-then-not-is_violated
 same-length-2 c = search rules
 
-same-length-3 : tie.Need-same-length-3
+same-length-3 : tie.Need-shape_of-kinds-then-not-is_violated
 same-length-3 c = search rules
 
-returns : tie.Need-returns
-returns c = appended-still c.before.before.before.before.before.before.args.n c.before.before.before.before.before.before.args.m c.before.before.before.before.before.before.args.v c.before.before.before.before.before.before.args.t5 c.before.before.before.before.before.before.args.rows.now c.before.before.before.before.before.before.args.place.now c.before.before.before.before.before.before.args.kinds.now c.before.before.before.before.before.before.requires.0 c.before.before.before.before.before.before.args.kind c.before.before.before.before.before.before.args.made c.before.before.before.before.before.before.args.past.now c.before.before.before.before.before.before.args.columns.now (ap (violated_by c.before.before.before.before.before.before.args.kind) (sym (to_z-of_z {w = w64} {z = get_or c.before.before.before.before.before.before.args.t5 1 (pos 0)} (record { sfits = c.before.before.e.given }))) ∙ sym c.before.is-violated.ensures ∙ not-true _ c.if1.true)
+returns : tie.Need-returns-then-not-is_violated
+returns c = appended-still c.before.before.before.before.before.before.args.n c.before.before.before.before.before.before.args.m c.before.before.before.before.before.before.args.v c.before.before.before.before.before.before.args.t5 c.before.before.before.before.before.before.args.rows.now c.before.before.before.before.before.before.args.place.now c.before.before.before.before.before.before.args.kinds.now c.before.before.before.before.before.before.requires.calm c.before.before.before.before.before.before.args.kind c.before.before.before.before.before.before.args.made c.before.before.before.before.before.before.args.past.now c.before.before.before.before.before.before.args.columns.now (ap (violated_by c.before.before.before.before.before.before.args.kind) (sym (to_z-of_z {w = w64} {z = get_or c.before.before.before.before.before.before.args.t5 1 (pos 0)} (record { sfits = c.before.before.e-1.given }))) ∙ sym c.before.is_violated.ensures ∙ not-true _ c.if-not-is_violated.true-raw)
 
-add-go-from : tie.Need-overflow-add-go-from
+add-go-from : tie.Need-overflow_add-m
 add-go-from c = search rules
 
-slice-relend-prefix-go-from : tie.Need-slice-relend-prefix-go-from
-slice-relend-prefix-go-from c = (rows-count c.before.before.before.before.before.before.args.n c.before.before.before.before.before.before.args.m c.before.before.before.before.before.before.args.v c.before.before.before.before.before.before.args.t5 c.before.before.before.before.before.before.args.rows.now c.before.before.before.before.before.before.args.place.now c.before.before.before.before.before.before.args.kinds.now c.before.before.before.before.before.before.requires.0 c.before.before.before.before.before.before.args.kind).0
+slice-relend-prefix-go-from : tie.Need-slice_bounds-go_from-end
+slice-relend-prefix-go-from c = (rows-count c.before.before.before.before.before.before.args.n c.before.before.before.before.before.before.args.m c.before.before.before.before.before.before.args.v c.before.before.before.before.before.before.args.t5 c.before.before.before.before.before.before.args.rows.now c.before.before.before.before.before.before.args.place.now c.before.before.before.before.before.before.args.kinds.now c.before.before.before.before.before.before.requires.calm c.before.before.before.before.before.before.args.kind).0
 
-slice-aggregate-go-from : tie.Need-slice-aggregate-go-from
-slice-aggregate-go-from c = sym (rows-count c.before.before.before.before.before.before.before.args.n c.before.before.before.before.before.before.before.args.m c.before.before.before.before.before.before.before.args.v c.before.before.before.before.before.before.before.args.t5 c.before.before.before.before.before.before.before.args.rows.now c.before.before.before.before.before.before.before.args.place.now c.before.before.before.before.before.before.before.args.kinds.now c.before.before.before.before.before.before.before.requires.0 c.before.before.before.before.before.before.before.args.kind).1
+slice-aggregate-go-from : tie.Need-slice_bounds-go_from-end-2
+slice-aggregate-go-from c = sym (rows-count c.before.before.before.before.before.before.before.args.n c.before.before.before.before.before.before.before.args.m c.before.before.before.before.before.before.before.args.v c.before.before.before.before.before.before.before.args.t5 c.before.before.before.before.before.before.before.args.rows.now c.before.before.before.before.before.before.before.args.place.now c.before.before.before.before.before.before.before.args.kinds.now c.before.before.before.before.before.before.before.requires.calm c.before.before.before.before.before.before.before.args.kind).1
 
-add-go-from-2 : tie.Need-overflow-add-go-from-2
+add-go-from-2 : tie.Need-overflow_add-v
 add-go-from-2 c = search rules
 
-slice-relend-prefix-go-from-2 : tie.Need-slice-relend-prefix-go-from-2
-slice-relend-prefix-go-from-2 c = (place-count c.before.before.before.before.before.before.before.args.n c.before.before.before.before.before.before.before.args.m c.before.before.before.before.before.before.before.args.v c.before.before.before.before.before.before.before.args.t5 c.before.before.before.before.before.before.before.args.rows.now c.before.before.before.before.before.before.before.args.place.now c.before.before.before.before.before.before.before.args.kinds.now c.before.before.before.before.before.before.before.requires.0 c.before.before.before.before.before.before.before.args.kind).0
+slice-relend-prefix-go-from-2 : tie.Need-slice_bounds-go_from-end-3
+slice-relend-prefix-go-from-2 c = (place-count c.before.before.before.before.before.before.before.args.n c.before.before.before.before.before.before.before.args.m c.before.before.before.before.before.before.before.args.v c.before.before.before.before.before.before.before.args.t5 c.before.before.before.before.before.before.before.args.rows.now c.before.before.before.before.before.before.before.args.place.now c.before.before.before.before.before.before.before.args.kinds.now c.before.before.before.before.before.before.before.requires.calm c.before.before.before.before.before.before.before.args.kind).0
 
-slice-aggregate-go-from-2 : tie.Need-slice-aggregate-go-from-2
-slice-aggregate-go-from-2 c = sym (place-count c.before.before.before.before.before.before.before.before.args.n c.before.before.before.before.before.before.before.before.args.m c.before.before.before.before.before.before.before.before.args.v c.before.before.before.before.before.before.before.before.args.t5 c.before.before.before.before.before.before.before.before.args.rows.now c.before.before.before.before.before.before.before.before.args.place.now c.before.before.before.before.before.before.before.before.args.kinds.now c.before.before.before.before.before.before.before.before.requires.0 c.before.before.before.before.before.before.before.before.args.kind).1
+slice-aggregate-go-from-2 : tie.Need-slice_bounds-go_from-end-4
+slice-aggregate-go-from-2 c = sym (place-count c.before.before.before.before.before.before.before.before.args.n c.before.before.before.before.before.before.before.before.args.m c.before.before.before.before.before.before.before.before.args.v c.before.before.before.before.before.before.before.before.args.t5 c.before.before.before.before.before.before.before.before.args.rows.now c.before.before.before.before.before.before.before.before.args.place.now c.before.before.before.before.before.before.before.before.args.kinds.now c.before.before.before.before.before.before.before.before.requires.calm c.before.before.before.before.before.before.before.before.args.kind).1
 
-add-go-from-3 : tie.Need-overflow-add-go-from-3
+add-go-from-3 : tie.Need-overflow_add-v-2
 add-go-from-3 c = search rules
 
-slice-reshare-prefix-go-from : tie.Need-slice-reshare-prefix-go-from
-slice-reshare-prefix-go-from c = (kinds-count c.before.before.before.before.before.before.before.before.args.n c.before.before.before.before.before.before.before.before.args.m c.before.before.before.before.before.before.before.before.args.v c.before.before.before.before.before.before.before.before.args.t5 c.before.before.before.before.before.before.before.before.args.rows.now c.before.before.before.before.before.before.before.before.args.place.now c.before.before.before.before.before.before.before.before.args.kinds.now c.before.before.before.before.before.before.before.before.requires.0 c.before.before.before.before.before.before.before.before.args.kind).0
+slice-reshare-prefix-go-from : tie.Need-slice_bounds-go_from-end-5
+slice-reshare-prefix-go-from c = (kinds-count c.before.before.before.before.before.before.before.before.args.n c.before.before.before.before.before.before.before.before.args.m c.before.before.before.before.before.before.before.before.args.v c.before.before.before.before.before.before.before.before.args.t5 c.before.before.before.before.before.before.before.before.args.rows.now c.before.before.before.before.before.before.before.before.args.place.now c.before.before.before.before.before.before.before.before.args.kinds.now c.before.before.before.before.before.before.before.before.requires.calm c.before.before.before.before.before.before.before.before.args.kind).0
 
-slice-aggregate-go-from-3 : tie.Need-slice-aggregate-go-from-3
+slice-aggregate-go-from-3 : tie.Need-slice_bounds-go_from-end-6
 slice-aggregate-go-from-3 c = sym (kinds-count c.before.before.before.before.before.before.before.before.before.args.n c.before.before.before.before.before.before.before.before.before.args.m c.before.before.before.before.before.before.before.before.before.args.v c.before.before.before.before.before.before.before.before.before.args.t5 c.before.before.before.before.before.before.before.before.before.args.rows.now c.before.before.before.before.before.before.before.before.before.args.place.now c.before.before.before.before.before.before.before.before.before.args.kinds.now c.before.before.before.before.before.before.before.before.before.requires.0 c.before.before.before.before.before.before.before.before.before.args.kind).1
 
-go-from-requires : tie.Need-go-from-requires
+go-from-requires : tie.Need-go_from-requires
 go-from-requires c κs =
     let s = c.before.before.before.before.before.before.before.before.before.before.before in
     let a = s.args in
@@ -91,22 +91,22 @@ go-from-requires c κs =
       ((s.requires.1.1, s.requires.1.2), (s.requires.1.0, rw (rows_is, place_is, kinds_are) (last_more a.n a.m a.v a.t5 a.rows.now a.place.now a.kinds.now k a.kind bad))),
     )
 
-same-length-4 : tie.Need-same-length-4
+same-length-4 : tie.Need-shape_of-rows
 same-length-4 c = rejoined (c.before.before.before.before.before.before.before.before.before.before.before.before.before.before.before.before.before.before.args.m + 1) c.before.before.before.before.before.before.go_from.new.0 (set c.before.before.before.before.before.before.before.before.before.before.before.before.before.before.before.before.before.before.args.rows.now c.before.before.before.before.before.before.before.before.before.before.before.before.before.before.before.before.before.before.args.m c.before.before.before.before.before.before.before.before.before.before.before.before.before.before.before.before.before.before.args.t5) c.before.before.before.before.before.before.go_from.auto.0 ∙ length-set c.before.before.before.before.before.before.before.before.before.before.before.before.before.before.before.before.before.before.args.rows.now c.before.before.before.before.before.before.before.before.before.before.before.before.before.before.before.before.before.before.args.m c.before.before.before.before.before.before.before.before.before.before.before.before.before.before.before.before.before.before.args.t5
 
-same-length-5 : tie.Need-same-length-5
+same-length-5 : tie.Need-shape_of-place
 same-length-5 c = rejoined (c.before.before.before.before.before.before.before.before.before.before.before.before.before.before.before.before.before.before.args.v + 1) c.before.before.before.before.before.before.go_from.new.1.1.0 (set c.before.before.before.before.before.before.before.before.before.before.before.before.before.before.before.before.before.before.args.place.now c.before.before.before.before.before.before.before.before.before.before.before.before.before.before.before.before.before.before.args.v c.before.before.before.before.before.before.before.before.before.before.before.before.before.before.before.before.before.before.args.m) c.before.before.before.before.before.before.go_from.auto.1.1.0 ∙ length-set c.before.before.before.before.before.before.before.before.before.before.before.before.before.before.before.before.before.before.args.place.now c.before.before.before.before.before.before.before.before.before.before.before.before.before.before.before.before.before.before.args.v c.before.before.before.before.before.before.before.before.before.before.before.before.before.before.before.before.before.before.args.m
 
-same-length-6 : tie.Need-same-length-6
+same-length-6 : tie.Need-shape_of-kinds
 same-length-6 c = search rules
 
-same-length-7 : tie.Need-same-length-7
+same-length-7 : tie.Need-shape_of-past
 same-length-7 c = search rules
 
-same-length-8 : tie.Need-same-length-8
+same-length-8 : tie.Need-shape_of-columns
 same-length-8 c = search rules
 
-returns-2 : tie.Need-returns-2
+returns-2 : tie.Need-returns
 returns-2 c =
     appended-went c.before.before.before.before.before.before.before.before.before.before.before.before.before.before.before.before.before.before.args.n c.before.before.before.before.before.before.before.before.before.before.before.before.before.before.before.before.before.before.args.m c.before.before.before.before.before.before.before.before.before.before.before.before.before.before.before.before.before.before.args.v c.before.before.before.before.before.before.before.before.before.before.before.before.before.before.before.before.before.before.args.t5 c.before.before.before.before.before.before.before.before.before.before.before.before.before.before.before.before.before.before.args.rows.now c.before.before.before.before.before.before.before.before.before.before.before.before.before.before.before.before.before.before.args.place.now c.before.before.before.before.before.before.before.before.before.before.before.before.before.before.before.before.before.before.args.kinds.now c.before.before.before.before.before.before.before.before.before.before.before.before.before.before.before.before.before.before.requires.0 c.before.before.before.before.before.before.before.before.before.before.before.before.before.before.before.before.before.before.args.kind c.before.before.before.before.before.before.before.before.before.before.before.before.before.before.before.before.before.before.args.made c.before.before.before.before.before.before.before.before.before.before.before.before.before.before.before.before.before.before.args.past.now c.before.before.before.before.before.before.before.before.before.before.before.before.before.before.before.before.before.before.args.columns.now c.before.before.before.before.before.before.go_from.result _ _ _ _ c.before.before.before.before.before.before.go_from.ensures _ _
     (seam (c.before.before.before.before.before.before.before.before.before.before.before.before.before.before.before.before.before.before.args.m + 1) c.before.before.before.before.before.before.go_from.new.0 _ (c.before.before.before.before.before.before.go_from.auto.0 ∙ (rows-count c.before.before.before.before.before.before.before.before.before.before.before.before.before.before.before.before.before.before.args.n c.before.before.before.before.before.before.before.before.before.before.before.before.before.before.before.before.before.before.args.m c.before.before.before.before.before.before.before.before.before.before.before.before.before.before.before.before.before.before.args.v c.before.before.before.before.before.before.before.before.before.before.before.before.before.before.before.before.before.before.args.t5 c.before.before.before.before.before.before.before.before.before.before.before.before.before.before.before.before.before.before.args.rows.now c.before.before.before.before.before.before.before.before.before.before.before.before.before.before.before.before.before.before.args.place.now c.before.before.before.before.before.before.before.before.before.before.before.before.before.before.before.before.before.before.args.kinds.now c.before.before.before.before.before.before.before.before.before.before.before.before.before.before.before.before.before.before.requires.0 c.before.before.before.before.before.before.before.before.before.before.before.before.before.before.before.before.before.before.args.kind).1))

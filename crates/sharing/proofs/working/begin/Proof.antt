@@ -20,62 +20,62 @@ use Rattle.sharing.proofs.history.go_on.Reads as go-on-reads
 use Rattle.simplex.proofs.fill.fill_bounds.Reads as fill-bounds-reads
 use Rattle.simplex.proofs.fill.name_variables.Reads as name-variables-reads
 
-mul-m : tie.Need-overflow-mul-m
+mul-m : tie.Need-overflow_mul-m
 mul-m c = search rules
 
-mul-n : tie.Need-overflow-mul-n
+mul-n : tie.Need-overflow_mul-n
 mul-n c = search rules
 
-add-n : tie.Need-overflow-add-n
+add-n : tie.Need-overflow_add-n
 add-n c = search rules
 
-name-variables-requires : tie.Need-name-variables-requires
+name-variables-requires : tie.Need-name_variables-requires
 name-variables-requires c κs = search rules
 
-fill-bounds-requires : tie.Need-fill-bounds-requires
+fill-bounds-requires : tie.Need-fill_bounds-requires
 fill-bounds-requires c κs =
     let p = c.before.before.before.before.before.before.before.before.before.before.before.before.requires in
     let d = p.0.divs in
     let h = p.1.high in
     (p.0.divs, (p.0.divisions, omega arith))
 
-slice-relend-prefix-go-on : tie.Need-slice-relend-prefix-go-on
+slice-relend-prefix-go-on : tie.Need-slice_bounds-go_on-end
 slice-relend-prefix-go-on c = search rules
 
-slice-aggregate-go-on : tie.Need-slice-aggregate-go-on
-slice-aggregate-go-on c = sym (rows-count c.before.before.before.before.before.before.before.before.before.before.before.before.before.before.before.args.b c.before.before.before.before.before.before.before.before.before.before.before.before.before.before.before.requires.0 c.before.before.before.before.before.before.before.before.before.before.before.before.before.before.before.args.rows.now c.before.before.fill-bounds.new.1.1.0 c.before.before.before.before.before.before.before.before.before.before.before.before.before.before.before.args.place.now c.before.before.before.before.before.before.before.before.before.name-variables.new.1.1.0 c.before.before.before.before.before.before.before.before.before.before.before.before.before.before.before.args.kinds.now c.before.before.before.before.before.before.before.before.before.name-variables.new.1.1.1.0 c.before.before.before.before.before.before.before.before.before.name-variables.ensures c.before.before.fill-bounds.ensures c.before.before.before.before.before.before.before.before.before.before.before.before.before.before.before.requires.1.high c.before.before.before.before.before.before.before.before.before.before.before.before.before.before.before.requires.1.long c.before.before.before.before.before.before.before.before.before.before.before.before.before.before.before.requires.1.wide)
+slice-aggregate-go-on : tie.Need-slice_bounds-go_on-end-2
+slice-aggregate-go-on c = sym (rows-count c.before.before.before.before.before.before.before.before.before.before.before.before.before.before.before.args.b c.before.before.before.before.before.before.before.before.before.before.before.before.before.before.before.requires.valid c.before.before.before.before.before.before.before.before.before.before.before.before.before.before.before.args.rows.now c.before.before.fill_bounds.new.1.1.0 c.before.before.before.before.before.before.before.before.before.before.before.before.before.before.before.args.place.now c.before.before.before.before.before.before.before.before.before.name_variables.new.1.1.0 c.before.before.before.before.before.before.before.before.before.before.before.before.before.before.before.args.kinds.now c.before.before.before.before.before.before.before.before.before.name_variables.new.1.1.1.0 c.before.before.before.before.before.before.before.before.before.name_variables.ensures c.before.before.fill_bounds.ensures c.before.before.before.before.before.before.before.before.before.before.before.before.before.before.before.requires.beginning.high c.before.before.before.before.before.before.before.before.before.before.before.before.before.before.before.requires.beginning.long c.before.before.before.before.before.before.before.before.before.before.before.before.before.before.before.requires.beginning.wide)
 
-add-go-on : tie.Need-overflow-add-go-on
+add-go-on : tie.Need-overflow_add-k
 add-go-on c = search rules
 
-slice-relend-prefix-go-on-2 : tie.Need-slice-relend-prefix-go-on-2
+slice-relend-prefix-go-on-2 : tie.Need-slice_bounds-go_on-end-3
 slice-relend-prefix-go-on-2 c = search rules
 
-slice-aggregate-go-on-2 : tie.Need-slice-aggregate-go-on-2
-slice-aggregate-go-on-2 c = sym (place-count c.before.before.before.before.before.before.before.before.before.before.before.before.before.before.before.before.args.b c.before.before.before.before.before.before.before.before.before.before.before.before.before.before.before.before.requires.0 c.before.before.before.before.before.before.before.before.before.before.before.before.before.before.before.before.args.rows.now c.before.before.before.fill-bounds.new.1.1.0 c.before.before.before.before.before.before.before.before.before.before.before.before.before.before.before.before.args.place.now c.before.before.before.before.before.before.before.before.before.before.name-variables.new.1.1.0 c.before.before.before.before.before.before.before.before.before.before.before.before.before.before.before.before.args.kinds.now c.before.before.before.before.before.before.before.before.before.before.name-variables.new.1.1.1.0 c.before.before.before.before.before.before.before.before.before.before.name-variables.ensures c.before.before.before.fill-bounds.ensures c.before.before.before.before.before.before.before.before.before.before.before.before.before.before.before.before.requires.1.high c.before.before.before.before.before.before.before.before.before.before.before.before.before.before.before.before.requires.1.long c.before.before.before.before.before.before.before.before.before.before.before.before.before.before.before.before.requires.1.wide)
+slice-aggregate-go-on-2 : tie.Need-slice_bounds-go_on-end-4
+slice-aggregate-go-on-2 c = sym (place-count c.before.before.before.before.before.before.before.before.before.before.before.before.before.before.before.before.args.b c.before.before.before.before.before.before.before.before.before.before.before.before.before.before.before.before.requires.valid c.before.before.before.before.before.before.before.before.before.before.before.before.before.before.before.before.args.rows.now c.before.before.before.fill_bounds.new.1.1.0 c.before.before.before.before.before.before.before.before.before.before.before.before.before.before.before.before.args.place.now c.before.before.before.before.before.before.before.before.before.before.name_variables.new.1.1.0 c.before.before.before.before.before.before.before.before.before.before.before.before.before.before.before.before.args.kinds.now c.before.before.before.before.before.before.before.before.before.before.name_variables.new.1.1.1.0 c.before.before.before.before.before.before.before.before.before.before.name_variables.ensures c.before.before.before.fill_bounds.ensures c.before.before.before.before.before.before.before.before.before.before.before.before.before.before.before.before.requires.beginning.high c.before.before.before.before.before.before.before.before.before.before.before.before.before.before.before.before.requires.beginning.long c.before.before.before.before.before.before.before.before.before.before.before.before.before.before.before.before.requires.beginning.wide)
 
-slice-reshare-prefix-go-on : tie.Need-slice-reshare-prefix-go-on
+slice-reshare-prefix-go-on : tie.Need-slice_bounds-go_on-end-5
 slice-reshare-prefix-go-on c = search rules
 
-slice-aggregate-go-on-3 : tie.Need-slice-aggregate-go-on-3
+slice-aggregate-go-on-3 : tie.Need-slice_bounds-go_on-end-6
 slice-aggregate-go-on-3 c = sym (kinds-count c.before.before.before.before.before.before.before.before.before.before.before.before.before.before.before.before.before.args.b c.before.before.before.before.before.before.before.before.before.before.before.before.before.before.before.before.before.requires.0 c.before.before.before.before.before.before.before.before.before.before.before.before.before.before.before.before.before.args.rows.now c.before.before.before.before.fill-bounds.new.1.1.0 c.before.before.before.before.before.before.before.before.before.before.before.before.before.before.before.before.before.args.place.now c.before.before.before.before.before.before.before.before.before.before.before.name-variables.new.1.1.0 c.before.before.before.before.before.before.before.before.before.before.before.before.before.before.before.before.before.args.kinds.now c.before.before.before.before.before.before.before.before.before.before.before.name-variables.new.1.1.1.0 c.before.before.before.before.before.before.before.before.before.before.before.name-variables.ensures c.before.before.before.before.fill-bounds.ensures c.before.before.before.before.before.before.before.before.before.before.before.before.before.before.before.before.before.requires.1.high c.before.before.before.before.before.before.before.before.before.before.before.before.before.before.before.before.before.requires.1.long c.before.before.before.before.before.before.before.before.before.before.before.before.before.before.before.before.before.requires.1.wide)
 
-go-on-requires : tie.Need-go-on-requires
+go-on-requires : tie.Need-go_on-requires
 go-on-requires c κs = (rw (rows_are c.before.before.before.before.before.before.before.before.before.before.before.before.before.before.before.before.before.before.before.args.b c.before.before.before.before.before.before.before.before.before.before.before.before.before.before.before.before.before.before.before.requires.0 c.before.before.before.before.before.before.before.before.before.before.before.before.before.before.before.before.before.before.before.args.rows.now c.before.before.before.before.before.before.fill-bounds.new.1.1.0 c.before.before.before.before.before.before.before.before.before.before.before.before.before.before.before.before.before.before.before.args.place.now c.before.before.before.before.before.before.before.before.before.before.before.before.before.name-variables.new.1.1.0 c.before.before.before.before.before.before.before.before.before.before.before.before.before.before.before.before.before.before.before.args.kinds.now c.before.before.before.before.before.before.before.before.before.before.before.before.before.name-variables.new.1.1.1.0 c.before.before.before.before.before.before.before.before.before.before.before.before.before.name-variables.ensures c.before.before.before.before.before.before.fill-bounds.ensures c.before.before.before.before.before.before.before.before.before.before.before.before.before.before.before.before.before.before.before.requires.1.high c.before.before.before.before.before.before.before.before.before.before.before.before.before.before.before.before.before.before.before.requires.1.long c.before.before.before.before.before.before.before.before.before.before.before.before.before.before.before.before.before.before.before.requires.1.wide, place_is c.before.before.before.before.before.before.before.before.before.before.before.before.before.before.before.before.before.before.before.args.b c.before.before.before.before.before.before.before.before.before.before.before.before.before.before.before.before.before.before.before.requires.0 c.before.before.before.before.before.before.before.before.before.before.before.before.before.before.before.before.before.before.before.args.rows.now c.before.before.before.before.before.before.fill-bounds.new.1.1.0 c.before.before.before.before.before.before.before.before.before.before.before.before.before.before.before.before.before.before.before.args.place.now c.before.before.before.before.before.before.before.before.before.before.before.before.before.name-variables.new.1.1.0 c.before.before.before.before.before.before.before.before.before.before.before.before.before.before.before.before.before.before.before.args.kinds.now c.before.before.before.before.before.before.before.before.before.before.before.before.before.name-variables.new.1.1.1.0 c.before.before.before.before.before.before.before.before.before.before.before.before.before.name-variables.ensures c.before.before.before.before.before.before.fill-bounds.ensures c.before.before.before.before.before.before.before.before.before.before.before.before.before.before.before.before.before.before.before.requires.1.high c.before.before.before.before.before.before.before.before.before.before.before.before.before.before.before.before.before.before.before.requires.1.long c.before.before.before.before.before.before.before.before.before.before.before.before.before.before.before.before.before.before.before.requires.1.wide, kinds_are c.before.before.before.before.before.before.before.before.before.before.before.before.before.before.before.before.before.before.before.args.b c.before.before.before.before.before.before.before.before.before.before.before.before.before.before.before.before.before.before.before.requires.0 c.before.before.before.before.before.before.before.before.before.before.before.before.before.before.before.before.before.before.before.args.rows.now c.before.before.before.before.before.before.fill-bounds.new.1.1.0 c.before.before.before.before.before.before.before.before.before.before.before.before.before.before.before.before.before.before.before.args.place.now c.before.before.before.before.before.before.before.before.before.before.before.before.before.name-variables.new.1.1.0 c.before.before.before.before.before.before.before.before.before.before.before.before.before.before.before.before.before.before.before.args.kinds.now c.before.before.before.before.before.before.before.before.before.before.before.before.before.name-variables.new.1.1.1.0 c.before.before.before.before.before.before.before.before.before.before.before.before.before.name-variables.ensures c.before.before.before.before.before.before.fill-bounds.ensures c.before.before.before.before.before.before.before.before.before.before.before.before.before.before.before.before.before.before.before.requires.1.high c.before.before.before.before.before.before.before.before.before.before.before.before.before.before.before.before.before.before.before.requires.1.long c.before.before.before.before.before.before.before.before.before.before.before.before.before.before.before.before.before.before.before.requires.1.wide) (first_fine c.before.before.before.before.before.before.before.before.before.before.before.before.before.before.before.before.before.before.before.args.b.divs (bounds 0 (basic_set_of c.before.before.before.before.before.before.before.before.before.before.before.before.before.before.before.before.before.before.before.args.b).divisions) c.before.before.before.before.before.before.before.before.before.before.before.before.before.before.before.before.before.before.before.requires.0.divs (few-bounds c.before.before.before.before.before.before.before.before.before.before.before.before.before.before.before.before.before.before.before.args.b c.before.before.before.before.before.before.before.before.before.before.before.before.before.before.before.before.before.before.before.requires.0 c.before.before.before.before.before.before.before.before.before.before.before.before.before.before.before.before.before.before.before.args.rows.now c.before.before.before.before.before.before.fill-bounds.new.1.1.0 c.before.before.before.before.before.before.before.before.before.before.before.before.before.before.before.before.before.before.before.args.place.now c.before.before.before.before.before.before.before.before.before.before.before.before.before.name-variables.new.1.1.0 c.before.before.before.before.before.before.before.before.before.before.before.before.before.before.before.before.before.before.before.args.kinds.now c.before.before.before.before.before.before.before.before.before.before.before.before.before.name-variables.new.1.1.1.0 c.before.before.before.before.before.before.before.before.before.before.before.before.before.name-variables.ensures c.before.before.before.before.before.before.fill-bounds.ensures c.before.before.before.before.before.before.before.before.before.before.before.before.before.before.before.before.before.before.before.requires.1.high c.before.before.before.before.before.before.before.before.before.before.before.before.before.before.before.before.before.before.before.requires.1.long c.before.before.before.before.before.before.before.before.before.before.before.before.before.before.before.before.before.before.before.requires.1.wide)), ((c.before.before.before.before.before.before.before.before.before.before.before.before.before.before.before.before.before.before.before.requires.1.many, c.before.before.before.before.before.before.before.before.before.before.before.before.before.before.before.before.before.before.before.requires.1.many'), omega arith))
 
-same_length : tie.Need-same-length
+same_length : tie.Need-shape_of-rows
 same_length c = search rules
 
-same-length-2 : tie.Need-same-length-2
+same-length-2 : tie.Need-shape_of-place
 same-length-2 c = search rules
 
-same-length-3 : tie.Need-same-length-3
+same-length-3 : tie.Need-shape_of-kinds
 same-length-3 c = search rules
 
-same-length-4 : tie.Need-same-length-4
+same-length-4 : tie.Need-shape_of-past
 same-length-4 c = search rules
 
-same-length-5 : tie.Need-same-length-5
+same-length-5 : tie.Need-shape_of-columns
 same-length-5 c = search rules
 
 returns : tie.Need-returns

@@ -23,40 +23,40 @@ use Rattle.sharing.proofs.history.replay.Reads as replay-reads
 use Rattle.sharing.proofs.working.finish.Reads as finish-reads
 use Rattle.simplex.proofs.fill.constraint_row.Reads as constraint-row-reads
 
-constraint-row-requires : tie.Need-constraint-row-requires
+constraint-row-requires : tie.Need-constraint_row-requires
 constraint-row-requires c κs = search rules
 
-add-replay : tie.Need-overflow-add-replay
+add-replay : tie.Need-overflow_add-k
 add-replay c = search rules
 
 replay-requires : tie.Need-replay-requires
 replay-requires c κs =
     let st = c.before.before.before.before.before.before in
-    let g = st.requires.0.stands in
-    (subst (Whole (st.args.k + 10)) (sym c.before.constraint-row.ensures) (row-whole st.args.k g.few (constraint_of st.args.c)), (fits-past st.requires.0.stands, g.kept))
+    let g = st.requires.growing.stands in
+    (subst (Whole (st.args.k + 10)) (sym c.before.constraint_row.ensures) (row-whole st.args.k g.few (constraint_of st.args.c)), (fits-past st.requires.growing.stands, g.kept))
 
-returns : tie.Need-returns
+returns : tie.Need-returns-then-not-replay
 returns c =
     let st = c.before.before.before.before.before.before.before.before in
     let qs = take st.args.h.pivots st.args.past.now in
     let js = take st.args.h.pivots st.args.columns.now in
     let c₀ = constraint_of st.args.c in
-    let e : through qs js (start_row st.args.k c₀) ≡ false = sym (ap (through qs js) c.before.before.before.constraint-row.ensures) ∙ sym c.before.replay.ensures.all ∙ not-true _ c.if1.true in
-    record { tried = λ cs g. sym (wide-any g st.requires.0.less c₀ e) }
+    let e : through qs js (start_row st.args.k c₀) ≡ false = sym (ap (through qs js) c.before.before.before.constraint_row.ensures) ∙ sym c.before.replay.ensures.all ∙ not-true _ c.if-not-replay.true-raw in
+    record { tried = λ cs g. sym (wide-any g st.requires.growing.less c₀ e) }
 
-enum_told : tie.Need-enum-told
+enum_told : tie.Need-enum_told-1
 enum_told c = search rules
 
-add-finish : tie.Need-overflow-add-finish
+add-finish : tie.Need-overflow_add-k-in-Point
 add-finish c = search rules
 
-add-finish-2 : tie.Need-overflow-add-finish-2
+add-finish-2 : tie.Need-overflow_add-k-in-Point-2
 add-finish-2 c = search rules
 
-sub-finish : tie.Need-overflow-sub-finish
+sub-finish : tie.Need-overflow_sub-made
 sub-finish c = search rules
 
-add-finish-3 : tie.Need-overflow-add-finish-3
+add-finish-3 : tie.Need-overflow_add-k-in-Point-3
 add-finish-3 c = search rules
 
 finish-requires : tie.Need-finish-requires
@@ -67,23 +67,23 @@ finish-requires c κs =
     let js = take st.args.h.pivots st.args.columns.now in
     let c₀ = constraint_of st.args.c in
     let r = p1.replay.new.0 in
-    let is : r ≡ brought qs js (start_row st.args.k c₀) = p1.replay.ensures.row ∙ ap (brought qs js) c.before.before.before.before.before.before.constraint-row.ensures in
+    let is : r ≡ brought qs js (start_row st.args.k c₀) = p1.replay.ensures.row ∙ ap (brought qs js) c.before.before.before.before.before.before.constraint_row.ensures in
     let p : st.args.h.verdict ≡ Point = search rules in
-    (calm-now st.requires.0.stands st.requires.0.less c₀ p r is, st.requires.1.1)
+    record { calm = calm-now st.requires.growing.stands st.requires.growing.less c₀ p r is; spare_len = st.requires.equality_value.1 }
 
-enum-told-2 : tie.Need-enum-told-2
+enum-told-2 : tie.Need-enum_told-in-Dropped
 enum-told-2 c = search rules
 
-enum-told-3 : tie.Need-enum-told-3
+enum-told-3 : tie.Need-enum_told-in-Long
 enum-told-3 c = search rules
 
-enum-told-4 : tie.Need-enum-told-4
+enum-told-4 : tie.Need-enum_told-in-Wide
 enum-told-4 c = search rules
 
-same_length : tie.Need-same-length
+same_length : tie.Need-shape_of-spare
 same_length c = search rules
 
-returns-2 : tie.Need-returns-2
+returns-2 : tie.Need-returns-in-Point
 returns-2 c =
     let st = c.before.before.before.before.before.before.before.before.before.before.before.before.before in
     let p1 = c.before.before.before.before.before.before.before.before in
@@ -91,43 +91,43 @@ returns-2 c =
     let qs = take st.args.h.pivots st.args.past.now in
     let js = take st.args.h.pivots st.args.columns.now in
     let c₀ = constraint_of st.args.c in
-    let e : through qs js (start_row st.args.k c₀) ≡ true = sym (ap (through qs js) p1.constraint-row.ensures) ∙ sym p2.replay.ensures.all ∙ not-false _ c.before.before.before.before.before.if1.false in
+    let e : through qs js (start_row st.args.k c₀) ≡ true = sym (ap (through qs js) p1.constraint_row.ensures) ∙ sym p2.replay.ensures.all ∙ not-false _ c.before.before.before.before.before.if-not-replay.false-raw in
     let r = p2.replay.new.0 in
-    let is : r ≡ brought qs js (start_row st.args.k c₀) = p2.replay.ensures.row ∙ ap (brought qs js) p1.constraint-row.ensures in
+    let is : r ≡ brought qs js (start_row st.args.k c₀) = p2.replay.ensures.row ∙ ap (brought qs js) p1.constraint_row.ensures in
     let p : st.args.h.verdict ≡ Point = search rules in
     record {
       tried = λ cs g.
           c.before.finish.ensures
-          ∙ ap (λ b. (onward (200 - st.args.h.pivots) st.args.h.rows (8 + st.args.k + st.args.h.rows) (Rattle.simplex.specs.Table.kind_number (mathlib.Core.Option.some (Rattle.model.specs.Values.kind_is b))) r st.args.rows.now st.args.place.now st.args.kinds.now).verdict) (sym st.requires.1.0)
-          ∙ sym (ap (λ (y : Traced). y.verdict) (onward-is g st.requires.0.less c₀ p r is e));
+          ∙ ap (λ b. (onward (200 - st.args.h.pivots) st.args.h.rows (8 + st.args.k + st.args.h.rows) (Rattle.simplex.specs.Table.kind_number (mathlib.Core.Option.some (Rattle.model.specs.Values.kind_is b))) r st.args.rows.now st.args.place.now st.args.kinds.now).verdict) (sym st.requires.equality_value.0)
+          ∙ sym (ap (λ (y : Traced). y.verdict) (onward-is g st.requires.growing.less c₀ p r is e));
     }
 
-returns-3 : tie.Need-returns-3
+returns-3 : tie.Need-returns-in-Dropped
 returns-3 c =
     let st = c.before.before.before.before.before.before.before.before.before.before in
     let qs = take st.args.h.pivots st.args.past.now in
     let js = take st.args.h.pivots st.args.columns.now in
     let c₀ = constraint_of st.args.c in
-    let e : through qs js (start_row st.args.k c₀) ≡ true = sym (ap (through qs js) c.before.before.before.before.before.constraint-row.ensures) ∙ sym c.before.before.before.replay.ensures.all ∙ not-false _ c.before.before.if1.false in
+    let e : through qs js (start_row st.args.k c₀) ≡ true = sym (ap (through qs js) c.before.before.before.before.before.constraint_row.ensures) ∙ sym c.before.before.before.replay.ensures.all ∙ not-false _ c.before.before.if-not-replay.false-raw in
     let p : st.args.h.verdict ≡ Dropped = search rules in
-    record { tried = λ cs g. sym ((ended-now g st.requires.0.less c₀ (λ z. let q = sym p ∙ z in let w : ◌≡◌ {A = ℕ} 0 1 = cc in omega arith) e (λ z. clash-dropped (sym p ∙ z))).0 ∙ p) }
+    record { tried = λ cs g. sym ((ended-now g st.requires.growing.less c₀ (λ z. let q = sym p ∙ z in let w : ◌≡◌ {A = ℕ} 0 1 = cc in omega arith) e (λ z. clash-dropped (sym p ∙ z))).0 ∙ p) }
 
-returns-4 : tie.Need-returns-4
+returns-4 : tie.Need-returns-in-Long
 returns-4 c =
     let st = c.before.before.before.before.before.before.before.before.before.before in
     let qs = take st.args.h.pivots st.args.past.now in
     let js = take st.args.h.pivots st.args.columns.now in
     let c₀ = constraint_of st.args.c in
-    let e : through qs js (start_row st.args.k c₀) ≡ true = sym (ap (through qs js) c.before.before.before.before.before.constraint-row.ensures) ∙ sym c.before.before.before.replay.ensures.all ∙ not-false _ c.before.before.if1.false in
+    let e : through qs js (start_row st.args.k c₀) ≡ true = sym (ap (through qs js) c.before.before.before.before.before.constraint_row.ensures) ∙ sym c.before.before.before.replay.ensures.all ∙ not-false _ c.before.before.if-not-replay.false-raw in
     let p : st.args.h.verdict ≡ Long = search rules in
-    record { tried = λ cs g. sym ((ended-now g st.requires.0.less c₀ (λ z. let q = sym p ∙ z in let w : ◌≡◌ {A = ℕ} 0 1 = cc in omega arith) e (λ z. clash-long (sym p ∙ z))).0 ∙ p) }
+    record { tried = λ cs g. sym ((ended-now g st.requires.growing.less c₀ (λ z. let q = sym p ∙ z in let w : ◌≡◌ {A = ℕ} 0 1 = cc in omega arith) e (λ z. clash-long (sym p ∙ z))).0 ∙ p) }
 
-returns-5 : tie.Need-returns-5
+returns-5 : tie.Need-returns-in-Wide
 returns-5 c =
     let st = c.before.before.before.before.before.before.before.before.before.before in
     let c₀ = constraint_of st.args.c in
     let p : st.args.h.verdict ≡ Wide = search rules in
-    record { tried = λ cs g. sym (wide-stays g st.requires.0.less c₀ p) }
+    record { tried = λ cs g. sym (wide-stays g st.requires.growing.less c₀ p) }
 
 pub candidate_spec : {M : Type 1} → statement M
 candidate_spec =

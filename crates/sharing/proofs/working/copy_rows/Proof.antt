@@ -10,48 +10,48 @@ use Rattle.sharing.proofs.working.copy_rows.Tie as tie
 use Rattle.sharing.proofs.working.copy_rows.Reads as reads
 use Rattle.sharing.proofs.working.copy_rows.Lts as lts
 
-abbrev invariant-loop : tie.invariant-loop
+abbrev invariant-loop : tie.invariant-loop-k
 invariant-loop to₀ from n k₀ to k = (k ≤ n) × (length to ≡ length to₀) × (take k to ≡ take k from)
 
-abbrev decreases-loop : tie.decreases-loop
+abbrev decreases-loop : tie.decreases-loop-k
 decreases-loop to₀ from n k₀ to k = n - k
 
-loop-holds : tie.Need-loop-init invariant-loop decreases-loop
+loop-holds : tie.Need-loop-k-init invariant-loop decreases-loop
 loop-holds c = (omega arith, refl, refl)
 
-mul-to : tie.Need-overflow-mul-to invariant-loop decreases-loop
+mul-to : tie.Need-offset_bounds-from-k invariant-loop decreases-loop
 mul-to c = search rules
 
-shared-slice-copy-out-to : tie.Need-shared-slice-copy-out-to invariant-loop decreases-loop
-shared-slice-copy-out-to c = let h = c.loop-test.true in let p = c.before.before.requires in omega (arith, p.1)
+shared-slice-copy-out-to : tie.Need-bounds-from-k invariant-loop decreases-loop
+shared-slice-copy-out-to c = let h = c.loop-k-test.true in let p = c.before.before.requires in omega (arith, p.1)
 
-mul-t9 : tie.Need-overflow-mul-t9 invariant-loop decreases-loop
+mul-t9 : tie.Need-offset_bounds-to-k invariant-loop decreases-loop
 mul-t9 c = search rules
 
-slice-set-from-to : tie.Need-slice-set-from-to invariant-loop decreases-loop
-slice-set-from-to c = let h = c.before.loop-test.true in let e = c.before.before.loop.invariant.1 in let p = c.before.before.before.requires.0 in omega arith
+slice-set-from-to : tie.Need-bounds-to-k invariant-loop decreases-loop
+slice-set-from-to c = let h = c.before.loop-k-test.true in let e = c.before.before.loop-k.invariant.1 in let p = c.before.before.before.requires.0 in omega arith
 
-add-k : tie.Need-overflow-add-k invariant-loop decreases-loop
-add-k c = let h = c.before.loop-test.true in search rules
+add-k : tie.Need-overflow_add-k invariant-loop decreases-loop
+add-k c = let h = c.before.loop-k-test.true in search rules
 
-loop-less : tie.Need-loop-smaller invariant-loop decreases-loop
-loop-less c = let h = c.before.loop-test.true in omega arith
+loop-less : tie.Need-loop-k-smaller invariant-loop decreases-loop
+loop-less c = let h = c.before.loop-k-test.true in omega arith
 
-loop-again : tie.Need-loop-preserved invariant-loop decreases-loop
+loop-again : tie.Need-loop-k-preserved invariant-loop decreases-loop
 loop-again c =
-    let h = c.before.loop-test.true in
-    let l = c.before.before.loop in
+    let h = c.before.loop-k-test.true in
+    let l = c.before.before.loop-k in
     let p = c.before.before.before.requires in
     let e = l.invariant.1 in
     let a : l.k < length l.to = omega (arith, p.0) in
     let b : l.k < length c.before.before.before.args.from.now = omega (arith, p.1) in
     (omega (arith, h), length-set l.to l.k (get_or c.before.before.before.args.from.now l.k []) ∙ e, copy-on [] l.k l.to c.before.before.before.args.from.now a b l.invariant.2)
 
-same_length : tie.Need-same-length invariant-loop decreases-loop
-same_length c = c.before.loop.invariant.1
+same_length : tie.Need-shape_of-to invariant-loop decreases-loop
+same_length c = c.before.loop-k.invariant.1
 
 returns : tie.Need-returns invariant-loop decreases-loop
-returns c = let l = c.before.loop in let h = l.invariant.0 in let t = c.loop-test.false in let e : l.k ≡ c.before.before.args.n = omega arith in subst (λ m. take m l.to ≡ take m c.before.before.args.from.now) e l.invariant.2
+returns c = let l = c.before.loop-k in let h = l.invariant.0 in let t = c.loop-k-test.false in let e : l.k ≡ c.before.before.args.n = omega arith in subst (λ m. take m l.to ≡ take m c.before.before.args.from.now) e l.invariant.2
 
 pub copy_rows_spec : {M : Type 1} → statement M
 copy_rows_spec =

@@ -22,126 +22,126 @@ use Rattle.sharing.proofs.working.copy_rows.Reads as copy-rows-reads
 use Rattle.tableau.proofs.helping.Reads as helping-reads
 use Rattle.tableau.proofs.is_violated.Reads as is-violated-reads
 
-array-copy-out-e : tie.Need-array-copy-out-e
+array-copy-out-e : tie.Need-bounds-r-1
 array-copy-out-e c = search rules
 
-is-violated-requires : tie.Need-is-violated-requires
+is-violated-requires : tie.Need-is_violated-requires
 is-violated-requires c κs = search rules
 
-returns : tie.Need-returns
-returns c = sym (point-more c.before.before.before.before.before.args.n c.before.before.before.before.before.args.m c.before.before.before.before.before.args.v c.before.before.before.before.before.args.t5 c.before.before.before.before.before.args.rows.now c.before.before.before.before.before.args.place.now c.before.before.before.before.before.args.kinds.now c.before.before.before.before.before.requires.0 1 c.before.before.before.before.before.args.left (ap (violated_by 1) (sym (to_z-of_z {w = w64} {z = get_or c.before.before.before.before.before.args.t5 1 (pos 0)} (record { sfits = c.before.before.e.given }))) ∙ sym c.before.is-violated.ensures ∙ not-true _ c.if1.true))
+returns : tie.Need-returns-then-not-is_violated
+returns c = sym (point-more c.before.before.before.before.before.args.n c.before.before.before.before.before.args.m c.before.before.before.before.before.args.v c.before.before.before.before.before.args.t5 c.before.before.before.before.before.args.rows.now c.before.before.before.before.before.args.place.now c.before.before.before.before.before.args.kinds.now c.before.before.before.before.before.requires.calm 1 c.before.before.before.before.before.args.left (ap (violated_by 1) (sym (to_z-of_z {w = w64} {z = get_or c.before.before.before.before.before.args.t5 1 (pos 0)} (record { sfits = c.before.before.e-1.given }))) ∙ sym c.before.is_violated.ensures ∙ not-true _ c.if-not-is_violated.true-raw))
 
-slice-aggregate-helping : tie.Need-slice-aggregate-helping
+slice-aggregate-helping : tie.Need-slice_bounds-helping-end
 slice-aggregate-helping c = sym (lp c.before.before.before.before.before.before.before.args.n c.before.before.before.before.before.before.before.args.m c.before.before.before.before.before.before.before.args.v c.before.before.before.before.before.before.before.args.t5 c.before.before.before.before.before.before.before.args.rows.now c.before.before.before.before.before.before.before.args.place.now c.before.before.before.before.before.before.before.args.kinds.now c.before.before.before.before.before.before.before.requires.0)
 
-slice-aggregate-helping-2 : tie.Need-slice-aggregate-helping-2
+slice-aggregate-helping-2 : tie.Need-slice_bounds-helping-end-2
 slice-aggregate-helping-2 c = sym (ls c.before.before.before.before.before.before.before.before.args.n c.before.before.before.before.before.before.before.before.args.m c.before.before.before.before.before.before.before.before.args.v c.before.before.before.before.before.before.before.before.args.t5 c.before.before.before.before.before.before.before.before.args.rows.now c.before.before.before.before.before.before.before.before.args.place.now c.before.before.before.before.before.before.before.before.args.kinds.now c.before.before.before.before.before.before.before.before.requires.0)
 
-helping-requires : tie.Need-helping-requires
+helping-requires : tie.Need-helping-w-requires
 helping-requires c κs = search rules
 
-returns-2 : tie.Need-returns-2
-returns-2 c = sym (dropped-more c.before.before.before.before.before.before.before.before.before.before.args.n c.before.before.before.before.before.before.before.before.before.before.args.m c.before.before.before.before.before.before.before.before.before.before.args.v c.before.before.before.before.before.before.before.before.before.before.args.t5 c.before.before.before.before.before.before.before.before.before.before.args.rows.now c.before.before.before.before.before.before.before.before.before.before.args.place.now c.before.before.before.before.before.before.before.before.before.before.args.kinds.now c.before.before.before.before.before.before.before.before.before.before.requires.0 1 c.before.before.before.before.before.before.before.before.before.before.args.left (ap (violated_by 1) (sym (to_z-of_z {w = w64} {z = get_or c.before.before.before.before.before.before.before.before.before.before.args.t5 1 (pos 0)} (record { sfits = c.before.before.before.before.before.before.before.e.given }))) ∙ sym c.before.before.before.before.before.before.is-violated.ensures ∙ not-false _ c.before.before.before.before.before.if1.false) (subst (λ i. c.before.before.before.before.before.before.before.before.before.before.args.v ≤ i) c.before.helping.ensures c.if2.true))
+returns-2 : tie.Need-returns-then-v-w
+returns-2 c = sym (dropped-more c.before.before.before.before.before.before.before.before.before.before.args.n c.before.before.before.before.before.before.before.before.before.before.args.m c.before.before.before.before.before.before.before.before.before.before.args.v c.before.before.before.before.before.before.before.before.before.before.args.t5 c.before.before.before.before.before.before.before.before.before.before.args.rows.now c.before.before.before.before.before.before.before.before.before.before.args.place.now c.before.before.before.before.before.before.before.before.before.before.args.kinds.now c.before.before.before.before.before.before.before.before.before.before.requires.0 1 c.before.before.before.before.before.before.before.before.before.before.args.left (ap (violated_by 1) (sym (to_z-of_z {w = w64} {z = get_or c.before.before.before.before.before.before.before.before.before.before.args.t5 1 (pos 0)} (record { sfits = c.before.before.before.before.before.before.before.e.given }))) ∙ sym c.before.before.before.before.before.before.is-violated.ensures ∙ not-false _ c.before.before.before.before.before.if1.false) (subst (λ i. c.before.before.before.before.before.before.before.before.before.before.args.v ≤ i) c.before.helping-w.ensures c.if-v-w.true))
 
-copy-rows-requires : tie.Need-copy-rows-requires
+copy-rows-requires : tie.Need-copy_rows-requires
 copy-rows-requires c κs = search rules
 
-mul-t29 : tie.Need-overflow-mul-t29
+mul-t29 : tie.Need-offset_bounds-spare-m
 mul-t29 c = search rules
 
-slice-set-from-spare : tie.Need-slice-set-from-spare
+slice-set-from-spare : tie.Need-bounds-spare-m
 slice-set-from-spare c = search rules
 
-slice-aggregate-copy-names : tie.Need-slice-aggregate-copy-names
+slice-aggregate-copy-names : tie.Need-slice_bounds-copy_names-end
 slice-aggregate-copy-names c = search rules
 
-slice-aggregate-copy-names-2 : tie.Need-slice-aggregate-copy-names-2
+slice-aggregate-copy-names-2 : tie.Need-slice_bounds-copy_names-end-2
 slice-aggregate-copy-names-2 c = search rules
 
-copy-names-requires : tie.Need-copy-names-requires
+copy-names-requires : tie.Need-copy_names-requires
 copy-names-requires c κs = search rules
 
-mul-seats : tie.Need-overflow-mul-seats
+mul-seats : tie.Need-offset_bounds-seats-v
 mul-seats c = search rules
 
-array-write-seats : tie.Need-array-write-seats
+array-write-seats : tie.Need-bounds-seats-v
 array-write-seats c = search rules
 
-array-write-sorts : tie.Need-array-write-sorts
+array-write-sorts : tie.Need-bounds-sorts-v
 array-write-sorts c = search rules
 
-add-rest : tie.Need-overflow-add-rest
+add-rest : tie.Need-overflow_add-m
 add-rest c = search rules
 
-slice-relend-prefix-rest : tie.Need-slice-relend-prefix-rest
+slice-relend-prefix-rest : tie.Need-slice_bounds-rest-end
 slice-relend-prefix-rest c =
-    let ls : length c.before.before.before.before.before.before.copy-rows.new.0 ≡ 64 = c.before.before.before.before.before.before.copy-rows.auto.0 ∙ c.before.before.before.before.before.before.before.before.before.before.before.before.before.before.before.before.before.before.requires.1 in
+    let ls : length c.before.before.before.before.before.before.copy-rows.new.0 ≡ 64 = c.before.before.before.before.before.before.copy_rows.auto.0 ∙ c.before.before.before.before.before.before.before.before.before.before.before.before.before.before.before.before.before.before.requires.1 in
     let f = c.before.before.before.before.before.before.before.before.before.before.before.before.before.before.before.before.before.before.requires.0.few in
-    (set-count c.before.before.before.before.before.before.copy-rows.new.0 c.before.before.before.before.before.before.before.before.before.before.before.before.before.before.before.before.before.before.args.m c.before.before.before.before.before.before.before.before.before.before.before.before.before.before.before.before.before.before.args.t5 (omega arith)).0
+    (set-count c.before.before.before.before.before.before.copy_rows.new.0 c.before.before.before.before.before.before.before.before.before.before.before.before.before.before.before.before.before.before.args.m c.before.before.before.before.before.before.before.before.before.before.before.before.before.before.before.before.before.before.args.t5 (omega arith)).0
 
-slice-aggregate-rest : tie.Need-slice-aggregate-rest
+slice-aggregate-rest : tie.Need-slice_bounds-rest-end-2
 slice-aggregate-rest c =
-    let ls : length c.before.before.before.before.before.before.before.copy-rows.new.0 ≡ 64 = c.before.before.before.before.before.before.before.copy-rows.auto.0 ∙ c.before.before.before.before.before.before.before.before.before.before.before.before.before.before.before.before.before.before.before.requires.1 in
+    let ls : length c.before.before.before.before.before.before.before.copy-rows.new.0 ≡ 64 = c.before.before.before.before.before.before.before.copy_rows.auto.0 ∙ c.before.before.before.before.before.before.before.before.before.before.before.before.before.before.before.before.before.before.before.requires.1 in
     let f = c.before.before.before.before.before.before.before.before.before.before.before.before.before.before.before.before.before.before.before.requires.0.few in
-    sym (set-count c.before.before.before.before.before.before.before.copy-rows.new.0 c.before.before.before.before.before.before.before.before.before.before.before.before.before.before.before.before.before.before.before.args.m c.before.before.before.before.before.before.before.before.before.before.before.before.before.before.before.before.before.before.before.args.t5 (omega arith)).1
+    sym (set-count c.before.before.before.before.before.before.before.copy_rows.new.0 c.before.before.before.before.before.before.before.before.before.before.before.before.before.before.before.before.before.before.before.args.m c.before.before.before.before.before.before.before.before.before.before.before.before.before.before.before.before.before.before.before.args.t5 (omega arith)).1
 
-add-seats : tie.Need-overflow-add-seats
+add-seats : tie.Need-overflow_add-seats
 add-seats c = search rules
 
-array-borrow-prefix-seats : tie.Need-array-borrow-prefix-seats
+array-borrow-prefix-seats : tie.Need-slice_bounds-seats-end
 array-borrow-prefix-seats c =
-    let le : length c.before.before.before.copy-names.new.0 ≡ 80 = c.before.before.before.copy-names.auto.0 in
+    let le : length c.before.before.before.copy-names.new.0 ≡ 80 = c.before.before.before.copy_names.auto.0 in
     let g = c.before.before.before.before.before.before.before.before.before.before.before.before.before.before.before.before.before.before.before.requires.0.names in
-    (set-count c.before.before.before.copy-names.new.0 c.before.before.before.before.before.before.before.before.before.before.before.before.before.before.before.before.before.before.before.args.v c.before.before.before.before.before.before.before.before.before.before.before.before.before.before.before.before.before.before.before.args.m (omega arith)).0
+    (set-count c.before.before.before.copy_names.new.0 c.before.before.before.before.before.before.before.before.before.before.before.before.before.before.before.before.before.before.before.args.v c.before.before.before.before.before.before.before.before.before.before.before.before.before.before.before.before.before.before.before.args.m (omega arith)).0
 
-slice-aggregate-rest-2 : tie.Need-slice-aggregate-rest-2
+slice-aggregate-rest-2 : tie.Need-slice_bounds-rest-end-3
 slice-aggregate-rest-2 c =
-    let le : length c.before.before.before.before.copy-names.new.0 ≡ 80 = c.before.before.before.before.copy-names.auto.0 in
+    let le : length c.before.before.before.before.copy-names.new.0 ≡ 80 = c.before.before.before.before.copy_names.auto.0 in
     let g = c.before.before.before.before.before.before.before.before.before.before.before.before.before.before.before.before.before.before.before.before.requires.0.names in
-    sym (set-count c.before.before.before.before.copy-names.new.0 c.before.before.before.before.before.before.before.before.before.before.before.before.before.before.before.before.before.before.before.before.args.v c.before.before.before.before.before.before.before.before.before.before.before.before.before.before.before.before.before.before.before.before.args.m (omega arith)).1
+    sym (set-count c.before.before.before.before.copy_names.new.0 c.before.before.before.before.before.before.before.before.before.before.before.before.before.before.before.before.before.before.before.before.args.v c.before.before.before.before.before.before.before.before.before.before.before.before.before.before.before.before.before.before.before.before.args.m (omega arith)).1
 
-add-sorts : tie.Need-overflow-add-sorts
+add-sorts : tie.Need-overflow_add-sorts
 add-sorts c = search rules
 
-array-share-prefix-sorts : tie.Need-array-share-prefix-sorts
+array-share-prefix-sorts : tie.Need-slice_bounds-sorts-end
 array-share-prefix-sorts c =
-    let lo : length c.before.before.before.before.copy-names.new.1.0 ≡ 80 = c.before.before.before.before.copy-names.auto.1.0 in
+    let lo : length c.before.before.before.before.copy-names.new.1.0 ≡ 80 = c.before.before.before.before.copy_names.auto.1.0 in
     let g = c.before.before.before.before.before.before.before.before.before.before.before.before.before.before.before.before.before.before.before.before.requires.0.names in
-    (set-count c.before.before.before.before.copy-names.new.1.0 c.before.before.before.before.before.before.before.before.before.before.before.before.before.before.before.before.before.before.before.before.args.v 1 (omega arith)).0
+    (set-count c.before.before.before.before.copy_names.new.1.0 c.before.before.before.before.before.before.before.before.before.before.before.before.before.before.before.before.before.before.before.before.args.v 1 (omega arith)).0
 
-slice-aggregate-rest-3 : tie.Need-slice-aggregate-rest-3
+slice-aggregate-rest-3 : tie.Need-slice_bounds-rest-end-4
 slice-aggregate-rest-3 c =
-    let lo : length c.before.before.before.before.before.copy-names.new.1.0 ≡ 80 = c.before.before.before.before.before.copy-names.auto.1.0 in
+    let lo : length c.before.before.before.before.before.copy-names.new.1.0 ≡ 80 = c.before.before.before.before.before.copy_names.auto.1.0 in
     let g = c.before.before.before.before.before.before.before.before.before.before.before.before.before.before.before.before.before.before.before.before.before.requires.0.names in
-    sym (set-count c.before.before.before.before.before.copy-names.new.1.0 c.before.before.before.before.before.before.before.before.before.before.before.before.before.before.before.before.before.before.before.before.before.args.v 1 (omega arith)).1
+    sym (set-count c.before.before.before.before.before.copy_names.new.1.0 c.before.before.before.before.before.before.before.before.before.before.before.before.before.before.before.before.before.before.before.before.before.args.v 1 (omega arith)).1
 
 rest-requires : tie.Need-rest-requires
 rest-requires c κs =
-    let sp = c.before.before.before.before.before.before.before.before.before.copy-rows.new.0 in
-    let se = c.before.before.before.before.before.copy-names.new.0 in
-    let so = c.before.before.before.before.before.copy-names.new.1.0 in
-    let ls : length sp ≡ 64 = c.before.before.before.before.before.before.before.before.before.copy-rows.auto.0 ∙ c.before.before.before.before.before.before.before.before.before.before.before.before.before.before.before.before.before.before.before.before.before.requires.1 in
-    let le : length se ≡ 80 = c.before.before.before.before.before.copy-names.auto.0 in
-    let lo : length so ≡ 80 = c.before.before.before.before.before.copy-names.auto.1.0 in
+    let sp = c.before.before.before.before.before.before.before.before.before.copy_rows.new.0 in
+    let se = c.before.before.before.before.before.copy_names.new.0 in
+    let so = c.before.before.before.before.before.copy_names.new.1.0 in
+    let ls : length sp ≡ 64 = c.before.before.before.before.before.before.before.before.before.copy_rows.auto.0 ∙ c.before.before.before.before.before.before.before.before.before.before.before.before.before.before.before.before.before.before.before.before.before.requires.1 in
+    let le : length se ≡ 80 = c.before.before.before.before.before.copy_names.auto.0 in
+    let lo : length so ≡ 80 = c.before.before.before.before.before.copy_names.auto.1.0 in
     let f = c.before.before.before.before.before.before.before.before.before.before.before.before.before.before.before.before.before.before.before.before.before.requires.0.few in
     let g = c.before.before.before.before.before.before.before.before.before.before.before.before.before.before.before.before.before.before.before.before.before.requires.0.names in
-    let e = finish-is c.before.before.before.before.before.before.before.before.before.before.before.before.before.before.before.before.before.before.before.before.before.args.n c.before.before.before.before.before.before.before.before.before.before.before.before.before.before.before.before.before.before.before.before.before.args.m c.before.before.before.before.before.before.before.before.before.before.before.before.before.before.before.before.before.before.before.before.before.args.v c.before.before.before.before.before.before.before.before.before.before.before.before.before.before.before.before.before.before.before.before.before.args.t5 c.before.before.before.before.before.before.before.before.before.before.before.before.before.before.before.before.before.before.before.before.before.args.rows.now c.before.before.before.before.before.before.before.before.before.before.before.before.before.before.before.before.before.before.before.before.before.args.place.now c.before.before.before.before.before.before.before.before.before.before.before.before.before.before.before.before.before.before.before.before.before.args.kinds.now c.before.before.before.before.before.before.before.before.before.before.before.before.before.before.before.before.before.before.before.before.before.requires.0 1 c.before.before.before.before.before.before.before.before.before.before.before.before.before.before.before.before.before.before.before.before.before.args.left sp se so ls le lo c.before.before.before.before.before.before.before.before.before.copy-rows.ensures c.before.before.before.before.before.copy-names.ensures.0 c.before.before.before.before.before.copy-names.ensures.1 in
+    let e = finish-is c.before.before.before.before.before.before.before.before.before.before.before.before.before.before.before.before.before.before.before.before.before.args.n c.before.before.before.before.before.before.before.before.before.before.before.before.before.before.before.before.before.before.before.before.before.args.m c.before.before.before.before.before.before.before.before.before.before.before.before.before.before.before.before.before.before.before.before.before.args.v c.before.before.before.before.before.before.before.before.before.before.before.before.before.before.before.before.before.before.before.before.before.args.t5 c.before.before.before.before.before.before.before.before.before.before.before.before.before.before.before.before.before.before.before.before.before.args.rows.now c.before.before.before.before.before.before.before.before.before.before.before.before.before.before.before.before.before.before.before.before.before.args.place.now c.before.before.before.before.before.before.before.before.before.before.before.before.before.before.before.before.before.before.before.before.before.args.kinds.now c.before.before.before.before.before.before.before.before.before.before.before.before.before.before.before.before.before.before.before.before.before.requires.0 1 c.before.before.before.before.before.before.before.before.before.before.before.before.before.before.before.before.before.before.before.before.before.args.left sp se so ls le lo c.before.before.before.before.before.before.before.before.before.copy_rows.ensures c.before.before.before.before.before.copy_names.ensures.0 c.before.before.before.before.before.copy_names.ensures.1 in
     rw (e.0, e.1, e.2) (fine_more c.before.before.before.before.before.before.before.before.before.before.before.before.before.before.before.before.before.before.before.before.before.args.n c.before.before.before.before.before.before.before.before.before.before.before.before.before.before.before.before.before.before.before.before.before.args.m c.before.before.before.before.before.before.before.before.before.before.before.before.before.before.before.before.before.before.before.before.before.args.v c.before.before.before.before.before.before.before.before.before.before.before.before.before.before.before.before.before.before.before.before.before.args.t5 c.before.before.before.before.before.before.before.before.before.before.before.before.before.before.before.before.before.before.before.before.before.args.rows.now c.before.before.before.before.before.before.before.before.before.before.before.before.before.before.before.before.before.before.before.before.before.args.place.now c.before.before.before.before.before.before.before.before.before.before.before.before.before.before.before.before.before.before.before.before.before.args.kinds.now c.before.before.before.before.before.before.before.before.before.before.before.before.before.before.before.before.before.before.before.before.before.requires.0 1)
 
-same_length : tie.Need-same-length
-same_length c = rejoined (c.before.before.before.before.before.before.before.before.before.before.before.before.before.before.before.before.before.before.before.before.before.before.before.before.args.m + 1) c.before.before.rest.new.0 (set c.before.before.before.before.before.before.before.before.before.before.before.before.copy-rows.new.0 c.before.before.before.before.before.before.before.before.before.before.before.before.before.before.before.before.before.before.before.before.before.before.before.before.args.m c.before.before.before.before.before.before.before.before.before.before.before.before.before.before.before.before.before.before.before.before.before.before.before.before.args.t5) c.before.before.rest.auto.0 ∙ length-set c.before.before.before.before.before.before.before.before.before.before.before.before.copy-rows.new.0 c.before.before.before.before.before.before.before.before.before.before.before.before.before.before.before.before.before.before.before.before.before.before.before.before.args.m c.before.before.before.before.before.before.before.before.before.before.before.before.before.before.before.before.before.before.before.before.before.before.before.before.args.t5 ∙ c.before.before.before.before.before.before.before.before.before.before.before.before.copy-rows.auto.0
+same_length : tie.Need-shape_of-spare
+same_length c = rejoined (c.before.before.before.before.before.before.before.before.before.before.before.before.before.before.before.before.before.before.before.before.before.before.before.before.args.m + 1) c.before.before.rest.new.0 (set c.before.before.before.before.before.before.before.before.before.before.before.before.copy_rows.new.0 c.before.before.before.before.before.before.before.before.before.before.before.before.before.before.before.before.before.before.before.before.before.before.before.before.args.m c.before.before.before.before.before.before.before.before.before.before.before.before.before.before.before.before.before.before.before.before.before.before.before.before.args.t5) c.before.before.rest.auto.0 ∙ length-set c.before.before.before.before.before.before.before.before.before.before.before.before.copy_rows.new.0 c.before.before.before.before.before.before.before.before.before.before.before.before.before.before.before.before.before.before.before.before.before.before.before.before.args.m c.before.before.before.before.before.before.before.before.before.before.before.before.before.before.before.before.before.before.before.before.before.before.before.before.args.t5 ∙ c.before.before.before.before.before.before.before.before.before.before.before.before.copy_rows.auto.0
 
-returns-3 : tie.Need-returns-3
+returns-3 : tie.Need-returns
 returns-3 c =
-    let sp = c.before.before.before.before.before.before.before.before.before.before.before.before.copy-rows.new.0 in
-    let se = c.before.before.before.before.before.before.before.before.copy-names.new.0 in
-    let so = c.before.before.before.before.before.before.before.before.copy-names.new.1.0 in
-    let ls : length sp ≡ 64 = c.before.before.before.before.before.before.before.before.before.before.before.before.copy-rows.auto.0 ∙ c.before.before.before.before.before.before.before.before.before.before.before.before.before.before.before.before.before.before.before.before.before.before.before.before.requires.1 in
-    let le : length se ≡ 80 = c.before.before.before.before.before.before.before.before.copy-names.auto.0 in
-    let lo : length so ≡ 80 = c.before.before.before.before.before.before.before.before.copy-names.auto.1.0 in
+    let sp = c.before.before.before.before.before.before.before.before.before.before.before.before.copy_rows.new.0 in
+    let se = c.before.before.before.before.before.before.before.before.copy_names.new.0 in
+    let so = c.before.before.before.before.before.before.before.before.copy_names.new.1.0 in
+    let ls : length sp ≡ 64 = c.before.before.before.before.before.before.before.before.before.before.before.before.copy_rows.auto.0 ∙ c.before.before.before.before.before.before.before.before.before.before.before.before.before.before.before.before.before.before.before.before.before.before.before.before.requires.1 in
+    let le : length se ≡ 80 = c.before.before.before.before.before.before.before.before.copy_names.auto.0 in
+    let lo : length so ≡ 80 = c.before.before.before.before.before.before.before.before.copy_names.auto.1.0 in
     let f = c.before.before.before.before.before.before.before.before.before.before.before.before.before.before.before.before.before.before.before.before.before.before.before.before.requires.0.few in
     let g = c.before.before.before.before.before.before.before.before.before.before.before.before.before.before.before.before.before.before.before.before.before.before.before.before.requires.0.names in
-    let e = finish-is c.before.before.before.before.before.before.before.before.before.before.before.before.before.before.before.before.before.before.before.before.before.before.before.before.args.n c.before.before.before.before.before.before.before.before.before.before.before.before.before.before.before.before.before.before.before.before.before.before.before.before.args.m c.before.before.before.before.before.before.before.before.before.before.before.before.before.before.before.before.before.before.before.before.before.before.before.before.args.v c.before.before.before.before.before.before.before.before.before.before.before.before.before.before.before.before.before.before.before.before.before.before.before.before.args.t5 c.before.before.before.before.before.before.before.before.before.before.before.before.before.before.before.before.before.before.before.before.before.before.before.before.args.rows.now c.before.before.before.before.before.before.before.before.before.before.before.before.before.before.before.before.before.before.before.before.before.before.before.before.args.place.now c.before.before.before.before.before.before.before.before.before.before.before.before.before.before.before.before.before.before.before.before.before.before.before.before.args.kinds.now c.before.before.before.before.before.before.before.before.before.before.before.before.before.before.before.before.before.before.before.before.before.before.before.before.requires.0 1 c.before.before.before.before.before.before.before.before.before.before.before.before.before.before.before.before.before.before.before.before.before.before.before.before.args.left sp se so ls le lo c.before.before.before.before.before.before.before.before.before.before.before.before.copy-rows.ensures c.before.before.before.before.before.before.before.before.copy-names.ensures.0 c.before.before.before.before.before.before.before.before.copy-names.ensures.1 in
+    let e = finish-is c.before.before.before.before.before.before.before.before.before.before.before.before.before.before.before.before.before.before.before.before.before.before.before.before.args.n c.before.before.before.before.before.before.before.before.before.before.before.before.before.before.before.before.before.before.before.before.before.before.before.before.args.m c.before.before.before.before.before.before.before.before.before.before.before.before.before.before.before.before.before.before.before.before.before.before.before.before.args.v c.before.before.before.before.before.before.before.before.before.before.before.before.before.before.before.before.before.before.before.before.before.before.before.before.args.t5 c.before.before.before.before.before.before.before.before.before.before.before.before.before.before.before.before.before.before.before.before.before.before.before.before.args.rows.now c.before.before.before.before.before.before.before.before.before.before.before.before.before.before.before.before.before.before.before.before.before.before.before.before.args.place.now c.before.before.before.before.before.before.before.before.before.before.before.before.before.before.before.before.before.before.before.before.before.before.before.before.args.kinds.now c.before.before.before.before.before.before.before.before.before.before.before.before.before.before.before.before.before.before.before.before.before.before.before.before.requires.0 1 c.before.before.before.before.before.before.before.before.before.before.before.before.before.before.before.before.before.before.before.before.before.before.before.before.args.left sp se so ls le lo c.before.before.before.before.before.before.before.before.before.before.before.before.copy_rows.ensures c.before.before.before.before.before.before.before.before.copy_names.ensures.0 c.before.before.before.before.before.before.before.before.copy_names.ensures.1 in
     c.before.before.rest.ensures ∙ (λ i. (run_table (e.2 i) c.before.before.before.before.before.before.before.before.before.before.before.before.before.before.before.before.before.before.before.before.before.before.before.before.args.left (e.0 i) (e.1 i)).verdict) ∙ sym (trace-run (take c.before.before.before.before.before.before.before.before.before.before.before.before.before.before.before.before.before.before.before.before.before.before.before.before.args.v c.before.before.before.before.before.before.before.before.before.before.before.before.before.before.before.before.before.before.before.before.before.before.before.before.args.kinds.now ++ (1 ∷ [])) c.before.before.before.before.before.before.before.before.before.before.before.before.before.before.before.before.before.before.before.before.before.before.before.before.args.left (take c.before.before.before.before.before.before.before.before.before.before.before.before.before.before.before.before.before.before.before.before.before.before.before.before.args.m c.before.before.before.before.before.before.before.before.before.before.before.before.before.before.before.before.before.before.before.before.before.before.before.before.args.rows.now ++ (c.before.before.before.before.before.before.before.before.before.before.before.before.before.before.before.before.before.before.before.before.before.before.before.before.args.t5 ∷ [])) (take c.before.before.before.before.before.before.before.before.before.before.before.before.before.before.before.before.before.before.before.before.before.before.before.before.args.v c.before.before.before.before.before.before.before.before.before.before.before.before.before.before.before.before.before.before.before.before.before.before.before.before.args.place.now ++ (c.before.before.before.before.before.before.before.before.before.before.before.before.before.before.before.before.before.before.before.before.before.before.before.before.args.m ∷ [])))
 
 pub finish_spec : {M : Type 1} → statement M

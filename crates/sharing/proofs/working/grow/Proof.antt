@@ -23,22 +23,22 @@ use Rattle.sharing.proofs.working.append.Reads as append-reads
 use Rattle.simplex.proofs.fill.constraint_row.Reads as constraint-row-reads
 use Rattle.simplex.proofs.fill.kind_of.Reads as kind-of-reads
 
-add-v : tie.Need-overflow-add-v
+add-v : tie.Need-overflow_add-v
 add-v c = search rules
 
-add-v-2 : tie.Need-overflow-add-v-2
+add-v-2 : tie.Need-overflow_add-v-2
 add-v-2 c = search rules
 
-add-n : tie.Need-overflow-add-n
+add-n : tie.Need-overflow_add-n
 add-n c = search rules
 
-add-more : tie.Need-overflow-add-more
+add-more : tie.Need-overflow_add-more
 add-more c = search rules
 
-kind-of-requires : tie.Need-kind-of-requires
+kind-of-requires : tie.Need-kind_of-kind-requires
 kind-of-requires c κs = search rules
 
-constraint-row-requires : tie.Need-constraint-row-requires
+constraint-row-requires : tie.Need-constraint_row-requires
 constraint-row-requires c κs = search rules
 
 replay-requires : tie.Need-replay-requires
@@ -47,22 +47,22 @@ replay-requires c κs =
     let g = st.requires.stands in
     (subst (Whole (st.args.k + 10)) (sym c.before.before.before.constraint-row.ensures) (row-whole st.args.k g.few (constraint_of st.args.c)), (fits-past st.requires.stands, g.kept))
 
-same_length : tie.Need-same-length
+same_length : tie.Need-shape_of-past-then-not-replay
 same_length c = search rules
 
-same-length-2 : tie.Need-same-length-2
+same-length-2 : tie.Need-shape_of-columns-then-not-replay
 same-length-2 c = search rules
 
-returns : tie.Need-returns
+returns : tie.Need-returns-then-not-replay
 returns c =
     let st = c.before.before.before.before.before.before.before.before.before.before.before in
     let qs = take st.args.h.pivots st.args.past.now in
     let js = take st.args.h.pivots st.args.columns.now in
     let c₀ = constraint_of st.args.c in
-    let e : through qs js (start_row st.args.k c₀) ≡ false = sym (ap (through qs js) c.before.before.before.before.before.constraint-row.ensures) ∙ sym c.before.replay.ensures.all ∙ not-true _ c.if1.true in
+    let e : through qs js (start_row st.args.k c₀) ≡ false = sym (ap (through qs js) c.before.before.before.before.before.constraint-row.ensures) ∙ sym c.before.replay.ensures.all ∙ not-true _ c.if-not-replay.true-raw in
     record { grown = λ cs g. grown-wide g st.requires.less c₀ (wide-any g st.requires.less c₀ e) }
 
-enum_told : tie.Need-enum-told
+enum_told : tie.Need-enum_told-1
 enum_told c = search rules
 
 append-requires : tie.Need-append-requires
@@ -76,33 +76,33 @@ append-requires c κs =
     let is : r ≡ brought qs js (start_row st.args.k c₀) = p1.replay.ensures.row ∙ ap (brought qs js) c.before.before.before.before.before.before.before.before.before.before.before.before.constraint-row.ensures in
     let p : st.args.h.verdict ≡ Point = search rules in
     let g = st.requires.stands in
-    (calm-now st.requires.stands st.requires.less c₀ p r is, (g.most, g.many, g.many'))
+    record { calm = calm-now st.requires.stands st.requires.less c₀ p r is; made_le_most_pivots = (g.most, g.many, g.many') }
 
-enum-told-2 : tie.Need-enum-told-2
+enum-told-2 : tie.Need-enum_told-in-Dropped
 enum-told-2 c = search rules
 
-enum-told-3 : tie.Need-enum-told-3
+enum-told-3 : tie.Need-enum_told-in-Long
 enum-told-3 c = search rules
 
-enum-told-4 : tie.Need-enum-told-4
+enum-told-4 : tie.Need-enum_told-in-Wide
 enum-told-4 c = search rules
 
-same-length-3 : tie.Need-same-length-3
+same-length-3 : tie.Need-shape_of-rows
 same-length-3 c = search rules
 
-same-length-4 : tie.Need-same-length-4
+same-length-4 : tie.Need-shape_of-place
 same-length-4 c = search rules
 
-same-length-5 : tie.Need-same-length-5
+same-length-5 : tie.Need-shape_of-kinds
 same-length-5 c = search rules
 
-same-length-6 : tie.Need-same-length-6
+same-length-6 : tie.Need-shape_of-past-in-Point
 same-length-6 c = search rules
 
-same-length-7 : tie.Need-same-length-7
+same-length-7 : tie.Need-shape_of-columns-in-Point
 same-length-7 c = search rules
 
-returns-2 : tie.Need-returns-2
+returns-2 : tie.Need-returns-in-Point
 returns-2 c =
     let st = c.before.before.before.before.before.before.before.before.before.before.before.before.before.before.before.before.before.before.before.before.before.before.before.before.before.before.before in
     let p1 = c.before.before.before.before.before.before.before.before.before.before.before.before.before.before.before.before.before.before.before.before.before in
@@ -110,10 +110,10 @@ returns-2 c =
     let qs = take st.args.h.pivots st.args.past.now in
     let js = take st.args.h.pivots st.args.columns.now in
     let c₀ = constraint_of st.args.c in
-    let e : through qs js (start_row st.args.k c₀) ≡ true = sym (ap (through qs js) p1.constraint-row.ensures) ∙ sym p2.replay.ensures.all ∙ not-false _ c.before.before.before.before.before.before.before.before.before.before.before.before.before.before.before.before.if1.false in
+    let e : through qs js (start_row st.args.k c₀) ≡ true = sym (ap (through qs js) p1.constraint-row.ensures) ∙ sym p2.replay.ensures.all ∙ not-false _ c.before.before.before.before.before.before.before.before.before.before.before.before.before.before.before.before.if-not-replay.false-raw in
     let r = p2.replay.new.0 in
     let is : r ≡ brought qs js (start_row st.args.k c₀) = p2.replay.ensures.row ∙ ap (brought qs js) p1.constraint-row.ensures in
-    let p : st.args.h.verdict ≡ Point = c.before.before.before.before.before.before.before.before.before.before.before.before.before.before.enum_told.given.1 in
+    let p : st.args.h.verdict ≡ Point = c.before.before.before.before.before.before.before.before.before.before.before.before.before.before.enum_told-1.given.1 in
     let a = c.before.before.before.before.before.before.before.before.append in
     let R = a.new.1.1.1.1.1.1.0 in
     let P = a.new.1.1.1.1.1.1.1.0 in
@@ -125,45 +125,45 @@ returns-2 c =
           (subst (λ i. Appended st.args.h.rows (8 + st.args.k + st.args.h.rows) st.args.h.pivots i r st.args.rows.now st.args.place.now st.args.kinds.now st.args.past.now st.args.columns.now a.result R P K A C) c.before.before.before.before.before.before.before.before.before.before.before.before.before.before.before.before.before.before.before.before.before.before.before.kind-of.ensures a.ensures);
     }
 
-same-length-8 : tie.Need-same-length-8
+same-length-8 : tie.Need-shape_of-past-in-Dropped
 same-length-8 c = search rules
 
-same-length-9 : tie.Need-same-length-9
+same-length-9 : tie.Need-shape_of-columns-in-Dropped
 same-length-9 c = search rules
 
-returns-3 : tie.Need-returns-3
+returns-3 : tie.Need-returns-in-Dropped
 returns-3 c =
     let st = c.before.before.before.before.before.before.before.before.before.before.before.before.before in
     let qs = take st.args.h.pivots st.args.past.now in
     let js = take st.args.h.pivots st.args.columns.now in
     let c₀ = constraint_of st.args.c in
-    let e : through qs js (start_row st.args.k c₀) ≡ true = sym (ap (through qs js) c.before.before.before.before.before.before.before.constraint-row.ensures) ∙ sym c.before.before.before.replay.ensures.all ∙ not-false _ c.before.before.if1.false in
+    let e : through qs js (start_row st.args.k c₀) ≡ true = sym (ap (through qs js) c.before.before.before.before.before.before.before.constraint-row.ensures) ∙ sym c.before.before.before.replay.ensures.all ∙ not-false _ c.before.before.if-not-replay.false-raw in
     let p : st.args.h.verdict ≡ Dropped = search rules in
     record { grown = λ cs g. grown-ended g st.requires.less c₀ Dropped p (λ z. let w : ◌≡◌ {A = ℕ} 0 1 = cc in omega arith) clash-dropped e }
 
-same-length-10 : tie.Need-same-length-10
+same-length-10 : tie.Need-shape_of-past-in-Long
 same-length-10 c = search rules
 
-same-length-11 : tie.Need-same-length-11
+same-length-11 : tie.Need-shape_of-columns-in-Long
 same-length-11 c = search rules
 
-returns-4 : tie.Need-returns-4
+returns-4 : tie.Need-returns-in-Long
 returns-4 c =
     let st = c.before.before.before.before.before.before.before.before.before.before.before.before.before in
     let qs = take st.args.h.pivots st.args.past.now in
     let js = take st.args.h.pivots st.args.columns.now in
     let c₀ = constraint_of st.args.c in
-    let e : through qs js (start_row st.args.k c₀) ≡ true = sym (ap (through qs js) c.before.before.before.before.before.before.before.constraint-row.ensures) ∙ sym c.before.before.before.replay.ensures.all ∙ not-false _ c.before.before.if1.false in
+    let e : through qs js (start_row st.args.k c₀) ≡ true = sym (ap (through qs js) c.before.before.before.before.before.before.before.constraint-row.ensures) ∙ sym c.before.before.before.replay.ensures.all ∙ not-false _ c.before.before.if-not-replay.false-raw in
     let p : st.args.h.verdict ≡ Long = search rules in
     record { grown = λ cs g. grown-ended g st.requires.less c₀ Long p (λ z. let w : ◌≡◌ {A = ℕ} 0 1 = cc in omega arith) clash-long e }
 
-same-length-12 : tie.Need-same-length-12
+same-length-12 : tie.Need-shape_of-past-in-Wide
 same-length-12 c = search rules
 
-same-length-13 : tie.Need-same-length-13
+same-length-13 : tie.Need-shape_of-columns-in-Wide
 same-length-13 c = search rules
 
-returns-5 : tie.Need-returns-5
+returns-5 : tie.Need-returns-in-Wide
 returns-5 c =
     let st = c.before.before.before.before.before.before.before.before.before.before.before.before.before in
     let c₀ = constraint_of st.args.c in

@@ -7,18 +7,18 @@ use Rattle.simplex.proofs.choose.choose.Lts as lts
 use Rattle.simplex.proofs.choose.choose_at.Reads as choose-at-reads
 use Rattle.tableau.proofs.violated.Reads as violated-reads
 
-violated-requires : tie.Need-violated-requires
+violated-requires : tie.Need-violated-v-requires
 violated-requires c κs = search rules
 
-returns : tie.Need-returns
+returns : tie.Need-returns-then-count-v
 returns c =
     let s = c.before.before.before.before in
-    choose-point s.args.t.now s.args.place.now s.args.kinds.now s.args.left c.before.violated.result c.before.violated.ensures c.if1.true
+    choose-point s.args.t.now s.args.place.now s.args.kinds.now s.args.left c.before.violated-v.result c.before.violated-v.ensures c.if-count-v.true
 
-choose-at-requires : tie.Need-choose-at-requires
+choose-at-requires : tie.Need-choose_at-requires
 choose-at-requires c κs = search rules
 
-returns-2 : tie.Need-returns-2
+returns-2 : tie.Need-returns
 returns-2 c = search rules
 
 pub choose_spec : {M : Type 1} → statement M

@@ -13,70 +13,70 @@ use Rattle.simplex.proofs.choose.choose_at.Lts as lts
 use Rattle.tableau.proofs.helping.Reads as helping-reads
 use Rattle.tableau.proofs.narrow.Reads as narrow-reads
 
-mul-i : tie.Need-overflow-mul-i
+mul-i : tie.Need-offset_bounds-place-v
 mul-i c = search rules
 
-shared-slice-read-i : tie.Need-shared-slice-read-i
+shared-slice-read-i : tie.Need-bounds-place-v
 shared-slice-read-i c = search rules
 
-mul-helping : tie.Need-overflow-mul-helping
+mul-helping : tie.Need-offset_bounds-t-i
 mul-helping c =
     let s = c.before.before.before in
     let (f, (e, l)) = s.requires in
     let h = row-spot s.args.n s.args.t.now s.args.place.now s.args.kinds.now s.args.v f e l in omega (arith, f.count)
 
-shared-slice-element-helping : tie.Need-shared-slice-element-helping
+shared-slice-element-helping : tie.Need-bounds-t-i
 shared-slice-element-helping c =
     let s = c.before.before.before in
     let (f, (e, l)) = s.requires in
     row-spot s.args.n s.args.t.now s.args.place.now s.args.kinds.now s.args.v f e l
 
-helping-requires : tie.Need-helping-requires
+helping-requires : tie.Need-helping-w-requires
 helping-requires c κs = search rules
 
-returns : tie.Need-returns
+returns : tie.Need-returns-then-count-w
 returns c =
     let s = c.before.before.before.before.before.before in
     let (f, (e, l)) = s.requires in
-    choose-dropped s.args.t.now s.args.place.now s.args.kinds.now s.args.left s.args.v e l c.before.helping.result c.before.helping.ensures c.if1.true
+    choose-dropped s.args.t.now s.args.place.now s.args.kinds.now s.args.left s.args.v e l c.before.helping-w.result c.before.helping-w.ensures c.if-count-w.true
 
-returns-2 : tie.Need-returns-2
+returns-2 : tie.Need-returns-then-left-eq0
 returns-2 c =
     let s = c.before.before.before.before.before.before.before in
     let (f, (e, l)) = s.requires in
-    choose-long s.args.t.now s.args.place.now s.args.kinds.now s.args.left s.args.v e l c.before.before.helping.result c.before.before.helping.ensures c.before.if1.false c.if2.true
+    choose-long s.args.t.now s.args.place.now s.args.kinds.now s.args.left s.args.v e l c.before.before.helping-w.result c.before.before.helping-w.ensures c.before.if-count-w.false c.if-left-eq0.true
 
-mul-j : tie.Need-overflow-mul-j
+mul-j : tie.Need-offset_bounds-place-w
 mul-j c = search rules
 
-shared-slice-read-j : tie.Need-shared-slice-read-j
+shared-slice-read-j : tie.Need-bounds-place-w
 shared-slice-read-j c = search rules
 
-sub-j : tie.Need-overflow-sub-j
+sub-j : tie.Need-overflow_sub-j
 sub-j c =
     let s = c.before.before.before.before.before.before.before.before in
     let t = s.args.t.now in
     let place = s.args.place.now in
-    (column-spot (get_or t (get_or place s.args.v 0) []) place s.args.kinds.now c.before.before.before.helping.result c.before.before.before.helping.ensures c.before.before.if1.false).0
+    (column-spot (get_or t (get_or place s.args.v 0) []) place s.args.kinds.now c.before.before.before.helping-w.result c.before.before.before.helping-w.ensures c.before.before.if-count-w.false).0
 
 narrow-requires : tie.Need-narrow-requires
 narrow-requires c κs =
     let f = c.before.before.before.before.before.before.before.before.requires.0 in
-    (omega (arith, f.near c.before.before.before.helping.result c.before.before.if1.false), f.line)
+    record { j_bound = omega (arith, f.near c.before.before.before.helping-w.result c.before.before.if-count-w.false); by_index = f.line }
 
-returns-3 : tie.Need-returns-3
+returns-3 : tie.Need-returns-then-narrow
 returns-3 c =
     let s = c.before.before.before.before.before.before.before.before.before.before in
     let (f, (e, l)) = s.requires in
-    let h = c.before.before.before.before.before.helping in
-    choose-last s.args.t.now s.args.place.now s.args.kinds.now s.args.left s.args.v e l h.result h.ensures true c.before.before.before.before.if1.false c.before.before.before.if2.false (sym c.before.narrow.ensures ∙ c.if3.true)
+    let h = c.before.before.before.before.before.helping-w in
+    choose-last s.args.t.now s.args.place.now s.args.kinds.now s.args.left s.args.v e l h.result h.ensures true c.before.before.before.before.if-count-w.false c.before.before.before.if-left-eq0.false (sym c.before.narrow.ensures ∙ c.if-narrow.true)
 
-returns-4 : tie.Need-returns-4
+returns-4 : tie.Need-returns-else-narrow
 returns-4 c =
     let s = c.before.before.before.before.before.before.before.before.before.before in
     let (f, (e, l)) = s.requires in
-    let h = c.before.before.before.before.before.helping in
-    choose-last s.args.t.now s.args.place.now s.args.kinds.now s.args.left s.args.v e l h.result h.ensures false c.before.before.before.before.if1.false c.before.before.before.if2.false (sym c.before.narrow.ensures ∙ c.if3.false)
+    let h = c.before.before.before.before.before.helping-w in
+    choose-last s.args.t.now s.args.place.now s.args.kinds.now s.args.left s.args.v e l h.result h.ensures false c.before.before.before.before.if-count-w.false c.before.before.before.if-left-eq0.false (sym c.before.narrow.ensures ∙ c.if-narrow.false)
 
 pub choose_at_spec : {M : Type 1} → statement M
 choose_at_spec =

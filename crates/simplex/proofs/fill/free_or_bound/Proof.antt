@@ -8,14 +8,14 @@ use Rattle.simplex.proofs.fill.free_or_bound.Tie as tie
 use Rattle.simplex.proofs.fill.free_or_bound.Reads as reads
 use Rattle.simplex.proofs.fill.free_or_bound.Lts as lts
 
-add-if1 : tie.Need-overflow-add-if1
+add-if1 : tie.Need-overflow_add-k
 add-if1 c = search rules
 
-returns : tie.Need-returns
-returns c = sym (ap (λ b. cond {A = ℕ} b 0 1) (lt-ltb _ _ c.if1.true))
+returns : tie.Need-returns-then-v-k
+returns c = sym (ap (λ b. cond {A = ℕ} b 0 1) (lt-ltb _ _ c.if-v-k.true))
 
-returns-2 : tie.Need-returns-2
-returns-2 c = sym (ap (λ b. cond {A = ℕ} b 0 1) (le-ltb _ _ c.if1.false))
+returns-2 : tie.Need-returns-else-v-k
+returns-2 c = sym (ap (λ b. cond {A = ℕ} b 0 1) (le-ltb _ _ c.if-v-k.false))
 
 pub free_or_bound_spec : {M : Type 1} → statement M
 free_or_bound_spec = tie.close (tie.spec add-if1 returns returns-2)

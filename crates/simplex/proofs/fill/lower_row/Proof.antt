@@ -19,19 +19,19 @@ use Rattle.simplex.proofs.fill.wide.Reads as wide-reads
 wide-requires : tie.Need-wide-requires
 wide-requires c κs = search rules
 
-row-of-requires : tie.Need-row-of-requires
+row-of-requires : tie.Need-row_of-requires
 row-of-requires c κs = search rules
 
 opposite-requires : tie.Need-opposite-requires
 opposite-requires c κs = search rules
 
-add-t11 : tie.Need-overflow-add-t11
+add-t11 : tie.Need-overflow_add-i
 add-t11 c = search rules
 
-mul-t12 : tie.Need-overflow-mul-t12
+mul-t12 : tie.Need-offset_bounds-r-i
 mul-t12 c = search rules
 
-element-set-from-r : tie.Need-element-set-from-r
+element-set-from-r : tie.Need-bounds-r-i
 element-set-from-r c = search rules
 
 returns : tie.Need-returns
@@ -39,10 +39,10 @@ returns c =
     let s = c.before.before.before.before.before.before in
     let w = c.before.before.wide in
     let z : to_z w64 (of_z w64 w.result) ≡ s.args.e.constant =
-    to_z-of_z (record { sfits = w.type-inv }) ∙ w.ensures ∙ to_z-of_z {w = w32} {z = s.args.e.constant} (record { sfits = c.before.before.before.before.before.struct_told.given.1.0.1 }) in
+    to_z-of_z (record { sfits = w.type-inv }) ∙ w.ensures ∙ to_z-of_z {w = w32} {z = s.args.e.constant} (record { sfits = c.before.before.before.before.before.struct_told-1.given.1.0.1 }) in
     let l = c.before.row_of.new.0 in
     ap (set l (s.args.i + 2)) (to_z-of_z (record { sfits = c.opposite.type-inv }) ∙ c.opposite.ensures)
-    ∙ lower-is s.args.k s.args.i s.args.e.divisor s.args.e.constant s.args.e.axes l s.requires.1 s.requires.0 (subst (λ z. Started s.args.k z (pos 1) s.args.e.axes l) z c.before.row_of.ensures)
+    ∙ lower-is s.args.k s.args.i s.args.e.divisor s.args.e.constant s.args.e.axes l s.requires.k_le_most_divisions s.requires.i_lt_k (subst (λ z. Started s.args.k z (pos 1) s.args.e.axes l) z c.before.row_of.ensures)
 
 pub lower_row_spec : {M : Type 1} → statement M
 lower_row_spec =

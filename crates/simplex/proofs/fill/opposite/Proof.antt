@@ -9,10 +9,10 @@ use Rattle.simplex.proofs.fill.opposite.Tie as tie
 use Rattle.simplex.proofs.fill.opposite.Reads as reads
 use Rattle.simplex.proofs.fill.opposite.Lts as lts
 
-cast-result : tie.Need-overflow-cast-result
+cast-result : tie.Need-overflow_cast-result
 cast-result c = search rules
 
-sub-result : tie.Need-overflow-sub-result
+sub-result : tie.Need-overflow_sub-result
 sub-result c = let h = c.ranges.d.fits in rw (count_is c.args.d h) (minus-fits c.args.d h)
 
 returns : tie.Need-returns

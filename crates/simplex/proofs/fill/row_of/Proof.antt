@@ -11,22 +11,22 @@ use Rattle.simplex.proofs.fill.row_of.Reads as reads
 use Rattle.simplex.proofs.fill.row_of.Lts as lts
 use Rattle.simplex.proofs.fill.copy.Reads as copy-reads
 
-element-set-of-r : tie.Need-element-set-of-r
+element-set-of-r : tie.Need-bounds-r-0
 element-set-of-r c = search rules
 
-element-set-from-z : tie.Need-element-set-from-z
+element-set-from-z : tie.Need-bounds-r-1
 element-set-from-z c = search rules
 
-add-copy : tie.Need-overflow-add-copy
+add-copy : tie.Need-overflow_add-k
 add-copy c = search rules
 
 copy-requires : tie.Need-copy-requires
-copy-requires c κs = let s = c.before.before in (refl, (omega arith, (omega arith, simp (to_z-of_z s.ranges.s) s.requires.1)))
+copy-requires c κs = let s = c.before.before in (refl, (omega arith, (omega arith, simp (to_z-of_z s.ranges.s) s.requires.within)))
 
 returns : tie.Need-returns
 returns c =
     let s = c.before.before.before in
-    started s.args.k s.args.z s.args.s s.args.a c.copy.new.0 s.requires.0
+    started s.args.k s.args.z s.args.s s.args.a c.copy.new.0 s.requires.k_le_most_divisions
     (subst₂ (λ x z. Copied (s.args.k + 2) x 8 s.args.a (fresh z) c.copy.new.0) (to_z-of_z s.ranges.s) (to_z-of_z s.ranges.z) c.copy.ensures)
 
 pub row_of_spec : {M : Type 1} → statement M

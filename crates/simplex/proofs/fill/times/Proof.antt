@@ -6,10 +6,10 @@ use Rattle.simplex.proofs.fill.times.Tie as tie
 use Rattle.simplex.proofs.fill.times.Reads as reads
 use Rattle.simplex.proofs.fill.times.Lts as lts
 
-cast-result : tie.Need-overflow-cast-result
+cast-result : tie.Need-overflow_cast-result
 cast-result c = simp (to_z-of_z c.ranges.x) (short-fits c.ranges.x)
 
-mul-result : tie.Need-overflow-mul-result
+mul-result : tie.Need-overflow_mul-result
 mul-result c = simp (to_z-of_z c.ranges.x, to_z-of_z c.ranges.s, to_z-of_z (short-fits c.ranges.x)) (times-fit c.requires c.ranges.x)
 
 returns : tie.Need-returns

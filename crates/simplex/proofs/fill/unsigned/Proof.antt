@@ -5,7 +5,7 @@ use Rattle.simplex.proofs.fill.unsigned.Tie as tie
 use Rattle.simplex.proofs.fill.unsigned.Reads as reads
 use Rattle.simplex.proofs.fill.unsigned.Lts as lts
 
-cast-result : tie.Need-overflow-cast-result
+cast-result : tie.Need-overflow_cast-result
 cast-result c = search rules
 
 returns : tie.Need-returns

@@ -6,16 +6,16 @@ use Rattle.simplex.proofs.fill.upper_constant.Tie as tie
 use Rattle.simplex.proofs.fill.upper_constant.Reads as reads
 use Rattle.simplex.proofs.fill.upper_constant.Lts as lts
 
-cast-result : tie.Need-overflow-cast-result
+cast-result : tie.Need-overflow_cast-result
 cast-result c = search rules
 
-sub-result : tie.Need-overflow-sub-result
+sub-result : tie.Need-overflow_sub-result
 sub-result c = let h = c.ranges.d.fits in rw (count_is c.args.d h) (less-fits c.args.d h)
 
-cast-result-2 : tie.Need-overflow-cast-result-2
+cast-result-2 : tie.Need-overflow_cast-result-2
 cast-result-2 c = simp (to_z-of_z c.ranges.c) (word_fits c.ranges.c)
 
-sub-result-2 : tie.Need-overflow-sub-result-2
+sub-result-2 : tie.Need-overflow_sub-result-2
 sub-result-2 c =
     let h = c.ranges.d.fits in
     rw (count_is c.args.d h, to_z-of_z (less-fits c.args.d h), to_z-of_z c.ranges.c, to_z-of_z (word_fits c.ranges.c)) (upper_fits c.args.d c.args.c h c.ranges.c)

@@ -5,7 +5,7 @@ use Rattle.simplex.proofs.fill.wide.Tie as tie
 use Rattle.simplex.proofs.fill.wide.Reads as reads
 use Rattle.simplex.proofs.fill.wide.Lts as lts
 
-cast-result : tie.Need-overflow-cast-result
+cast-result : tie.Need-overflow_cast-result
 cast-result c = simp (to_z-of_z c.ranges.x) (word_fits c.ranges.x)
 
 returns : tie.Need-returns

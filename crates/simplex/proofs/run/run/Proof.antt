@@ -15,66 +15,66 @@ use Rattle.simplex.proofs.run.run.Lts as lts
 use Rattle.simplex.proofs.choose.choose.Reads as choose-reads
 use Rattle.simplex.proofs.run.pivot_counted.Reads as pivot-counted-reads
 
-abbrev invariant-loop : tie.invariant-loop
+abbrev invariant-loop : tie.invariant-loop-x
 invariant-loop t₀ n place₀ kinds left₀ built₀ t place left built =
     Fine n t place kinds × (run_table kinds left t place ≡ run_table kinds 200 t₀ place₀)
     × (length t ≡ length t₀) × (length place ≡ length place₀) × (left ≤ 200)
     × (built + built_table_at (bound 64) kinds left t place ≡ built_table_at (bound 64) kinds 200 t₀ place₀)
 
-abbrev decreases-loop : tie.decreases-loop
+abbrev decreases-loop : tie.decreases-loop-x
 decreases-loop t₀ n place₀ kinds left₀ built₀ t place left built = left
 
 -- where the function began, and where the turn of the loop that pivots began
-abbrev begun : tie.At-loop invariant-loop decreases-loop → tie.Start invariant-loop decreases-loop
+abbrev begun : tie.At-loop-x invariant-loop decreases-loop → tie.Start invariant-loop decreases-loop
 begun c = c.before.before.before
 
-abbrev turn : tie.After-m2 invariant-loop decreases-loop → tie.At-loop invariant-loop decreases-loop
+abbrev turn : tie.In-Pivot-2 invariant-loop decreases-loop → tie.At-loop-x invariant-loop decreases-loop
 turn c = c.before.before.before.before.before
 
-abbrev choice : tie.After-slice-known2 invariant-loop decreases-loop → tie.After-m2 invariant-loop decreases-loop
+abbrev choice : tie.After-slice_known-in-Pivot-1 invariant-loop decreases-loop → tie.In-Pivot-2 invariant-loop decreases-loop
 choice c = c.before.before.before.before.before.before.before
 
-stops : (c : tie.After-m invariant-loop decreases-loop) →
+stops : (c : tie.In-Stop-2 invariant-loop decreases-loop) →
     let a = c.before.before.before.before.before in let l = a.loop in
-    move_of l.t l.place (begun a).args.kinds.now l.left ≡ Stop c.m.given.0.0
-stops c = sym c.before.before.choose.ensures ∙ c.m.given.1
+    move_of l.t l.place (begun a).args.kinds.now l.left ≡ Stop c.m-1.given.0.0
+stops c = sym c.before.before.choose-m.ensures ∙ c.m-1.given.1
 
-pivots : (c : tie.After-m2 invariant-loop decreases-loop) →
-    let l = (turn c).loop in
-    move_of l.t l.place (begun (turn c)).args.kinds.now l.left ≡ Pivot c.m2.given.0.0 c.m2.given.0.1.0
-pivots c = sym c.before.before.choose.ensures ∙ c.m2.given.1
+pivots : (c : tie.In-Pivot-2 invariant-loop decreases-loop) →
+    let l = (turn c).loop-x in
+    move_of l.t l.place (begun (turn c)).args.kinds.now l.left ≡ Pivot c.m-in-Pivot-1.given.0.0 c.m-in-Pivot-1.given.0.1.0
+pivots c = sym c.before.before.choose-m.ensures ∙ c.m-in-Pivot-1.given.1
 
-crosses : (c : tie.After-m2 invariant-loop decreases-loop) →
-    let l = (turn c).loop in Crossing (begun (turn c)).args.n l.t l.place c.m2.given.0.0 c.m2.given.0.1.0
-crosses c = let l = (turn c).loop in crossing _ l.t l.place _ l.left _ _ l.inv.0 (pivots c)
+crosses : (c : tie.In-Pivot-2 invariant-loop decreases-loop) →
+    let l = (turn c).loop-x in Crossing (begun (turn c)).args.n l.t l.place c.m-in-Pivot-1.given.0.0 c.m-in-Pivot-1.given.0.1.0
+crosses c = let l = (turn c).loop-x in crossing _ l.t l.place _ l.left _ _ l.inv.0 (pivots c)
 
 -- what is still to be built, before the pivot
-builds : (c : tie.After-m2 invariant-loop decreases-loop) →
-    let l = (turn c).loop in let v = c.m2.given.0.0 in let w = c.m2.given.0.1.0 in
+builds : (c : tie.In-Pivot-2 invariant-loop decreases-loop) →
+    let l = (turn c).loop-x in let v = c.m-in-Pivot-1.given.0.0 in let w = c.m-in-Pivot-1.given.0.1.0 in
     let still = built_table_at (bound 64) (begun (turn c)).args.kinds.now in
     still l.left l.t l.place
     ≡ pivot_built l.t l.place w + still (l.left - 1) (pivot_rows l.t l.place v w) (pivot_place l.place v w)
-builds c = let l = (turn c).loop in built-pivot (bound 64) _ l.t l.place l.left _ _ (pivots c)
+builds c = let l = (turn c).loop-x in built-pivot (bound 64) _ l.t l.place l.left _ _ (pivots c)
 
-loop-holds : tie.Need-loop-init invariant-loop decreases-loop
+loop-holds : tie.Need-loop-x-init invariant-loop decreases-loop
 loop-holds c = (c.before.before.requires, refl, refl, refl, omega arith, omega arith)
 
-choose-requires : tie.Need-choose-requires invariant-loop decreases-loop
+choose-requires : tie.Need-choose-m-requires invariant-loop decreases-loop
 choose-requires c κs = c.before.before.loop.invariant.0
 
-enum-known-m : tie.Need-enum-known-m invariant-loop decreases-loop
+enum-known-m : tie.Need-enum_known-m invariant-loop decreases-loop
 enum-known-m c = search rules
 
-sub-t16 : tie.Need-overflow-sub-t16 invariant-loop decreases-loop
+sub-t16 : tie.Need-overflow_sub-ended invariant-loop decreases-loop
 sub-t16 c = let h = c.before.before.before.before.before.before.loop.invariant.4 in omega arith
 
-same_length : tie.Need-same-length invariant-loop decreases-loop
+same_length : tie.Need-shape_of-t-in-Stop invariant-loop decreases-loop
 same_length c = c.before.before.before.before.before.before.loop.invariant.2
 
-same-length-2 : tie.Need-same-length-2 invariant-loop decreases-loop
+same-length-2 : tie.Need-shape_of-place-in-Stop invariant-loop decreases-loop
 same-length-2 c = c.before.before.before.before.before.before.loop.invariant.3
 
-returns : tie.Need-returns invariant-loop decreases-loop
+returns : tie.Need-returns-in-Stop invariant-loop decreases-loop
 returns c =
     let a = c.before.before.before.before.before.before in let l = a.loop in
     let kinds = (begun a).args.kinds.now in
@@ -88,29 +88,29 @@ returns c =
       place_is = ap (λ o. o.place) q;
     }
 
-enum-known-m-2 : tie.Need-enum-known-m-2 invariant-loop decreases-loop
+enum-known-m-2 : tie.Need-enum_known-m-in-Pivot-1 invariant-loop decreases-loop
 enum-known-m-2 c = search rules
 
-pivot-counted-requires : tie.Need-pivot-counted-requires invariant-loop decreases-loop
+pivot-counted-requires : tie.Need-pivot_counted-built-requires invariant-loop decreases-loop
 pivot-counted-requires c κs = crosses c.before.before.before
 
-add-built : tie.Need-overflow-add-built invariant-loop decreases-loop
+add-built : tie.Need-overflow_add-built invariant-loop decreases-loop
 add-built c =
     let a = turn (choice c) in let s = begun a in
     let h = built-le (bound 64) s.args.kinds.now 200 s.args.t.now s.args.place.now s.pre.count in
-    record { fits = omega (arith, h, a.loop.inv.5, builds (choice c), c.before.before.before.pivot-counted.ensures.2) }
+    record { fits = omega (arith, h, a.loop-x.inv.5, builds (choice c), c.before.before.before.pivot_counted-built.ensures.2) }
 
-sub-left : tie.Need-overflow-sub-left invariant-loop decreases-loop
-sub-left c = let l = (turn (choice c)).loop in pivot-left _ l.left l.t l.place _ _ (pivots (choice c))
+sub-left : tie.Need-overflow_sub-left invariant-loop decreases-loop
+sub-left c = let l = (turn (choice c)).loop-x in pivot-left _ l.left l.t l.place _ _ (pivots (choice c))
 
-loop-less : tie.Need-loop-smaller invariant-loop decreases-loop
-loop-less c = let l = (turn (choice c)).loop in let h = pivot-left _ l.left l.t l.place _ _ (pivots (choice c)) in omega arith
+loop-less : tie.Need-loop-x-smaller invariant-loop decreases-loop
+loop-less c = let l = (turn (choice c)).loop-x in let h = pivot-left _ l.left l.t l.place _ _ (pivots (choice c)) in omega arith
 
-loop-again : tie.Need-loop-preserved invariant-loop decreases-loop
+loop-again : tie.Need-loop-x-preserved invariant-loop decreases-loop
 loop-again c =
-    let m = choice c in let l = (turn m).loop in let kinds = (begun (turn m)).args.kinds.now in
-    let v = m.m2.given.0.0 in let w = m.m2.given.0.1.0 in
-    let (et, ep, eb) = c.before.before.before.pivot-counted.ensures in
+    let m = choice c in let l = (turn m).loop-x in let kinds = (begun (turn m)).args.kinds.now in
+    let v = m.m-in-Pivot-1.given.0.0 in let w = m.m-in-Pivot-1.given.0.1.0 in
+    let (et, ep, eb) = c.before.before.before.pivot_counted-built.ensures in
     rw (et, ep) (
       pivot-fine _ l.t l.place kinds v w l.inv.0 (crosses m),
       run-pivot kinds l.left l.t l.place v w (pivots m) ∙ l.inv.1,

@@ -14,7 +14,7 @@ use borrow.Author.Rules.{rules}
 use Rattle.states.proofs.opening.set_up.Statement.{statement}
 use Rattle.states.proofs.opening.set_up.Tie as tie
 
-abbrev start : tie.After-divisions-of → tie.Start
+abbrev start : tie.After-divisions_of-ds → tie.Start
 start c = c.before.before.before.before
 
 rows_taken : (s : tie.Start) → length (take (2 * s.args.k) s.args.rows.now) ≡ 2 * s.args.k
@@ -26,70 +26,70 @@ place-taken s = let f = s.requires.1.few in let r = s.requires.0.place in length
 kinds-taken : (s : tie.Start) → let n = 8 + s.args.k + 2 * s.args.k in length (take n s.args.kinds.now) ≡ n
 kinds-taken s = let f = s.requires.1.few in let r = s.requires.0.kinds in length-take-le (8 + s.args.k + 2 * s.args.k) s.args.kinds.now (omega arith)
 
-mul-m : tie.Need-overflow-mul-m
+mul-m : tie.Need-overflow_mul-m
 mul-m c = search rules
 
-add-names : tie.Need-overflow-add-names
+add-names : tie.Need-overflow_add-names
 add-names c = search rules
 
-add-names-2 : tie.Need-overflow-add-names-2
+add-names-2 : tie.Need-overflow_add-names-2
 add-names-2 c = search rules
 
-divisions-of-requires : tie.Need-divisions-of-requires
+divisions-of-requires : tie.Need-divisions_of-ds-requires
 divisions-of-requires c κs = search rules
 
-slice-relend-prefix-tested : tie.Need-slice-relend-prefix-tested
+slice-relend-prefix-tested : tie.Need-slice_bounds-tested-end
 slice-relend-prefix-tested c = search rules
 
-slice-aggregate-tested : tie.Need-slice-aggregate-tested
+slice-aggregate-tested : tie.Need-slice_bounds-tested-end-2
 slice-aggregate-tested c = sym (rows_taken (start c.before))
 
-slice-relend-prefix-tested-2 : tie.Need-slice-relend-prefix-tested-2
+slice-relend-prefix-tested-2 : tie.Need-slice_bounds-tested-end-3
 slice-relend-prefix-tested-2 c = search rules
 
-slice-aggregate-tested-2 : tie.Need-slice-aggregate-tested-2
+slice-aggregate-tested-2 : tie.Need-slice_bounds-tested-end-4
 slice-aggregate-tested-2 c = sym (place-taken (start c.before.before))
 
-slice-relend-prefix-tested-3 : tie.Need-slice-relend-prefix-tested-3
+slice-relend-prefix-tested-3 : tie.Need-slice_bounds-tested-end-5
 slice-relend-prefix-tested-3 c = search rules
 
-slice-aggregate-tested-3 : tie.Need-slice-aggregate-tested-3
+slice-aggregate-tested-3 : tie.Need-slice_bounds-tested-end-6
 slice-aggregate-tested-3 c = sym (kinds-taken (start c.before.before.before))
 
-tested-requires : tie.Need-tested-requires
+tested-requires : tie.Need-tested-w-requires
 tested-requires c κs =
     let d = c.before.before.before in let s = start d in
-    record { few = s.pre.1.few; divisions = d.divisions-of.ensures.long; rows = rows_taken s; names = place-taken s; sames = kinds-taken s }
+    record { few = s.pre.1.few; divisions = d.divisions_of-ds.ensures.long; rows = rows_taken s; names = place-taken s; sames = kinds-taken s }
 
-write-head-requires : tie.Need-write-head-requires
+write-head-requires : tie.Need-write_head-requires
 write-head-requires c κs = let s = start c.before.before.before.before.before.before.before.before.before.before in let h = s.pre.0.heads in (omega arith, s.pre.1.few)
 
-forget-after-requires : tie.Need-forget-after-requires
+forget-after-requires : tie.Need-forget_after-requires
 forget-after-requires c κs =
     let w = c.before.before.before in let t = w.before.before.before.before.before.before.before in let s = start t.before.before.before.before in
-    ap length w.write-head.ensures ∙ head-long s.args.n s.args.k t.tested.result s.args.heads.now s.pre.0.heads
+    ap length w.write_head.ensures ∙ head-long s.args.n s.args.k t.tested-w.result s.args.heads.now s.pre.0.heads
 
-said-of-requires : tie.Need-said-of-requires
+said-of-requires : tie.Need-said_of-requires
 said-of-requires c κs = search rules
 
-same_length : tie.Need-same-length
+same_length : tie.Need-shape_of-rows
 same_length c = search rules
 
-same-length-2 : tie.Need-same-length-2
+same-length-2 : tie.Need-shape_of-place
 same-length-2 c = search rules
 
-same-length-3 : tie.Need-same-length-3
+same-length-3 : tie.Need-shape_of-kinds
 same-length-3 c = search rules
 
-same-length-4 : tie.Need-same-length-4
+same-length-4 : tie.Need-shape_of-heads
 same-length-4 c = search rules
 
 returns : tie.Need-returns
 returns c =
     let f = c.before.before.before in let w = f.before.before.before.before in let t = w.before.before.before.before.before.before.before in
     let d = t.before.before.before.before in let s = start d in
-    let r = subst (λ (ds : List S.Division). Ran (start_end s.args.k ds) t.tested.result t.tested.new.1.1.0 t.tested.new.1.1.1.0) d.divisions-of.ensures.are t.tested.ensures.0 in
-    opens-is s.args.n s.args.k (memory s.args.rows.now s.args.place.now s.args.kinds.now s.args.heads.now) r t.tested.ensures.1 w.write-head.ensures f.forget-after.ensures c.said_of.ensures
+    let r = subst (λ (ds : List S.Division). Ran (start_end s.args.k ds) t.tested-w.result t.tested-w.new.1.1.0 t.tested-w.new.1.1.1.0) d.divisions_of-ds.ensures.are t.tested-w.ensures.0 in
+    opens-is s.args.n s.args.k (memory s.args.rows.now s.args.place.now s.args.kinds.now s.args.heads.now) r t.tested-w.ensures.1 w.write_head.ensures f.forget_after.ensures c.said_of.ensures
 
 pub set_up_spec : {M : Type 1} → statement M
 set_up_spec =

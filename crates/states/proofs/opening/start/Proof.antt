@@ -18,81 +18,81 @@ begun c = c.before.before.before.before.before.before.before.before
 abbrev first : tie.Start → Memory
 first s = memory s.args.rows.now s.args.place.now s.args.kinds.now s.args.heads.now
 
-fit : (c : tie.Else1) → fitting (first (begun c.before)) ≡ true
-fit c = sym c.before.fits2.ensures ∙ not-false _ c.if1.false
+fit : (c : tie.Else-not-fits) → fitting (first (begun c.before)) ≡ true
+fit c = sym c.before.fits2.ensures ∙ not-false _ c.if-not-fits.false-raw
 
 fits-requires : tie.Need-fits-requires
 fits-requires c κs = search rules
 
-same_length : tie.Need-same-length
+same_length : tie.Need-shape_of-rows-then-not-fits
 same_length c = search rules
 
-same-length-2 : tie.Need-same-length-2
+same-length-2 : tie.Need-shape_of-place-then-not-fits
 same-length-2 c = search rules
 
-same-length-3 : tie.Need-same-length-3
+same-length-3 : tie.Need-shape_of-kinds-then-not-fits
 same-length-3 c = search rules
 
-same-length-4 : tie.Need-same-length-4
+same-length-4 : tie.Need-shape_of-heads-then-not-fits
 same-length-4 c = search rules
 
-returns : tie.Need-returns
-returns c = start-unfit _ _ _ (sym c.before.fits2.ensures ∙ not-true _ c.if1.true)
+returns : tie.Need-returns-then-not-fits
+returns c = start-unfit _ _ _ (sym c.before.fits2.ensures ∙ not-true _ c.if-not-fits.true-raw)
 
-same-length-5 : tie.Need-same-length-5
+same-length-5 : tie.Need-shape_of-rows-then-divisions-ne0
 same-length-5 c = search rules
 
-same-length-6 : tie.Need-same-length-6
+same-length-6 : tie.Need-shape_of-place-then-divisions-ne0
 same-length-6 c = search rules
 
-same-length-7 : tie.Need-same-length-7
+same-length-7 : tie.Need-shape_of-kinds-then-divisions-ne0
 same-length-7 c = search rules
 
-same-length-8 : tie.Need-same-length-8
+same-length-8 : tie.Need-shape_of-heads-then-divisions-ne0
 same-length-8 c = search rules
 
-returns-2 : tie.Need-returns-2
-returns-2 c = start-broken _ _ _ (fit c.before) c.if2.true
+returns-2 : tie.Need-returns-then-divisions-ne0
+returns-2 c = start-broken _ _ _ (fit c.before) c.if-divisions-ne0.true
 
-start-refusal-requires : tie.Need-start-refusal-requires
+start-refusal-requires : tie.Need-start_refusal-c-requires
 start-refusal-requires c κs = omega arith
 
-same-length-9 : tie.Need-same-length-9
+same-length-9 : tie.Need-shape_of-rows-then-c-ne0
 same-length-9 c = search rules
 
-same-length-10 : tie.Need-same-length-10
+same-length-10 : tie.Need-shape_of-place-then-c-ne0
 same-length-10 c = search rules
 
-same-length-11 : tie.Need-same-length-11
+same-length-11 : tie.Need-shape_of-kinds-then-c-ne0
 same-length-11 c = search rules
 
-same-length-12 : tie.Need-same-length-12
+same-length-12 : tie.Need-shape_of-heads-then-c-ne0
 same-length-12 c = search rules
 
-returns-3 : tie.Need-returns-3
-returns-3 c = let r = c.before in let e = r.before in start-refused _ _ _ (fit e.before) e.if2.false _ r.start-refusal.ensures c.if3.true
+returns-3 : tie.Need-returns-then-c-ne0
+returns-3 c = let r = c.before in let e = r.before in start-refused _ _ _ (fit e.before) e.if-divisions-ne0.false _ r.start_refusal-c.ensures c.if-c-ne0.true
 
-set-up-requires : tie.Need-set-up-requires
+set-up-requires : tie.Need-set_up-requires
 set-up-requires c κs =
     let f = c.before.before.before.before in let r = f.before in let e = r.before in let s = begun e.before.before in
-    (fitting-fits _ (fit e.before), listed s.args.n _ s.args.divisions.now (omega arith) (sym r.start-refusal.ensures ∙ f.if3.false))
+    (fitting-fits _ (fit e.before), listed s.args.n _ s.args.divisions.now (omega arith) (sym r.start_refusal-c.ensures ∙ f.if-c-ne0.false))
 
-same-length-13 : tie.Need-same-length-13
+same-length-13 : tie.Need-shape_of-rows
 same-length-13 c = search rules
 
-same-length-14 : tie.Need-same-length-14
+same-length-14 : tie.Need-shape_of-place
 same-length-14 c = search rules
 
-same-length-15 : tie.Need-same-length-15
+same-length-15 : tie.Need-shape_of-kinds
 same-length-15 c = search rules
 
-same-length-16 : tie.Need-same-length-16
+same-length-16 : tie.Need-shape_of-heads
 same-length-16 c = search rules
 
-returns-4 : tie.Need-returns-4
+returns-4 : tie.Need-returns
 returns-4 c =
     let o = c.before.before.before.before.before.before.before in let f = o.before.before.before.before.before in let r = f.before in let e = r.before in
-    start-done _ _ _ (fit e.before) e.if2.false _ r.start-refusal.ensures f.if3.false o.set-up.ensures
+    start-done _ _ _ (fit e.before) e.if-divisions-ne0.false _ r.start_refusal-c.ensures f.if-c-ne0.false o.set_up.ensures
 
 pub start_spec : {M : Type 1} → statement M
 start_spec =

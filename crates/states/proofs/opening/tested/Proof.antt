@@ -19,28 +19,28 @@ divisions-are s = let h = s.requires.divisions in let f = s.requires.few in leng
 lay-requires : tie.Need-lay-requires
 lay-requires c κs = search rules
 
-add-go-on : tie.Need-overflow-add-go-on
+add-go-on : tie.Need-overflow_add-k
 add-go-on c = search rules
 
-go-on-requires : tie.Need-go-on-requires
+go-on-requires : tie.Need-go_on-e-requires
 go-on-requires c κs = let l = c.before.before.before.before.before.before.before.before in let b = l.lay.ensures in let s = start l in (b.rows.sheets, begun-fine b s.pre.few (divisions-are s), omega arith)
 
-word-of-requires : tie.Need-word-of-requires
+word-of-requires : tie.Need-word_of-requires
 word-of-requires c κs = search rules
 
-same_length : tie.Need-same-length
+same_length : tie.Need-shape_of-t
 same_length c = search rules
 
-same-length-2 : tie.Need-same-length-2
+same-length-2 : tie.Need-shape_of-place
 same-length-2 c = search rules
 
-same-length-3 : tie.Need-same-length-3
+same-length-3 : tie.Need-shape_of-kinds
 same-length-3 c = search rules
 
 returns : tie.Need-returns
 returns c =
     let g = c.before.before.before.before.before in let l = g.before.before.before.before.before.before.before.before.before in
-    (ran g.go_on.ensures (begun-run l.lay.ensures) c.word_of.ensures, l.lay.ensures.kinds_are)
+    (ran g.go_on-e.ensures (begun-run l.lay.ensures) c.word_of.ensures, l.lay.ensures.kinds_are)
 
 pub tested_spec : {M : Type 1} → statement M
 tested_spec =

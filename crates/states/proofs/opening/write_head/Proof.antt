@@ -8,25 +8,25 @@ use borrow.Author.Rules.{rules}
 use Rattle.states.proofs.opening.write_head.Statement.{statement}
 use Rattle.states.proofs.opening.write_head.Tie as tie
 
-slice-write-heads : tie.Need-slice-write-heads
+slice-write-heads : tie.Need-bounds-heads-0
 slice-write-heads c = search rules
 
-slice-write-heads-2 : tie.Need-slice-write-heads-2
+slice-write-heads-2 : tie.Need-bounds-heads-1
 slice-write-heads-2 c = simp length-set (omega (arith, c.requires.0))
 
-slice-write-heads-3 : tie.Need-slice-write-heads-3
+slice-write-heads-3 : tie.Need-bounds-heads-2
 slice-write-heads-3 c = simp length-set (omega (arith, c.requires.0))
 
-mul-heads : tie.Need-overflow-mul-heads
+mul-heads : tie.Need-overflow_mul-heads
 mul-heads c = search rules
 
-slice-write-heads-4 : tie.Need-slice-write-heads-4
+slice-write-heads-4 : tie.Need-bounds-heads-3
 slice-write-heads-4 c = simp length-set (omega (arith, c.requires.0))
 
-slice-write-heads-5 : tie.Need-slice-write-heads-5
+slice-write-heads-5 : tie.Need-bounds-heads-4
 slice-write-heads-5 c = simp length-set (omega (arith, c.requires.0))
 
-same_length : tie.Need-same-length
+same_length : tie.Need-shape_of-heads
 same_length c = search rules
 
 returns : tie.Need-returns

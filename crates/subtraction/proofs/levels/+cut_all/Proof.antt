@@ -33,27 +33,27 @@ below t = and 7 cut-all-kinds.ps (falls 7 cut-all-kinds.ps ◌<◌ μ-cut-all t)
 abbrev callees : ℕ → lts.Claims
 callees t = (emit-reads.Asked, emit-reads.Learnt, decode-basic-reads.Asked, decode-basic-reads.Learnt, end-of-reads.Asked, end-of-reads.Learnt, cut-reads.Asked, cut-reads.Learnt, piece-reads.Asked, piece-reads.Learnt, below t, Cut-all.Post)
 
-abbrev invariant-loop : lts.invariant-loop
+abbrev invariant-loop : lts.invariant-loop-i
 invariant-loop left b pos out₀ rows₀ place₀ kinds₀ past₀ spare₀ next c fits w n t₀ i₀ out rows place kinds past spare t i =
     (length out ≡ length out₀) × (length rows ≡ length rows₀) × (length place ≡ length place₀) × (length kinds ≡ length kinds₀) × (length past ≡ length past₀) × (length spare ≡ length spare₀)
     × Onward (cut_all keeps (set_from b next)) (cut_all_fits keeps (set_from b next)) (pieces_of c) (drop i (pieces_of c)) out₀ t₀ out t
 
-abbrev decreases-loop : lts.decreases-loop
+abbrev decreases-loop : lts.decreases-loop-i
 decreases-loop left b pos out₀ rows₀ place₀ kinds₀ past₀ spare₀ next c fits w n t₀ i₀ out rows place kinds past spare t i = n - i
 
 -- the cut, where it fits
-pieced : (t : ℕ) (c : lts.After-w (callees t) (at t) Cut-all.Post invariant-loop decreases-loop)
-    → Pieced c.before.before.before.before.before.before.before.before.before.before.before.before.before.before.before.before.before.before.before.before.before.before.args.left c.before.before.before.before.before.before.before.before.before.before.before.before.before.before.before.before.before.before.before.before.before.before.args.p c.before.before.before.before.before.before.before.before.before.before.before.before.before.before.before.before.before.before.before.before.before.before.args.b.now c.before.before.before.before.before.before.before.before.before.before.before.before.before.before.before.before.before.before.before.before.before.before.args.pos c.before.before.before.before.before.before.before.before.before.before.before.before.before.before.before.before.decode-basic.result c.before.before.before.before.before.before.before.before.before.before.before.before.before.before.before.end_of_lem.result c.before.before.before.before.before.before.before.before.before.cut.result
+pieced : (t : ℕ) (c : lts.After-w-1 (callees t) (at t) Cut-all.Post invariant-loop decreases-loop)
+    → Pieced c.before.before.before.before.before.before.before.before.before.before.before.before.before.before.before.before.before.before.before.before.before.before.args.left c.before.before.before.before.before.before.before.before.before.before.before.before.before.before.before.before.before.before.before.before.before.before.args.p c.before.before.before.before.before.before.before.before.before.before.before.before.before.before.before.before.before.before.before.before.before.before.args.b.now c.before.before.before.before.before.before.before.before.before.before.before.before.before.before.before.before.before.before.before.before.before.before.args.pos c.before.before.before.before.before.before.before.before.before.before.before.before.before.before.before.before.decode_basic-v.result c.before.before.before.before.before.before.before.before.before.before.before.before.before.before.before.end_of_lem.result c.before.before.before.before.before.before.before.before.before.cut-c.result
 pieced t c =
-    let k = c.before.before.before.before.before.before.before.before.before.cut in
+    let k = c.before.before.before.before.before.before.before.before.before.cut-c in
     record {
       level = c.before.before.before.before.before.before.before.before.before.before.before.before.before.before.before.before.before.before.before.before.before.before.requires.1.0;
-      some = c.before.before.before.before.before.before.before.before.before.before.before.before.before.before.before.before.before.if1.false;
-      decoded = c.before.before.before.before.before.before.before.before.before.before.before.before.before.before.before.before.decode-basic.ensures;
+      some = c.before.before.before.before.before.before.before.before.before.before.before.before.before.before.before.before.before.if-left-eq0.false;
+      decoded = c.before.before.before.before.before.before.before.before.before.before.before.before.before.before.before.before.decode_basic-v.ensures;
       ends = c.before.before.before.before.before.before.before.before.before.before.before.before.before.before.before.end_of_lem.ensures;
       cuts = c.before.before.before.before.before.before.before.before.before.before.before.before.before.before.before.before.before.before.before.before.before.before.requires.1.4;
       tight = k.ensures;
-      fits = not-false k.result.fits c.before.if2.false;
+      fits = not-false k.result.fits c.before.if-not-fits.false-raw;
       long = simp length-map at k.type-inv.1.1.1.0.1.0.1;
     }
 
@@ -62,99 +62,99 @@ emit-requires t c κs =
     let st = c.before.before.before.before.before.before in
     (level-sound st.requires.1.0, st.requires.1.1)
 
-same_length : (t : ℕ) → lts.Need-same-length (callees t) (at t) Cut-all.Post invariant-loop decreases-loop
+same_length : (t : ℕ) → lts.Need-shape_of-out-then-left-eq0 (callees t) (at t) Cut-all.Post invariant-loop decreases-loop
 same_length t c = search rules
 
-returns : (t : ℕ) → lts.Need-returns (callees t) (at t) Cut-all.Post invariant-loop decreases-loop
+returns : (t : ℕ) → lts.Need-returns-then-left-eq0 (callees t) (at t) Cut-all.Post invariant-loop decreases-loop
 returns t c = level-last c.before.before.before.before.before.before.before.before.before.requires.1.0 c.before.before.before.before.if1.true c.before.before.emit.ensures
 
-add-decode-basic : (t : ℕ) → lts.Need-overflow-add-decode-basic (callees t) (at t) Cut-all.Post invariant-loop decreases-loop
+add-decode-basic : (t : ℕ) → lts.Need-overflow_add-pos (callees t) (at t) Cut-all.Post invariant-loop decreases-loop
 add-decode-basic t c = let h = level-inside c.before.before.before.before.before.requires.1.0 c.if1.false in omega arith
 
-decode-basic-requires : (t : ℕ) → lts.Need-decode-basic-requires (callees t) (at t) Cut-all.Post invariant-loop decreases-loop
+decode-basic-requires : (t : ℕ) → lts.Need-decode_basic-v-requires (callees t) (at t) Cut-all.Post invariant-loop decreases-loop
 decode-basic-requires t c κs = level-opened c.before.before.before.before.before.requires.1.0 c.if1.false
 
-add-end-of : (t : ℕ) → lts.Need-overflow-add-end-of (callees t) (at t) Cut-all.Post invariant-loop decreases-loop
+add-end-of : (t : ℕ) → lts.Need-overflow_add-pos-2 (callees t) (at t) Cut-all.Post invariant-loop decreases-loop
 add-end-of t c = let h = level-inside c.before.before.before.before.before.before.requires.1.0 c.before.if1.false in omega arith
 
-end-of-requires : (t : ℕ) → lts.Need-end-of-requires (callees t) (at t) Cut-all.Post invariant-loop decreases-loop
+end-of-requires : (t : ℕ) → lts.Need-end_of-end-requires (callees t) (at t) Cut-all.Post invariant-loop decreases-loop
 end-of-requires t c κs = level-opened c.before.before.before.before.before.before.requires.1.0 c.before.if1.false
 
-cut-requires : (t : ℕ) → lts.Need-cut-requires (callees t) (at t) Cut-all.Post invariant-loop decreases-loop
+cut-requires : (t : ℕ) → lts.Need-cut-c-requires (callees t) (at t) Cut-all.Post invariant-loop decreases-loop
 cut-requires t c κs =
     let st = c.before.before.before.before.before.before.before.before.before.before.before.before in
     (level-pair st.requires.1.0 c.before.before.before.before.before.before.before.if1.false c.before.before.before.before.before.before.decode-basic.ensures, st.requires.1.2, st.requires.1.3)
 
-same-length-2 : (t : ℕ) → lts.Need-same-length-2 (callees t) (at t) Cut-all.Post invariant-loop decreases-loop
+same-length-2 : (t : ℕ) → lts.Need-shape_of-rows-then-not-fits (callees t) (at t) Cut-all.Post invariant-loop decreases-loop
 same-length-2 t c = c.before.before.before.before.before.before.before.before.cut.auto.1.1.0
 
-same-length-3 : (t : ℕ) → lts.Need-same-length-3 (callees t) (at t) Cut-all.Post invariant-loop decreases-loop
+same-length-3 : (t : ℕ) → lts.Need-shape_of-place-then-not-fits (callees t) (at t) Cut-all.Post invariant-loop decreases-loop
 same-length-3 t c = c.before.before.before.before.before.before.before.before.cut.auto.1.1.1.0
 
-same-length-4 : (t : ℕ) → lts.Need-same-length-4 (callees t) (at t) Cut-all.Post invariant-loop decreases-loop
+same-length-4 : (t : ℕ) → lts.Need-shape_of-kinds-then-not-fits (callees t) (at t) Cut-all.Post invariant-loop decreases-loop
 same-length-4 t c = c.before.before.before.before.before.before.before.before.cut.auto.1.1.1.1.0
 
-same-length-5 : (t : ℕ) → lts.Need-same-length-5 (callees t) (at t) Cut-all.Post invariant-loop decreases-loop
+same-length-5 : (t : ℕ) → lts.Need-shape_of-past-then-not-fits (callees t) (at t) Cut-all.Post invariant-loop decreases-loop
 same-length-5 t c = c.before.before.before.before.before.before.before.before.cut.auto.1.1.1.1.1.0
 
-same-length-6 : (t : ℕ) → lts.Need-same-length-6 (callees t) (at t) Cut-all.Post invariant-loop decreases-loop
+same-length-6 : (t : ℕ) → lts.Need-shape_of-spare-then-not-fits (callees t) (at t) Cut-all.Post invariant-loop decreases-loop
 same-length-6 t c = c.before.before.before.before.before.before.before.before.cut.auto.1.1.1.1.1.1.0
 
-returns-2 : (t : ℕ) → lts.Need-returns-2 (callees t) (at t) Cut-all.Post invariant-loop decreases-loop
+returns-2 : (t : ℕ) → lts.Need-returns-then-not-fits (callees t) (at t) Cut-all.Post invariant-loop decreases-loop
 returns-2 t c =
     let st = c.before.before.before.before.before.before.before.before.before.before.before.before.before.before.before.before.before.before.before.before.before in
     let p1 = c.before.before.before.before.before.before.before.before in
     level-over st.requires.1.0 c.before.before.before.before.before.before.before.before.before.before.before.before.before.before.before.before.if1.false c.before.before.before.before.before.before.before.before.before.before.before.before.before.before.before.decode-basic.ensures st.requires.1.4 p1.cut.ensures (not-true p1.cut.result.fits c.if2.true) st.args.out.now st.args.out.now st.args.s _ _
 
-loop-holds : (t : ℕ) → lts.Need-loop-init (callees t) (at t) Cut-all.Post invariant-loop decreases-loop
+loop-holds : (t : ℕ) → lts.Need-loop-i-init (callees t) (at t) Cut-all.Post invariant-loop decreases-loop
 loop-holds t c = (refl, refl, refl, refl, refl, refl, onward-start c.before.before.before.before.before.before.before.before.before.before.before.before.before.before.before.before.before.before.before.before.before.before.requires.1.1)
 
-element-copy-out-v : (t : ℕ) → lts.Need-element-copy-out-v (callees t) (at t) Cut-all.Post invariant-loop decreases-loop
+element-copy-out-v : (t : ℕ) → lts.Need-bounds-c-i (callees t) (at t) Cut-all.Post invariant-loop decreases-loop
 element-copy-out-v t c = let x = pieced t c.before.before in let h = x.tight.count x.fits in omega (arith, c.loop-test.true)
 
-piece-requires : (t : ℕ) → lts.Need-piece-requires (callees t) (at t) Cut-all.Post invariant-loop decreases-loop
+piece-requires : (t : ℕ) → lts.Need-piece-q-requires (callees t) (at t) Cut-all.Post invariant-loop decreases-loop
 piece-requires t c κs = pieced-step (pieced t c.before.before.before) c.before.loop-test.true
 
-sub-cut-all : (t : ℕ) → lts.Need-overflow-sub-cut-all (callees t) (at t) Cut-all.Post invariant-loop decreases-loop
+sub-cut-all : (t : ℕ) → lts.Need-overflow_sub-left (callees t) (at t) Cut-all.Post invariant-loop decreases-loop
 sub-cut-all t c = let some = c.before.before.before.before.before.before.before.before.before.before.before.before.before.before.before.before.before.before.before.before.before.if1.false in omega arith
 
-cut-all-requires : (t : ℕ) → lts.Need-cut-all-requires (callees t) (at t) Cut-all.Post invariant-loop decreases-loop
+cut-all-requires : (t : ℕ) → lts.Need-cut_all-t-requires (callees t) (at t) Cut-all.Post invariant-loop decreases-loop
 cut-all-requires t c κs =
     let st = c.before.before.before.before.before.before.before.before.before.before.before.before.before.before.before.before.before.before.before.before.before.before.before.before.before.before.before.before.before.before.before.before in
     let k = c.before.before.before.before.before.before.before.before.before.before.before.before.before.before.before.before.before.before.before.cut in let lo = c.before.before.before.before.before.before.before.before.before.loop in let m = st.requires.0 in let some = c.before.before.before.before.before.before.before.before.before.before.before.before.before.before.before.before.before.before.before.before.before.before.before.before.before.before.before.if1.false in
     (omega arith, (pieced-level (pieced t c.before.before.before.before.before.before.before.before.before.before) c.before.before.before.before.before.before.before.before.loop-test.true c.before.before.before.before.before.before.piece.ensures, lo.invariant.6.ready, tables-kept st.requires.1.2 (lo.invariant.1 ∙ k.auto.1.1.0) (lo.invariant.2 ∙ k.auto.1.1.1.0) (lo.invariant.3 ∙ k.auto.1.1.1.1.0), record { many = lo.invariant.4 ∙ k.auto.1.1.1.1.1.0 ∙ st.requires.1.3.many; high = lo.invariant.5 ∙ k.auto.1.1.1.1.1.1.0 ∙ st.requires.1.3.high }, λ z. pieced-tight (pieced t c.before.before.before.before.before.before.before.before.before.before) c.before.before.before.before.before.before.before.before.loop-test.true c.before.before.before.before.before.before.piece.ensures))
 
-same-length-7 : (t : ℕ) → lts.Need-same-length-7 (callees t) (at t) Cut-all.Post invariant-loop decreases-loop
+same-length-7 : (t : ℕ) → lts.Need-shape_of-out-then-not-on (callees t) (at t) Cut-all.Post invariant-loop decreases-loop
 same-length-7 t c = c.before.before.before.before.before.before.before.before.before.before.Cut-all.auto.1.1.1.1.0 ∙ c.before.before.before.before.before.before.before.before.before.before.before.before.before.before.before.before.before.before.before.before.loop.invariant.0
 
-same-length-8 : (t : ℕ) → lts.Need-same-length-8 (callees t) (at t) Cut-all.Post invariant-loop decreases-loop
+same-length-8 : (t : ℕ) → lts.Need-shape_of-rows-then-not-on (callees t) (at t) Cut-all.Post invariant-loop decreases-loop
 same-length-8 t c = c.before.before.before.before.before.before.before.before.before.before.Cut-all.auto.1.1.1.1.1.1.0 ∙ c.before.before.before.before.before.before.before.before.before.before.before.before.before.before.before.before.before.before.before.before.loop.invariant.1 ∙ c.before.before.before.before.before.before.before.before.before.before.before.before.before.before.before.before.before.before.before.before.before.before.before.before.before.before.before.before.before.before.cut.auto.1.1.0
 
-same-length-9 : (t : ℕ) → lts.Need-same-length-9 (callees t) (at t) Cut-all.Post invariant-loop decreases-loop
+same-length-9 : (t : ℕ) → lts.Need-shape_of-place-then-not-on (callees t) (at t) Cut-all.Post invariant-loop decreases-loop
 same-length-9 t c = c.before.before.before.before.before.before.before.before.before.before.Cut-all.auto.1.1.1.1.1.1.1.0 ∙ c.before.before.before.before.before.before.before.before.before.before.before.before.before.before.before.before.before.before.before.before.loop.invariant.2 ∙ c.before.before.before.before.before.before.before.before.before.before.before.before.before.before.before.before.before.before.before.before.before.before.before.before.before.before.before.before.before.before.cut.auto.1.1.1.0
 
-same-length-10 : (t : ℕ) → lts.Need-same-length-10 (callees t) (at t) Cut-all.Post invariant-loop decreases-loop
+same-length-10 : (t : ℕ) → lts.Need-shape_of-kinds-then-not-on (callees t) (at t) Cut-all.Post invariant-loop decreases-loop
 same-length-10 t c = c.before.before.before.before.before.before.before.before.before.before.Cut-all.auto.1.1.1.1.1.1.1.1.0 ∙ c.before.before.before.before.before.before.before.before.before.before.before.before.before.before.before.before.before.before.before.before.loop.invariant.3 ∙ c.before.before.before.before.before.before.before.before.before.before.before.before.before.before.before.before.before.before.before.before.before.before.before.before.before.before.before.before.before.before.cut.auto.1.1.1.1.0
 
-same-length-11 : (t : ℕ) → lts.Need-same-length-11 (callees t) (at t) Cut-all.Post invariant-loop decreases-loop
+same-length-11 : (t : ℕ) → lts.Need-shape_of-past-then-not-on (callees t) (at t) Cut-all.Post invariant-loop decreases-loop
 same-length-11 t c = c.before.before.before.before.before.before.before.before.before.before.Cut-all.auto.1.1.1.1.1.1.1.1.1.0 ∙ c.before.before.before.before.before.before.before.before.before.before.before.before.before.before.before.before.before.before.before.before.loop.invariant.4 ∙ c.before.before.before.before.before.before.before.before.before.before.before.before.before.before.before.before.before.before.before.before.before.before.before.before.before.before.before.before.before.before.cut.auto.1.1.1.1.1.0
 
-same-length-12 : (t : ℕ) → lts.Need-same-length-12 (callees t) (at t) Cut-all.Post invariant-loop decreases-loop
+same-length-12 : (t : ℕ) → lts.Need-shape_of-spare-then-not-on (callees t) (at t) Cut-all.Post invariant-loop decreases-loop
 same-length-12 t c = c.before.before.before.before.before.before.before.before.before.before.Cut-all.auto.1.1.1.1.1.1.1.1.1.1.0 ∙ c.before.before.before.before.before.before.before.before.before.before.before.before.before.before.before.before.before.before.before.before.loop.invariant.5 ∙ c.before.before.before.before.before.before.before.before.before.before.before.before.before.before.before.before.before.before.before.before.before.before.before.before.before.before.before.before.before.before.cut.auto.1.1.1.1.1.1.0
 
-returns-3 : (t : ℕ) → lts.Need-returns-3 (callees t) (at t) Cut-all.Post invariant-loop decreases-loop
+returns-3 : (t : ℕ) → lts.Need-returns-then-not-on (callees t) (at t) Cut-all.Post invariant-loop decreases-loop
 returns-3 t c =
     let st = c.before.before.before.before.before.before.before.before.before.before in
     let x = pieced t c.before.before.before.before.before.before.before.before.before.before.before.before.before.before.before.before.before.before.before.before.before in
     pieced-whole x (onward-stop (pieced-next x c.before.before.before.before.before.before.before.before.before.before.before.before.before.before.before.before.before.before.before.loop-test.true c.before.before.before.before.before.before.before.before.before.before.before.before.before.before.before.before.before.piece.ensures) c.before.before.before.before.before.before.before.before.before.before.before.before.before.before.before.before.before.before.before.before.loop.invariant.6 st.Cut-all.ensures (not-true st.Cut-all.result.fits c.if3.true))
 
-add-i : (t : ℕ) → lts.Need-overflow-add-i (callees t) (at t) Cut-all.Post invariant-loop decreases-loop
+add-i : (t : ℕ) → lts.Need-overflow_add-i (callees t) (at t) Cut-all.Post invariant-loop decreases-loop
 add-i t c = let x = pieced t c.before.before.before.before.before.before.before.before.before.before.before.before.before.before.before.before.before.before.before.before.before in let h = x.tight.count x.fits in omega (arith, c.before.before.before.before.before.before.before.before.before.before.before.before.before.before.before.before.before.before.before.loop-test.true)
 
-loop-less : (t : ℕ) → lts.Need-loop-smaller (callees t) (at t) Cut-all.Post invariant-loop decreases-loop
+loop-less : (t : ℕ) → lts.Need-loop-i-smaller (callees t) (at t) Cut-all.Post invariant-loop decreases-loop
 loop-less t c = omega (arith, c.before.before.before.before.before.before.before.before.before.before.before.before.before.before.before.before.before.before.before.loop-test.true)
 
-loop-again : (t : ℕ) → lts.Need-loop-preserved (callees t) (at t) Cut-all.Post invariant-loop decreases-loop
+loop-again : (t : ℕ) → lts.Need-loop-i-preserved (callees t) (at t) Cut-all.Post invariant-loop decreases-loop
 loop-again t c =
     let st = c.before.before.before.before.before.before.before.before.before.before.before.before.before.before.before.before.before.before.before.before in
     let p1 = c.before.before.before.before.before.before.before.before.before.before in
@@ -168,25 +168,25 @@ loop-again t c =
       onward-next (pieced-next x c.before.before.before.before.before.before.before.before.before.before.before.before.before.before.before.before.before.before.before.loop-test.true c.before.before.before.before.before.before.before.before.before.before.before.before.before.before.before.before.before.piece.ensures) st.loop.invariant.6 p1.Cut-all.ensures (not-false r.result.fits c.if3.false),
     )
 
-same-length-13 : (t : ℕ) → lts.Need-same-length-13 (callees t) (at t) Cut-all.Post invariant-loop decreases-loop
+same-length-13 : (t : ℕ) → lts.Need-shape_of-out (callees t) (at t) Cut-all.Post invariant-loop decreases-loop
 same-length-13 t c = c.before.loop.invariant.0
 
-same-length-14 : (t : ℕ) → lts.Need-same-length-14 (callees t) (at t) Cut-all.Post invariant-loop decreases-loop
+same-length-14 : (t : ℕ) → lts.Need-shape_of-rows (callees t) (at t) Cut-all.Post invariant-loop decreases-loop
 same-length-14 t c = c.before.loop.invariant.1 ∙ c.before.before.before.before.before.before.before.before.before.before.before.cut.auto.1.1.0
 
-same-length-15 : (t : ℕ) → lts.Need-same-length-15 (callees t) (at t) Cut-all.Post invariant-loop decreases-loop
+same-length-15 : (t : ℕ) → lts.Need-shape_of-place (callees t) (at t) Cut-all.Post invariant-loop decreases-loop
 same-length-15 t c = c.before.loop.invariant.2 ∙ c.before.before.before.before.before.before.before.before.before.before.before.cut.auto.1.1.1.0
 
-same-length-16 : (t : ℕ) → lts.Need-same-length-16 (callees t) (at t) Cut-all.Post invariant-loop decreases-loop
+same-length-16 : (t : ℕ) → lts.Need-shape_of-kinds (callees t) (at t) Cut-all.Post invariant-loop decreases-loop
 same-length-16 t c = c.before.loop.invariant.3 ∙ c.before.before.before.before.before.before.before.before.before.before.before.cut.auto.1.1.1.1.0
 
-same-length-17 : (t : ℕ) → lts.Need-same-length-17 (callees t) (at t) Cut-all.Post invariant-loop decreases-loop
+same-length-17 : (t : ℕ) → lts.Need-shape_of-past (callees t) (at t) Cut-all.Post invariant-loop decreases-loop
 same-length-17 t c = c.before.loop.invariant.4 ∙ c.before.before.before.before.before.before.before.before.before.before.before.cut.auto.1.1.1.1.1.0
 
-same-length-18 : (t : ℕ) → lts.Need-same-length-18 (callees t) (at t) Cut-all.Post invariant-loop decreases-loop
+same-length-18 : (t : ℕ) → lts.Need-shape_of-spare (callees t) (at t) Cut-all.Post invariant-loop decreases-loop
 same-length-18 t c = c.before.loop.invariant.5 ∙ c.before.before.before.before.before.before.before.before.before.before.before.cut.auto.1.1.1.1.1.1.0
 
-returns-4 : (t : ℕ) → lts.Need-returns-4 (callees t) (at t) Cut-all.Post invariant-loop decreases-loop
+returns-4 : (t : ℕ) → lts.Need-returns (callees t) (at t) Cut-all.Post invariant-loop decreases-loop
 returns-4 t c = let x = pieced t c.before.before in pieced-whole x (onward-end (pieced-end x c.before.loop.i c.loop-test.false) c.before.loop.invariant.6)
 
 pub +cut-all-spec : {M : Type 1} → statement M

@@ -9,53 +9,53 @@ use Rattle.joining.proofs.tight_set.Reads as tight-set-reads
 use Rattle.subtraction.proofs.levels.cut_all.Reads as cut-all-reads
 
 -- where none of the rules is void: the start, and the same from the call of cut_all
-abbrev start : tie.Else1 → tie.Start
+abbrev start : tie.Else-none → tie.Start
 start c = c.before.before.before.before.before.before
 
-abbrev asked : tie.After-cut-all-arg6 → tie.Else1
+abbrev asked : tie.After-cut_all-arg-6-1 → tie.Else-none
 asked c = c.before.before.before.before.before.before.before
 
-tight-set-requires : tie.Need-tight-set-requires
+tight-set-requires : tie.Need-tight_set-t-requires
 tight-set-requires c κs = search rules
 
-returns : tie.Need-returns
+returns : tie.Need-returns-then-none
 returns c =
     let s = c.before.before.before.before.before.before in
-    let t = c.before.tight-set in
-    divided-void s.requires.0 s.requires.4 t.result t.ensures c.if1.true s.args.out.now s.args.s s.requires.1
+    let t = c.before.tight_set-t in
+    divided-void s.requires.0 s.requires.4 t.result t.ensures c.if-none.true s.args.out.now s.args.s s.requires.1
 
-cut-all-requires : tie.Need-cut-all-requires
+cut-all-requires : tie.Need-cut_all-requires
 cut-all-requires c κs =
     let e = asked c in
     let s = start e in
-    let t = e.before.tight-set in
-    (first-level s.args.p t.result t.ensures e.if1.left s.pre.0, s.pre.1, s.pre.2, s.pre.3, λ z. divided-tight s.args.p t.result t.ensures e.if1.left)
+    let t = e.before.tight_set-t in
+    (first-level s.args.p t.result t.ensures e.if-none.left s.pre.0, s.pre.1, s.pre.2, s.pre.3, λ z. divided-tight s.args.p t.result t.ensures e.if-none.left)
 
-same_length : tie.Need-same-length
+same_length : tie.Need-shape_of-out
 same_length c = search rules
 
-same-length-2 : tie.Need-same-length-2
+same-length-2 : tie.Need-shape_of-rows
 same-length-2 c = search rules
 
-same-length-3 : tie.Need-same-length-3
+same-length-3 : tie.Need-shape_of-place
 same-length-3 c = search rules
 
-same-length-4 : tie.Need-same-length-4
+same-length-4 : tie.Need-shape_of-kinds
 same-length-4 c = search rules
 
-same-length-5 : tie.Need-same-length-5
+same-length-5 : tie.Need-shape_of-past
 same-length-5 c = search rules
 
-same-length-6 : tie.Need-same-length-6
+same-length-6 : tie.Need-shape_of-spare
 same-length-6 c = search rules
 
-returns-2 : tie.Need-returns-2
+returns-2 : tie.Need-returns
 returns-2 c =
     let k = c.before.before.before.before.before.before.before.before.before in
     let e = asked k.before in
     let s = start e in
-    let t = e.before.tight-set in
-    divided-cut s.pre.0 s.pre.4 t.result t.ensures e.if1.left k.Cut-all.ensures
+    let t = e.before.tight_set-t in
+    divided-cut s.pre.0 s.pre.4 t.result t.ensures e.if-none.left k.Cut-all.ensures
 
 pub cut_divided_spec : {M : Type 1} → statement M
 cut_divided_spec =

@@ -18,76 +18,76 @@ use Rattle.records.proofs.decode_basic.Reads as decode-basic-reads
 use Rattle.codec.proofs.count.Reads as count-reads
 use Rattle.subtraction.proofs.levels.cut_first.Reads as cut-first-reads
 
-abbrev invariant-loop : tie.invariant-loop
+abbrev invariant-loop : tie.invariant-loop-pos
 invariant-loop a b out₀ left rows₀ place₀ kinds₀ past₀ spare₀ t₀ pos₀ out rows place kinds past spare t pos = Along (Decodes b) (cut_all keeps (set_from b 0)) (cut_all_fits keeps (set_from b 0)) a out₀ t₀ rows place kinds out t pos × Spares past spare
 
-abbrev decreases-loop : tie.decreases-loop
+abbrev decreases-loop : tie.decreases-loop-pos
 decreases-loop a b out₀ left rows₀ place₀ kinds₀ past₀ spare₀ t₀ pos₀ out rows place kinds past spare t pos = length a - pos
 
-count-requires : tie.Need-count-requires invariant-loop decreases-loop
+count-requires : tie.Need-count-left-requires invariant-loop decreases-loop
 count-requires c κs = search rules
 
-loop-holds : tie.Need-loop-init invariant-loop decreases-loop
+loop-holds : tie.Need-loop-pos-init invariant-loop decreases-loop
 loop-holds c =
     let st = c.before.before.before.before in
     (along-start (record { zero = st.requires.second }) (boundary_start st.requires.n st.args.a.now st.requires.first) (record { high = refl; long = refl; wide = refl }) nothing-ready, record { many = refl; high = refl })
 
-add-decode-basic : tie.Need-overflow-add-decode-basic invariant-loop decreases-loop
-add-decode-basic c = omega (arith, c.loop-test.true)
+add-decode-basic : tie.Need-overflow_add-pos invariant-loop decreases-loop
+add-decode-basic c = omega (arith, c.loop-pos-test.true)
 
-decode-basic-requires : tie.Need-decode-basic-requires invariant-loop decreases-loop
-decode-basic-requires c κs = along-opened c.before.loop.invariant.0 c.loop-test.true
+decode-basic-requires : tie.Need-decode_basic-p-requires invariant-loop decreases-loop
+decode-basic-requires c κs = along-opened c.before.loop-pos.invariant.0 c.loop-pos-test.true
 
-slice-aggregate-cut-first : tie.Need-slice-aggregate-cut-first invariant-loop decreases-loop
-slice-aggregate-cut-first c = sym c.before.before.before.before.loop.invariant.0.tables.high
+slice-aggregate-cut-first : tie.Need-slice_bounds-cut_first-end invariant-loop decreases-loop
+slice-aggregate-cut-first c = sym c.before.before.before.before.loop-pos.invariant.0.tables.high
 
-slice-aggregate-cut-first-2 : tie.Need-slice-aggregate-cut-first-2 invariant-loop decreases-loop
-slice-aggregate-cut-first-2 c = sym c.before.before.before.before.before.loop.invariant.0.tables.long
+slice-aggregate-cut-first-2 : tie.Need-slice_bounds-cut_first-end-in-loop-pos invariant-loop decreases-loop
+slice-aggregate-cut-first-2 c = sym c.before.before.before.before.before.loop-pos.invariant.0.tables.long
 
-slice-aggregate-cut-first-3 : tie.Need-slice-aggregate-cut-first-3 invariant-loop decreases-loop
-slice-aggregate-cut-first-3 c = sym c.before.before.before.before.before.before.loop.invariant.0.tables.wide
+slice-aggregate-cut-first-3 : tie.Need-slice_bounds-cut_first-end-in-loop-pos-2 invariant-loop decreases-loop
+slice-aggregate-cut-first-3 c = sym c.before.before.before.before.before.before.loop-pos.invariant.0.tables.wide
 
-slice-aggregate-cut-first-4 : tie.Need-slice-aggregate-cut-first-4 invariant-loop decreases-loop
-slice-aggregate-cut-first-4 c = sym c.before.before.before.before.before.before.before.loop.invariant.1.many
+slice-aggregate-cut-first-4 : tie.Need-slice_bounds-cut_first-end-in-loop-pos-3 invariant-loop decreases-loop
+slice-aggregate-cut-first-4 c = sym c.before.before.before.before.before.before.before.loop-pos.invariant.1.many
 
-slice-aggregate-cut-first-5 : tie.Need-slice-aggregate-cut-first-5 invariant-loop decreases-loop
-slice-aggregate-cut-first-5 c = sym c.before.before.before.before.before.before.before.before.loop.invariant.1.high
+slice-aggregate-cut-first-5 : tie.Need-slice_bounds-cut_first-end-in-loop-pos-4 invariant-loop decreases-loop
+slice-aggregate-cut-first-5 c = sym c.before.before.before.before.before.before.before.before.loop-pos.invariant.1.high
 
-cut-first-requires : tie.Need-cut-first-requires invariant-loop decreases-loop
+cut-first-requires : tie.Need-cut_first-t-requires invariant-loop decreases-loop
 cut-first-requires c κs =
     let st = c.before.before.before.before.before.before.before.before in
     let a = c.before.before.before.before.before.before.before.before.before.before.before.before.before.args in
-    let x = st.loop.invariant.0 in
-    let d = c.before.before.before.before.before.before.decode-basic.ensures in
-    let v = along-valid x c.before.before.before.before.before.before.before.loop-test.true d (bytes_of a.a.now (λ i. (c.before.before.before.before.before.before.before.before.before.before.before.before.shared-slice-known.given i).fits)) in
-    (level-start (bytes_of a.b.now (λ i. (c.before.before.before.before.before.before.before.before.before.before.before.shared-slice-known2.given i).fits)) x.known v d.divs d.cons c.before.before.before.before.before.before.before.before.before.count.ensures, x.onward.ready, x.tables, st.loop.invariant.1)
+    let x = st.loop-pos.invariant.0 in
+    let d = c.before.before.before.before.before.before.decode_basic-p.ensures in
+    let v = along-valid x c.before.before.before.before.before.before.before.loop-pos-test.true d (bytes_of a.a.now (λ i. (c.before.before.before.before.before.before.before.before.before.before.before.before.shared_slice_known-1.given i).fits)) in
+    (level-start (bytes_of a.b.now (λ i. (c.before.before.before.before.before.before.before.before.before.before.before.shared_slice_known-2-1.given i).fits)) x.known v d.divs d.cons c.before.before.before.before.before.before.before.before.before.count-left.ensures, x.onward.ready, x.tables, st.loop-pos.invariant.1)
 
-same_length : tie.Need-same-length invariant-loop decreases-loop
-same_length c = c.before.before.before.before.before.before.before.before.cut-first.auto.1.1.1.0 ∙ c.before.before.before.before.before.before.before.before.before.before.before.before.before.before.before.before.before.loop.invariant.0.same
+same_length : tie.Need-shape_of-out-then-not-on invariant-loop decreases-loop
+same_length c = c.before.before.before.before.before.before.before.before.cut_first-t.auto.1.1.1.0 ∙ c.before.before.before.before.before.before.before.before.before.before.before.before.before.before.before.before.before.loop-pos.invariant.0.same
 
-returns : tie.Need-returns invariant-loop decreases-loop
-returns c = let m = c.before.before.before.before.before.before.before.before.cut-first in let a = c.before.before.before.before.before.before.before.before.before.before.before.before.before.before.before.before.before.before.before.before.before.before.args in difference-made (set_from a.a.now 0) (set_from a.b.now 0) (along-stop c.before.before.before.before.before.before.before.before.before.before.before.before.before.before.before.before.before.loop.invariant.0 c.before.before.before.before.before.before.before.before.before.before.before.before.before.before.before.before.loop-test.true c.before.before.before.before.before.before.before.before.before.before.before.before.before.before.before.decode-basic.ensures m.ensures (not-true m.result.fits c.if1.true))
+returns : tie.Need-returns-then-not-on invariant-loop decreases-loop
+returns c = let m = c.before.before.before.before.before.before.before.before.cut_first-t in let a = c.before.before.before.before.before.before.before.before.before.before.before.before.before.before.before.before.before.before.before.before.before.before.args in difference-made (set_from a.a.now 0) (set_from a.b.now 0) (along-stop c.before.before.before.before.before.before.before.before.before.before.before.before.before.before.before.before.before.loop-pos.invariant.0 c.before.before.before.before.before.before.before.before.before.before.before.before.before.before.before.before.loop-pos-test.true c.before.before.before.before.before.before.before.before.before.before.before.before.before.before.before.decode_basic-p.ensures m.ensures (not-true m.result.fits c.if-not-on.true-raw))
 
-add-end-of : tie.Need-overflow-add-end-of invariant-loop decreases-loop
-add-end-of c = let g = c.before.before.before.before.before.before.before.before.before.before.before.before.before.before.before.before.before.before.before.before.before.before.well-formed.0 in omega (arith, c.before.before.before.before.before.before.before.before.before.before.before.before.before.before.before.before.loop-test.true)
+add-end-of : tie.Need-overflow_add-pos-in-loop-pos invariant-loop decreases-loop
+add-end-of c = let g = c.before.before.before.before.before.before.before.before.before.before.before.before.before.before.before.before.before.before.before.before.before.before.well-formed.0 in omega (arith, c.before.before.before.before.before.before.before.before.before.before.before.before.before.before.before.before.loop-pos-test.true)
 
-end-of-requires : tie.Need-end-of-requires invariant-loop decreases-loop
-end-of-requires c κs = along-opened c.before.before.before.before.before.before.before.before.before.before.before.before.before.before.before.before.before.loop.invariant.0 c.before.before.before.before.before.before.before.before.before.before.before.before.before.before.before.before.loop-test.true
+end-of-requires : tie.Need-end_of-pos-requires invariant-loop decreases-loop
+end-of-requires c κs = along-opened c.before.before.before.before.before.before.before.before.before.before.before.before.before.before.before.before.before.loop-pos.invariant.0 c.before.before.before.before.before.before.before.before.before.before.before.before.before.before.before.before.loop-pos-test.true
 
-loop-less : tie.Need-loop-smaller invariant-loop decreases-loop
-loop-less c = let h = c.before.before.before.before.before.before.before.before.before.before.before.before.before.before.before.before.before.loop-test.true in omega (arith, c.end_of_lem.ensures)
+loop-less : tie.Need-loop-pos-smaller invariant-loop decreases-loop
+loop-less c = let h = c.before.before.before.before.before.before.before.before.before.before.before.before.before.before.before.before.before.loop-pos-test.true in omega (arith, c.end_of_lem.ensures)
 
-loop-again : tie.Need-loop-preserved invariant-loop decreases-loop
+loop-again : tie.Need-loop-pos-preserved invariant-loop decreases-loop
 loop-again c =
     let st = c.before.before.before.before.before.before.before.before.before.before.before.before.before.before.before.before.before.before in
-    let m = c.before.before.before.before.before.before.before.before.before.cut-first in
-    (along-next st.loop.invariant.0 c.before.before.before.before.before.before.before.before.before.before.before.before.before.before.before.before.before.loop-test.true c.before.before.before.before.before.before.before.before.before.before.before.before.before.before.before.before.decode-basic.ensures m.ensures _ c.end_of_lem.ensures m.auto.1.1.1.0 m.auto.1.1.1.1.1.0 m.auto.1.1.1.1.1.1.0 m.auto.1.1.1.1.1.1.1.0 (not-false m.result.fits c.before.if1.false), record { many = m.auto.1.1.1.1.1.1.1.1.0 ∙ st.loop.invariant.1.many; high = m.auto.1.1.1.1.1.1.1.1.1.0 ∙ st.loop.invariant.1.high })
+    let m = c.before.before.before.before.before.before.before.before.before.cut_first-t in
+    (along-next st.loop-pos.invariant.0 c.before.before.before.before.before.before.before.before.before.before.before.before.before.before.before.before.before.loop-pos-test.true c.before.before.before.before.before.before.before.before.before.before.before.before.before.before.before.before.decode_basic-p.ensures m.ensures _ c.end_of_lem.ensures m.auto.1.1.1.0 m.auto.1.1.1.1.1.0 m.auto.1.1.1.1.1.1.0 m.auto.1.1.1.1.1.1.1.0 (not-false m.result.fits c.before.if-not-on.false-raw), record { many = m.auto.1.1.1.1.1.1.1.1.0 ∙ st.loop-pos.invariant.1.many; high = m.auto.1.1.1.1.1.1.1.1.1.0 ∙ st.loop-pos.invariant.1.high })
 
-same-length-2 : tie.Need-same-length-2 invariant-loop decreases-loop
-same-length-2 c = c.before.loop.invariant.0.same
+same-length-2 : tie.Need-shape_of-out invariant-loop decreases-loop
+same-length-2 c = c.before.loop-pos.invariant.0.same
 
-returns-2 : tie.Need-returns-2 invariant-loop decreases-loop
-returns-2 c = let a = c.before.before.before.before.before.before.args in difference-made (set_from a.a.now 0) (set_from a.b.now 0) (along-end c.before.loop.invariant.0 c.loop-test.false)
+returns-2 : tie.Need-returns invariant-loop decreases-loop
+returns-2 c = let a = c.before.before.before.before.before.before.args in difference-made (set_from a.a.now 0) (set_from a.b.now 0) (along-end c.before.loop-pos.invariant.0 c.loop-pos-test.false)
 
 pub subtract_spec : {M : Type 1} → statement M
 subtract_spec =

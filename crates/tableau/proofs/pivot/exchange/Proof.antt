@@ -60,19 +60,19 @@ module _ (o : tie.After-solve) where
   q-is : q ≡ set p 0 (pos 0)
   q-is = ap (λ r. set r 0 (pos 0)) copied
 
-abbrev solving : tie.After-t → tie.After-solve
+abbrev solving : tie.After-t-1 → tie.After-solve
 solving c = c.before.before.before.before.before.before
 
-count : (c : tie.After-t) → c.before.sweep.result + 1 ≡ touched (j (solving c)) (t (solving c))
+count : (c : tie.After-t-1) → c.before.sweep.result + 1 ≡ touched (j (solving c)) (t (solving c))
 count c =
     let o = solving c in
     let e = ap (touched (j o)) (set-set (t o) (i o) (p o) []) in
     omega (arith, c.before.sweep.ensures.1, touched-others (j o) (i o) (t o) (d o).row (d o).cross)
 
-mul-solve : tie.Need-overflow-mul-solve
+mul-solve : tie.Need-offset_bounds-t-i
 mul-solve c = search rules
 
-index-1-solve : tie.Need-bounds-1-solve
+index-1-solve : tie.Need-bounds-t-i
 index-1-solve c = search rules
 
 solve-requires : tie.Need-solve-requires
@@ -81,16 +81,16 @@ solve-requires c κs =
     let w = d.rows c.before.args.i d.row in
     (d.col, (w.line, (w.small d.cross, d.cross)))
 
-mul-p : tie.Need-overflow-mul-p
+mul-p : tie.Need-offset_bounds-t-i-2
 mul-p c = search rules
 
-slice-copy-out-p : tie.Need-slice-copy-out-p
+slice-copy-out-p : tie.Need-slice_copy_out-p
 slice-copy-out-p c = search rules
 
-array-copy-out-m : tie.Need-array-copy-out-m
+array-copy-out-m : tie.Need-bounds-p-0
 array-copy-out-m c = search rules
 
-array-set-of-p : tie.Need-array-set-of-p
+array-set-of-p : tie.Need-array_set_of-p
 array-set-of-p c = search rules
 
 sweep-requires : tie.Need-sweep-requires
@@ -106,7 +106,7 @@ sweep-requires c κs =
       rw (m-is o, q-is o) (divisor-of (n o) (p o) (solved o)),
     )
 
-add-result : tie.Need-overflow-add-result
+add-result : tie.Need-overflow_add-result
 add-result c = let o = solving c in record { fits = omega (arith, count c, touched-le (j o) (t o), (d o).count) }
 
 returns : tie.Need-returns
@@ -118,7 +118,7 @@ returns c =
       count c,
     )
 
-same_length : tie.Need-same-length
+same_length : tie.Need-shape_of-t
 same_length c = let o = solving c in ap length (returns c).0 ∙ exchange-length (t o) (i o) (j o)
 
 pub exchange_spec : {M : Type 1} → statement M

@@ -18,15 +18,15 @@ use Rattle.tableau.proofs.pivot.sweep.Reads as reads
 use Rattle.tableau.proofs.pivot.sweep.Lts as lts
 use Rattle.tableau.proofs.pivot.rebuild.Reads as rebuild-reads
 
-abbrev invariant-loop : tie.invariant-loop
+abbrev invariant-loop : tie.invariant-loop-k
 invariant-loop t₀ n i j m q built₀ k₀ t built k =
     (k ≤ length t₀) × (t ≡ up_to (but i (rebuild_of j (to_z w64 m) q)) k t₀) × (built + touched j (drop k (set t₀ i [])) ≡ touched j (set t₀ i []))
 
-abbrev decreases-loop : tie.decreases-loop
+abbrev decreases-loop : tie.decreases-loop-k
 decreases-loop t₀ n i j m q built₀ k₀ t built k = length t₀ - k
 
 -- row k is looked at
-module _ (c : tie.In-loop invariant-loop decreases-loop) where
+module _ (c : tie.In-loop-k invariant-loop decreases-loop) where
   abbrev i : ℕ
   i = c.before.before.args.i
 
@@ -71,44 +71,44 @@ module _ (c : tie.In-loop invariant-loop decreases-loop) where
       ap (λ (n : ℕ). rebuilt j (get_or (set t₀ i []) n [])) e ∙ ap (rebuilt j) (get_or-set_same t₀ i [] [] (omega arith))
 
 -- it is another than row i
-module _ (c : tie.After-rebuild invariant-loop decreases-loop) where
-  abbrev u : tie.In-loop invariant-loop decreases-loop
+module _ (c : tie.After-rebuild-built invariant-loop decreases-loop) where
+  abbrev u : tie.In-loop-k invariant-loop decreases-loop
   u = c.before.before.before
 
   counted : c.rebuild.result ≡ rebuilt (j u) (get_or (set (t₀ u) (i u) []) (k u) [])
   counted =
       c.rebuild.ensures.1 ∙ ap (rebuilt (j u)) (same u ∙ sym (get_or-set_other (t₀ u) (i u) (k u) [] [] c.before.before.if1.true))
 
-loop-holds : tie.Need-loop-init invariant-loop decreases-loop
+loop-holds : tie.Need-loop-k-init invariant-loop decreases-loop
 loop-holds c = (omega arith, up_to-none _ _, omega arith)
 
-mul-rebuild : tie.Need-overflow-mul-rebuild invariant-loop decreases-loop
+mul-rebuild : tie.Need-offset_bounds-t-k invariant-loop decreases-loop
 mul-rebuild c = search rules
 
-index-1-rebuild : tie.Need-bounds-1-rebuild invariant-loop decreases-loop
-index-1-rebuild c = c.before.loop-test.true
+index-1-rebuild : tie.Need-bounds-t-k invariant-loop decreases-loop
+index-1-rebuild c = c.before.loop-k-test.true
 
-rebuild-requires : tie.Need-rebuild-requires invariant-loop decreases-loop
+rebuild-requires : tie.Need-rebuild-built-requires invariant-loop decreases-loop
 rebuild-requires c κs =
     let u = c.before.before in
     let s = u.before.before in
-    rw (same u, to_z-of_z s.ranges.m) (s.requires.0, (s.requires.2 (k u) (within u) c.before.if1.true, s.requires.3))
+    rw (same u, to_z-of_z s.ranges.m) (s.requires.0, (s.requires.2 (k u) (within u) c.before.if-k-i.true, s.requires.3))
 
-add-built : tie.Need-overflow-add-built invariant-loop decreases-loop
+add-built : tie.Need-overflow_add-built invariant-loop decreases-loop
 add-built c =
     let v = u c in
     record { fits = omega (arith, counted c, step v, touched-le (j v) (set (t₀ v) (i v) []), length-set (t₀ v) (i v) [], v.before.before.pre.1, v.before.loop.inv.2) }
 
-add-k : tie.Need-overflow-add-k invariant-loop decreases-loop
+add-k : tie.Need-overflow_add-k invariant-loop decreases-loop
 add-k c = search rules
 
-loop-less : tie.Need-loop-smaller invariant-loop decreases-loop
+loop-less : tie.Need-loop-k-smaller invariant-loop decreases-loop
 loop-less c = omega (arith, within c.before)
 
-loop-again : tie.Need-loop-preserved invariant-loop decreases-loop
+loop-again : tie.Need-loop-k-preserved invariant-loop decreases-loop
 loop-again c =
     let v = c.before in
-    let l = v.before.loop in
+    let l = v.before.loop-k in
     let h = within v in
     ⊎_elim
     (λ w.
@@ -122,15 +122,15 @@ loop-again c =
       w.1 ∙ passed v w.0.left,
       omega (arith, w.2, uncounted v w.0.left, step v, l.invariant.2),
     ))
-    c.if1.branch
+    c.if-k-i.branch
 
-same_length : tie.Need-same-length invariant-loop decreases-loop
-same_length c = ap length c.before.loop.invariant.1 ∙ up_to-length _ c.before.loop.k c.before.before.args.t.now
+same_length : tie.Need-shape_of-t invariant-loop decreases-loop
+same_length c = ap length c.before.loop-k.invariant.1 ∙ up_to-length _ c.before.loop-k.k c.before.before.args.t.now
 
 returns : tie.Need-returns invariant-loop decreases-loop
 returns c =
     let s = c.before.before in
-    let l = c.before.loop in
+    let l = c.before.loop-k in
     let t = s.args.t.now in
     let i = s.args.i in
     let f = rebuild_of s.args.j (to_z w64 (of_z w64 s.args.m)) s.args.q.now in

@@ -11,8 +11,8 @@ use Rattle.tableau.proofs.row.divisor_with.Lts as lts
 use Rattle.integers.proofs.gcd.Reads as gcd-reads
 use Rattle.integers.proofs.magnitude.Reads as magnitude-reads
 
-returns : tie.Need-returns
-returns c = let s = c.before in sym (gcd-one (nat_abs s.args.x)) ∙ ap (gcd (nat_abs s.args.x)) (sym c.if1.true)
+returns : tie.Need-returns-then-g-eq1
+returns c = let s = c.before in sym (gcd-one (nat_abs s.args.x)) ∙ ap (gcd (nat_abs s.args.x)) (sym c.if-g-eq1.true)
 
 magnitude-requires : tie.Need-magnitude-requires
 magnitude-requires c κs = search rules
@@ -20,7 +20,7 @@ magnitude-requires c κs = search rules
 gcd-requires : tie.Need-gcd-requires
 gcd-requires c κs = search rules
 
-returns-2 : tie.Need-returns-2
+returns-2 : tie.Need-returns
 returns-2 c =
     let s = c.before.before.before in
     c.gcd.ensures ∙ ap (λ n. gcd n s.args.g) (c.before.magnitude.ensures ∙ ap nat_abs (to_z-of_z s.ranges.x))

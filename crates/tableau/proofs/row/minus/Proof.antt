@@ -12,57 +12,57 @@ use Rattle.tableau.proofs.row.minus.Tie as tie
 use Rattle.tableau.proofs.row.minus.Reads as reads
 use Rattle.tableau.proofs.row.minus.Lts as lts
 
-abbrev invariant-loop : tie.invariant-loop
+abbrev invariant-loop : tie.invariant-loop-i
 invariant-loop r₀ q i₀ r i = (i ≤ 18) × (r ≡ up_to (mul_sub (pos 1) (pos 1) q) i r₀)
 
-abbrev decreases-loop : tie.decreases-loop
+abbrev decreases-loop : tie.decreases-loop-i
 decreases-loop r₀ q i₀ r i = 18 - i
 
-loop-holds : tie.Need-loop-init invariant-loop decreases-loop
+loop-holds : tie.Need-loop-i-init invariant-loop decreases-loop
 loop-holds c = (omega arith, up_to-none _ _)
 
-mul-x : tie.Need-overflow-mul-x invariant-loop decreases-loop
+mul-x : tie.Need-offset_bounds-r-i invariant-loop decreases-loop
 mul-x c = search rules
 
-element-copy-out-x : tie.Need-element-copy-out-x invariant-loop decreases-loop
+element-copy-out-x : tie.Need-bounds-r-i invariant-loop decreases-loop
 element-copy-out-x c = search rules
 
-mul-y : tie.Need-overflow-mul-y invariant-loop decreases-loop
+mul-y : tie.Need-offset_bounds-q-i invariant-loop decreases-loop
 mul-y c = search rules
 
-element-copy-out-y : tie.Need-element-copy-out-y invariant-loop decreases-loop
+element-copy-out-y : tie.Need-bounds-q-i invariant-loop decreases-loop
 element-copy-out-y c = search rules
 
-sub-r : tie.Need-overflow-sub-r invariant-loop decreases-loop
+sub-r : tie.Need-overflow_sub-r invariant-loop decreases-loop
 sub-r c =
     let s = c.before.before.before.before in
-    let l = c.before.before.before.loop in
-    let x = to_z-of_z {w = w64} {z = get_or l.r l.i (pos 0)} (record { sfits = c.before.x.given }) in
-    let y = to_z-of_z {w = w64} {z = get_or s.args.q.now l.i (pos 0)} (record { sfits = c.y.given }) in
+    let l = c.before.before.before.loop-i in
+    let x = to_z-of_z {w = w64} {z = get_or l.r l.i (pos 0)} (record { sfits = c.before.x-1.given }) in
+    let y = to_z-of_z {w = w64} {z = get_or s.args.q.now l.i (pos 0)} (record { sfits = c.y-1.given }) in
     let e : get_or l.r l.i (pos 0) ≡ get_or s.args.r.now l.i (pos 0) =
     ap (λ t. get_or t l.i (pos 0)) l.invariant.1 ∙ up_to-next _ l.i s.args.r.now (pos 0) in
     rw (x, y, e) (difference-fits (s.requires.2 l.i) (s.requires.3 l.i))
 
-mul-t7 : tie.Need-overflow-mul-t7 invariant-loop decreases-loop
+mul-t7 : tie.Need-offset_bounds-r-i-in-loop-i invariant-loop decreases-loop
 mul-t7 c = search rules
 
-element-set-from-r : tie.Need-element-set-from-r invariant-loop decreases-loop
+element-set-from-r : tie.Need-bounds-r-i-in-loop-i invariant-loop decreases-loop
 element-set-from-r c = search rules
 
-add-i : tie.Need-overflow-add-i invariant-loop decreases-loop
+add-i : tie.Need-overflow_add-i invariant-loop decreases-loop
 add-i c = search rules
 
-loop-less : tie.Need-loop-smaller invariant-loop decreases-loop
+loop-less : tie.Need-loop-i-smaller invariant-loop decreases-loop
 loop-less c = search rules
 
-loop-again : tie.Need-loop-preserved invariant-loop decreases-loop
+loop-again : tie.Need-loop-i-preserved invariant-loop decreases-loop
 unfolding mul_sub
 loop-again c =
     let s = c.before.before.before.before in
-    let l = c.before.before.before.loop in
+    let l = c.before.before.before.loop-i in
     let q = s.args.q.now in
-    let x = to_z-of_z {w = w64} {z = get_or l.r l.i (pos 0)} (record { sfits = c.before.x.given }) in
-    let y = to_z-of_z {w = w64} {z = get_or q l.i (pos 0)} (record { sfits = c.y.given }) in
+    let x = to_z-of_z {w = w64} {z = get_or l.r l.i (pos 0)} (record { sfits = c.before.x-1.given }) in
+    let y = to_z-of_z {w = w64} {z = get_or q l.i (pos 0)} (record { sfits = c.y-1.given }) in
     let e : get_or l.r l.i (pos 0) ≡ get_or s.args.r.now l.i (pos 0) =
     ap (λ t. get_or t l.i (pos 0)) l.invariant.1 ∙ up_to-next _ l.i s.args.r.now (pos 0) in
     let z = to_z-of_z (difference-fits (s.requires.2 l.i) (s.requires.3 l.i)) ∙ minus-step (get_or s.args.r.now l.i (pos 0)) (get_or q l.i (pos 0)) in
@@ -72,7 +72,7 @@ loop-again c =
 returns : tie.Need-returns invariant-loop decreases-loop
 returns c =
     let s = c.before.before in
-    let l = c.before.loop in
+    let l = c.before.loop-i in
     l.invariant.1 ∙ up_to-combine (pos 1) (pos 1) 18 l.i s.args.r.now s.args.q.now s.requires.0 s.requires.1 (omega arith) (omega arith)
 
 pub minus_spec : {M : Type 1} → statement M

@@ -7,7 +7,7 @@ use Rattle.tableau.proofs.row.quotient.Tie as tie
 use Rattle.tableau.proofs.row.quotient.Reads as reads
 use Rattle.tableau.proofs.row.quotient.Lts as lts
 
-div-result : tie.Need-nonzero-div-result
+div-result : tie.Need-nonzero_div-result
 div-result c = simp (to_z-of_z c.ranges.x, to_z-of_z c.ranges.d) (divisor-pos w64 c.requires, quot_fits c.ranges.x c.requires)
 
 returns : tie.Need-returns

@@ -16,28 +16,28 @@ use Rattle.tableau.proofs.row.both_one.Reads as both-one-reads
 use Rattle.tableau.proofs.row.combine.Reads as combine-reads
 use Rattle.tableau.proofs.row.reduce_by.Reads as reduce-by-reads
 
-add-b : tie.Need-overflow-add-b
+add-b : tie.Need-overflow_add-b
 add-b c = search rules
 
-mul-b : tie.Need-overflow-mul-b
+mul-b : tie.Need-offset_bounds-r-j
 mul-b c = search rules
 
-element-copy-out-b : tie.Need-element-copy-out-b
+element-copy-out-b : tie.Need-bounds-r-j
 element-copy-out-b c = search rules
 
-add_r : tie.Need-overflow-add-r
+add_r : tie.Need-overflow_add-r
 add_r c = search rules
 
-mul-r : tie.Need-overflow-mul-r
+mul-r : tie.Need-offset_bounds-r-j-2
 mul-r c = search rules
 
-element-set-of-r : tie.Need-element-set-of-r
+element-set-of-r : tie.Need-bounds-r-j-2
 element-set-of-r c = search rules
 
-element-copy-out-d : tie.Need-element-copy-out-d
+element-copy-out-d : tie.Need-bounds-r-0
 element-copy-out-d c = search rules
 
-both-one-requires : tie.Need-both-one-requires
+both-one-requires : tie.Need-both_one-requires
 both-one-requires c κs = search rules
 
 add-requires : tie.Need-add-requires
@@ -48,7 +48,7 @@ add-requires c κs =
     rw (back (wider h))
     (clear-line s.args.n s.args.r.now (s.args.j + 2) hr, hq, set-small (bound 64) s.args.r.now (s.args.j + 2) (pos 0) (record { size = zero-le }) wr, wq, h)
 
-returns : tie.Need-returns
+returns : tie.Need-returns-then-both_one
 unfolding replace_of
 returns c =
     let s = c.before.before.before.before.before.before in
@@ -57,7 +57,7 @@ returns c =
     let b = get_or s.args.r.now (s.args.j + 2) (pos 0) in
     let l = set s.args.r.now (s.args.j + 2) (pos 0) in
     let q = s.args.q.now in
-    let ones = c.before.before.before.both_one.ensures c.before.before.if1.true in
+    let ones = c.before.before.before.both_one.ensures c.before.before.if-both_one.true in
     let m : s.args.m ≡ pos 1 = sym (to_z-of_z s.ranges.m) ∙ ones.0 in
     let d : get_or l 0 (pos 0) ≡ pos 1 = set-den s.args.r.now s.args.j (pos 0) ∙ sym (back (wider (wr 0))) ∙ ones.1 in
     c.add.ensures
@@ -65,14 +65,14 @@ returns c =
     ∙ sym (one-lowest (combine_of s.args.m (pos 0 -ℤ b) l q)
     (combine-one s.args.n s.args.m (pos 0 -ℤ b) l q (clear-line s.args.n s.args.r.now (s.args.j + 2) hr) hq m d hz))
 
-sub-combine : tie.Need-overflow-sub-combine
+sub-combine : tie.Need-overflow_sub-b
 sub-combine c =
     let s = c.before.before.before.before.before in
     let (hj, (hr, (hq, (wr, rest)))) = s.requires in
     let h = wr (s.args.j + 2) in
     rw (back (wider h)) (fits (within-minus (wider h)))
 
-combine-requires : tie.Need-combine-requires
+combine-requires : tie.Need-combine-g-requires
 combine-requires c κs =
     let s = c.before.before.before.before.before in
     let (hj, (hr, (hq, (wr, (wq, (hz, (hm, (pm, pd)))))))) = s.requires in
@@ -80,7 +80,7 @@ combine-requires c κs =
     rw (minus-back (get_or s.args.r.now (s.args.j + 2) (pos 0)) h, to_z-of_z s.ranges.m)
     (clear-line s.args.n s.args.r.now (s.args.j + 2) hr, (hq, (set-small (bound 64) s.args.r.now (s.args.j + 2) (pos 0) (record { size = zero-le }) wr, (wq, (hm, within-minus h)))))
 
-reduce-by-requires : tie.Need-reduce-by-requires
+reduce-by-requires : tie.Need-reduce_by-requires
 reduce-by-requires c κs =
     let s = c.before.before.before.before.before.before.before in
     let (hj, (hr, (hq, (wr, (wq, (hz, (hm, (pm, pd)))))))) = s.requires in
@@ -90,9 +90,9 @@ reduce-by-requires c κs =
     let l = set s.args.r.now (s.args.j + 2) (pos 0) in
     let q = s.args.q.now in
     let hl = clear-line s.args.n s.args.r.now (s.args.j + 2) hr in
-    let e : c.before.combine.new.0 ≡ combine_of m b l q =
-    c.before.combine.ensures.0 ∙ ap₂ (λ m b. combine_of m b l q) (to_z-of_z s.ranges.m) (minus-back (get_or s.args.r.now (s.args.j + 2) (pos 0)) h) in
-    let g : c.before.combine.result ≡ divisor (combine_of m b l q) = c.before.combine.ensures.1 ∙ ap divisor e in
+    let e : c.before.combine-g.new.0 ≡ combine_of m b l q =
+    c.before.combine-g.ensures.0 ∙ ap₂ (λ m b. combine_of m b l q) (to_z-of_z s.ranges.m) (minus-back (get_or s.args.r.now (s.args.j + 2) (pos 0)) h) in
+    let g : c.before.combine.result ≡ divisor (combine_of m b l q) = c.before.combine-g.ensures.1 ∙ ap divisor e in
     rw e (
       combine-line s.args.n m b l q hl hq,
       (
@@ -101,14 +101,14 @@ reduce-by-requires c κs =
       ),
     )
 
-returns-2 : tie.Need-returns-2
+returns-2 : tie.Need-returns
 unfolding replace_of
 returns-2 c =
     let s = c.before.before.before.before.before.before.before.before in
-    let h = s.requires.1.1.1.0 (s.args.j + 2) in
+    let h = s.requires.line.1.1.0 (s.args.j + 2) in
     let l = set s.args.r.now (s.args.j + 2) (pos 0) in
-    c.reduce-by.ensures
-    ∙ ap reduce_of (c.before.before.combine.ensures.0 ∙ ap₂ (λ m b. combine_of m b l s.args.q.now) (to_z-of_z s.ranges.m) (minus-back (get_or s.args.r.now (s.args.j + 2) (pos 0)) h))
+    c.reduce_by.ensures
+    ∙ ap reduce_of (c.before.before.combine-g.ensures.0 ∙ ap₂ (λ m b. combine_of m b l s.args.q.now) (to_z-of_z s.ranges.m) (minus-back (get_or s.args.r.now (s.args.j + 2) (pos 0)) h))
 
 pub replace_spec : {M : Type 1} → statement M
 replace_spec =

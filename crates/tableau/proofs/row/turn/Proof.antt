@@ -13,68 +13,68 @@ use Rattle.tableau.proofs.row.turn.Reads as reads
 use Rattle.tableau.proofs.row.turn.Lts as lts
 use Rattle.tableau.proofs.row.negate.Reads as negate-reads
 
-add_a : tie.Need-overflow-add-a
+add_a : tie.Need-overflow_add-a
 add_a c = search rules
 
-mul-a : tie.Need-overflow-mul-a
+mul-a : tie.Need-offset_bounds-r-j
 mul-a c = search rules
 
-element-copy-out-a : tie.Need-element-copy-out-a
+element-copy-out-a : tie.Need-bounds-r-j
 element-copy-out-a c = search rules
 
-element-copy-out-d : tie.Need-element-copy-out-d
+element-copy-out-d : tie.Need-bounds-r-0
 element-copy-out-d c = search rules
 
-sub-r : tie.Need-overflow-sub-r
+sub-r : tie.Need-overflow_sub-r
 sub-r c =
     let s = c.before.before.before in
     let r = s.args.r.now in
     let j = s.args.j in
     let a = get_or r (j + 2) (pos 0) in
     let d = get_or r 0 (pos 0) in
-    let ha = s.requires.1.1 (j + 2) in
-    let hd = s.requires.1.1 0 in
+    let ha = s.requires.line.1 (j + 2) in
+    let hd = s.requires.line.1 0 in
     rw (back (wider ha)) (fits (within-minus (wider ha)))
 
-element-set-from-r : tie.Need-element-set-from-r
+element-set-from-r : tie.Need-bounds-r-0-then-a-lt0
 element-set-from-r c = search rules
 
-sub-r-2 : tie.Need-overflow-sub-r-2
+sub-r-2 : tie.Need-overflow_sub-r-then-a-lt0
 sub-r-2 c =
     let s = c.before.before.before in
     let r = s.args.r.now in
     let j = s.args.j in
     let a = get_or r (j + 2) (pos 0) in
     let d = get_or r 0 (pos 0) in
-    let ha = s.requires.1.1 (j + 2) in
-    let hd = s.requires.1.1 0 in
+    let ha = s.requires.line.1 (j + 2) in
+    let hd = s.requires.line.1 0 in
     rw (back (wider hd)) (fits (within-minus (wider hd)))
 
-add-t17 : tie.Need-overflow-add-t17
+add-t17 : tie.Need-overflow_add-j
 add-t17 c = search rules
 
-mul-t18 : tie.Need-overflow-mul-t18
+mul-t18 : tie.Need-offset_bounds-r-j-then-a-lt0
 mul-t18 c = search rules
 
-element-set-from-r-2 : tie.Need-element-set-from-r-2
+element-set-from-r-2 : tie.Need-bounds-r-j-then-a-lt0
 element-set-from-r-2 c = search rules
 
 negate-requires : tie.Need-negate-requires
 negate-requires c κs = search rules
 
-element-set-from-a : tie.Need-element-set-from-a
+element-set-from-a : tie.Need-bounds-r-0-else-a-lt0
 element-set-from-a c = search rules
 
-add-d : tie.Need-overflow-add-d
+add-d : tie.Need-overflow_add-d
 add-d c = search rules
 
-mul-d : tie.Need-overflow-mul-d
+mul-d : tie.Need-offset_bounds-r-j-else-a-lt0
 mul-d c = search rules
 
-element-set-from-d : tie.Need-element-set-from-d
+element-set-from-d : tie.Need-bounds-r-j-else-a-lt0
 element-set-from-d c = search rules
 
-returns : tie.Need-returns
+returns : tie.Need-returns-then-a-lt0
 unfolding turn_of
 returns c =
     let s = c.before.before.before in
@@ -82,13 +82,13 @@ returns c =
     let j = s.args.j in
     let a = get_or r (j + 2) (pos 0) in
     let d = get_or r 0 (pos 0) in
-    let ha = s.requires.1.1 (j + 2) in
-    let hd = s.requires.1.1 0 in
-    let t : lt_z a (pos 0) ≡ true = simp (back (wider ha)) at c.if1.true in
+    let ha = s.requires.line.1 (j + 2) in
+    let hd = s.requires.line.1 0 in
+    let t : lt_z a (pos 0) ≡ true = simp (back (wider ha)) at c.if-a-lt0.true in
     rw (back (wider ha), back (wider hd), back (within-minus (wider ha)), back (within-minus (wider hd)))
     (sym (ap (λ b. turn_by b r j) t))
 
-returns-2 : tie.Need-returns-2
+returns-2 : tie.Need-returns-else-a-lt0
 unfolding turn_of
 returns-2 c =
     let s = c.before.before.before.before.before in
@@ -96,9 +96,9 @@ returns-2 c =
     let j = s.args.j in
     let a = get_or r (j + 2) (pos 0) in
     let d = get_or r 0 (pos 0) in
-    let ha = s.requires.1.1 (j + 2) in
-    let hd = s.requires.1.1 0 in
-    let t : lt_z a (pos 0) ≡ false = simp (back (wider ha)) at c.before.before.if1.false in
+    let ha = s.requires.line.1 (j + 2) in
+    let hd = s.requires.line.1 0 in
+    let t : lt_z a (pos 0) ≡ false = simp (back (wider ha)) at c.before.before.if-a-lt0.false in
     rw (back (wider ha), back (wider hd), c.negate.ensures) (sym (ap (λ b. turn_by b r j) t))
 
 pub turn_spec : {M : Type 1} → statement M

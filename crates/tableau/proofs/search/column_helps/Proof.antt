@@ -15,37 +15,37 @@ use Rattle.tableau.proofs.search.column_helps.Reads as reads
 use Rattle.tableau.proofs.search.column_helps.Lts as lts
 use Rattle.tableau.proofs.search.is_helping.Reads as is-helping-reads
 
-mul-i : tie.Need-overflow-mul-i
+mul-i : tie.Need-offset_bounds-place-v
 mul-i c = search rules
 
-shared-slice-read-i : tie.Need-shared-slice-read-i
+shared-slice-read-i : tie.Need-bounds-place-v
 shared-slice-read-i c = search rules
 
-returns : tie.Need-returns
+returns : tie.Need-returns-then-i-lt64
 unfolding helps_at
 returns c =
     let s = c.before.before.before.before in
-    sym (ap (λ b. cond b false (helps_by (get_or s.args.kinds.now s.args.v 0) (get_or s.args.r.now 1 (pos 0)) (get_or s.args.r.now (get_or s.args.place.now s.args.v 0 - 64 + 2) (pos 0)))) (lt-ltb _ 64 c.if1.true))
+    sym (ap (λ b. cond b false (helps_by (get_or s.args.kinds.now s.args.v 0) (get_or s.args.r.now 1 (pos 0)) (get_or s.args.r.now (get_or s.args.place.now s.args.v 0 - 64 + 2) (pos 0)))) (lt-ltb _ 64 c.if-i-lt64.true))
 
-element-copy-out-c : tie.Need-element-copy-out-c
+element-copy-out-c : tie.Need-bounds-r-1
 element-copy-out-c c = search rules
 
-add-e : tie.Need-overflow-add-e
+add-e : tie.Need-overflow_add-e
 add-e c = search rules
 
-mul-e : tie.Need-overflow-mul-e
+mul-e : tie.Need-offset_bounds-r-i
 mul-e c = search rules
 
-element-copy-out-e : tie.Need-element-copy-out-e
+element-copy-out-e : tie.Need-bounds-r-i
 element-copy-out-e c = search rules
 
-shared-slice-read-is-helping : tie.Need-shared-slice-read-is-helping
+shared-slice-read-is-helping : tie.Need-bounds-kinds-v
 shared-slice-read-is-helping c = search rules
 
-is-helping-requires : tie.Need-is-helping-requires
+is-helping-requires : tie.Need-is_helping-requires
 is-helping-requires c κs = search rules
 
-returns-2 : tie.Need-returns-2
+returns-2 : tie.Need-returns
 unfolding helps_at
 returns-2 c =
     let s = c.before.before.before.before.before.before.before.before in
@@ -53,9 +53,9 @@ returns-2 c =
     let k = get_or s.args.kinds.now s.args.v 0 in
     let y = get_or s.args.r.now 1 (pos 0) in
     let z = get_or s.args.r.now (i - 64 + 2) (pos 0) in
-    c.is-helping.ensures
-    ∙ ap₂ (helps_by k) (to_z-of_z {w = w64} {z = y} (record { sfits = c.before.before.before.c.given })) (to_z-of_z {w = w64} {z = z} (record { sfits = c.before.before.e.given }))
-    ∙ sym (ap (λ b. cond b false (helps_by k y z)) (le-ltb i 64 c.before.before.before.before.if1.false))
+    c.is_helping.ensures
+    ∙ ap₂ (helps_by k) (to_z-of_z {w = w64} {z = y} (record { sfits = c.before.before.before.c-1.given })) (to_z-of_z {w = w64} {z = z} (record { sfits = c.before.before.e-1.given }))
+    ∙ sym (ap (λ b. cond b false (helps_by k y z)) (le-ltb i 64 c.before.before.before.before.if-i-lt64.false))
 
 pub column_helps_spec : {M : Type 1} → statement M
 column_helps_spec =

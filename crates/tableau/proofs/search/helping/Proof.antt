@@ -11,46 +11,46 @@ use Rattle.tableau.proofs.search.helping.Reads as reads
 use Rattle.tableau.proofs.search.helping.Lts as lts
 use Rattle.tableau.proofs.search.column_helps.Reads as column-helps-reads
 
-abbrev invariant-loop : tie.invariant-loop
+abbrev invariant-loop : tie.invariant-loop-v
 invariant-loop r place kinds v₀ v = (v ≤ length place) × (first (helps_at (r) (place) (kinds)) (length place - v) v ≡ first (helps_at (r) (place) (kinds)) (length place) 0)
 
-abbrev decreases-loop : tie.decreases-loop
+abbrev decreases-loop : tie.decreases-loop-v
 decreases-loop r place kinds v₀ v = length place - v
 
-loop-holds : tie.Need-loop-init invariant-loop decreases-loop
+loop-holds : tie.Need-loop-v-init invariant-loop decreases-loop
 loop-holds c = (omega arith, first-start _ _)
 
-column-helps-requires : tie.Need-column-helps-requires invariant-loop decreases-loop
+column-helps-requires : tie.Need-column_helps-requires invariant-loop decreases-loop
 column-helps-requires c κs =
     let s = c.before.before.before.before in
-    let v = c.before.loop.v in
-    (c.loop-test.true, (omega (arith, s.requires.0), s.requires.1 v c.loop-test.true))
+    let v = c.before.loop-v.v in
+    (c.loop-v-test.true, (omega (arith, s.requires.kinds_len), s.requires.by_index v c.loop-v-test.true))
 
-returns : tie.Need-returns invariant-loop decreases-loop
+returns : tie.Need-returns-then-column_helps invariant-loop decreases-loop
 unfolding helping_of
 returns c =
     let s = c.before.before.before.before.before.before in
-    let l = c.before.before.before.loop in
-    first-yes (helps_at s.args.r.now s.args.place.now s.args.kinds.now) (length s.args.place.now) l.v c.before.before.loop-test.true (sym c.before.column-helps.ensures ∙ c.if1.true) ∙ l.invariant.1
+    let l = c.before.before.before.loop-v in
+    first-yes (helps_at s.args.r.now s.args.place.now s.args.kinds.now) (length s.args.place.now) l.v c.before.before.loop-v-test.true (sym c.before.column_helps.ensures ∙ c.if-column_helps.true) ∙ l.invariant.1
 
-add-v : tie.Need-overflow-add-v invariant-loop decreases-loop
+add-v : tie.Need-overflow_add-v invariant-loop decreases-loop
 add-v c = search rules
 
-loop-less : tie.Need-loop-smaller invariant-loop decreases-loop
+loop-less : tie.Need-loop-v-smaller invariant-loop decreases-loop
 loop-less c = omega arith
 
-loop-again : tie.Need-loop-preserved invariant-loop decreases-loop
+loop-again : tie.Need-loop-v-preserved invariant-loop decreases-loop
 loop-again c =
     let s = c.before.before.before.before.before.before in
-    let l = c.before.before.before.loop in
-    (omega arith, first-no (helps_at s.args.r.now s.args.place.now s.args.kinds.now) (length s.args.place.now) l.v c.before.before.loop-test.true (sym c.before.column-helps.ensures ∙ c.if1.false) ∙ l.invariant.1)
+    let l = c.before.before.before.loop-v in
+    (omega arith, first-no (helps_at s.args.r.now s.args.place.now s.args.kinds.now) (length s.args.place.now) l.v c.before.before.loop-v-test.true (sym c.before.column_helps.ensures ∙ c.if-column_helps.false) ∙ l.invariant.1)
 
-returns-2 : tie.Need-returns-2 invariant-loop decreases-loop
+returns-2 : tie.Need-returns invariant-loop decreases-loop
 unfolding helping_of
 returns-2 c =
     let s = c.before.before.before.before in
-    let l = c.before.loop in
-    first-end (helps_at s.args.r.now s.args.place.now s.args.kinds.now) (length s.args.place.now) l.v c.loop-test.false ∙ l.invariant.1
+    let l = c.before.loop-v in
+    first-end (helps_at s.args.r.now s.args.place.now s.args.kinds.now) (length s.args.place.now) l.v c.loop-v-test.false ∙ l.invariant.1
 
 pub helping_spec : {M : Type 1} → statement M
 helping_spec =

@@ -14,49 +14,49 @@ use Rattle.tableau.proofs.search.narrow.Reads as reads
 use Rattle.tableau.proofs.search.narrow.Lts as lts
 use Rattle.tableau.proofs.search.row_narrow.Reads as row-narrow-reads
 
-abbrev invariant-loop : tie.invariant-loop
+abbrev invariant-loop : tie.invariant-loop-k
 invariant-loop t n j k₀ k = (k ≤ length t) × (narrow_of j (drop k t) ≡ narrow_of j t)
 
-abbrev decreases-loop : tie.decreases-loop
+abbrev decreases-loop : tie.decreases-loop-k
 decreases-loop t n j k₀ k = length t - k
 
-loop-holds : tie.Need-loop-init invariant-loop decreases-loop
+loop-holds : tie.Need-loop-k-init invariant-loop decreases-loop
 loop-holds c = (omega arith, refl)
 
-mul-row-narrow : tie.Need-overflow-mul-row-narrow invariant-loop decreases-loop
+mul-row-narrow : tie.Need-offset_bounds-t-k invariant-loop decreases-loop
 mul-row-narrow c = search rules
 
-shared-slice-element-row-narrow : tie.Need-shared-slice-element-row-narrow invariant-loop decreases-loop
-shared-slice-element-row-narrow c = c.loop-test.true
+shared-slice-element-row-narrow : tie.Need-bounds-t-k invariant-loop decreases-loop
+shared-slice-element-row-narrow c = c.loop-k-test.true
 
-row-narrow-requires : tie.Need-row-narrow-requires invariant-loop decreases-loop
-row-narrow-requires c κs = (c.before.before.before.requires.0, c.before.before.before.requires.1 c.before.before.loop.k c.before.loop-test.true)
+row-narrow-requires : tie.Need-row_narrow-requires invariant-loop decreases-loop
+row-narrow-requires c κs = record { j_bound = c.before.before.before.requires.0; line = c.before.before.before.requires.1 c.before.before.loop.k c.before.loop-test.true }
 
-returns : tie.Need-returns invariant-loop decreases-loop
+returns : tie.Need-returns-then-not-row_narrow invariant-loop decreases-loop
 returns c =
     let s = c.before.before.before.before.before in
     let l = c.before.before.before.before.loop in
     let h : l.k < length s.args.t.now = c.before.before.before.loop-test.true in
-    sym (narrow_step (bound 64) s.args.j s.args.t.now l.k false h (sym c.before.row-narrow.ensures ∙ not-true _ c.if1.true)) ∙ l.invariant.1
+    sym (narrow_step (bound 64) s.args.j s.args.t.now l.k false h (sym c.before.row_narrow.ensures ∙ not-true _ c.if-not-row_narrow.true-raw)) ∙ l.invariant.1
 
-add-k : tie.Need-overflow-add-k invariant-loop decreases-loop
+add-k : tie.Need-overflow_add-k invariant-loop decreases-loop
 add-k c = search rules
 
-loop-less : tie.Need-loop-smaller invariant-loop decreases-loop
+loop-less : tie.Need-loop-k-smaller invariant-loop decreases-loop
 loop-less c = search rules
 
-loop-again : tie.Need-loop-preserved invariant-loop decreases-loop
+loop-again : tie.Need-loop-k-preserved invariant-loop decreases-loop
 loop-again c =
     let s = c.before.before.before.before.before in
     let l = c.before.before.before.before.loop in
     let h : l.k < length s.args.t.now = c.before.before.before.loop-test.true in
-    (omega arith, sym (narrow_step (bound 64) s.args.j s.args.t.now l.k true h (sym c.before.row-narrow.ensures ∙ not-false _ c.if1.false)) ∙ l.invariant.1)
+    (omega arith, sym (narrow_step (bound 64) s.args.j s.args.t.now l.k true h (sym c.before.row_narrow.ensures ∙ not-false _ c.if-not-row_narrow.false-raw)) ∙ l.invariant.1)
 
-returns-2 : tie.Need-returns-2 invariant-loop decreases-loop
+returns-2 : tie.Need-returns invariant-loop decreases-loop
 returns-2 c =
     let s = c.before.before in
-    let l = c.before.loop in
-    narrow-end (bound 64) s.args.j s.args.t.now l.k c.loop-test.false ∙ l.invariant.1
+    let l = c.before.loop-k in
+    narrow-end (bound 64) s.args.j s.args.t.now l.k c.loop-k-test.false ∙ l.invariant.1
 
 pub narrow_spec : {M : Type 1} → statement M
 narrow_spec =

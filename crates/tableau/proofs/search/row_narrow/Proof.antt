@@ -15,30 +15,30 @@ use Rattle.tableau.proofs.search.row_narrow.Reads as reads
 use Rattle.tableau.proofs.search.row_narrow.Lts as lts
 use Rattle.tableau.proofs.search.small.Reads as small-reads
 
-add-e : tie.Need-overflow-add-e
+add-e : tie.Need-overflow_add-e
 add-e c = search rules
 
-mul-e : tie.Need-overflow-mul-e
+mul-e : tie.Need-offset_bounds-r-j
 mul-e c = search rules
 
-element-copy-out-e : tie.Need-element-copy-out-e
+element-copy-out-e : tie.Need-bounds-r-j
 element-copy-out-e c = search rules
 
-returns : tie.Need-returns
+returns : tie.Need-returns-then-e-eq0
 returns c =
     let s = c.before.before in
     let z = get_or s.args.r.now (s.args.j + 2) (pos 0) in
-    let e : is_zero z ≡ true = sym (bits-test z (record { sfits = c.before.e.given })) ∙ eq-eqb _ 0 c.if1.true in
+    let e : is_zero z ≡ true = sym (bits-test z (record { sfits = c.before.e-1.given })) ∙ eq-eqb _ 0 c.if-e-eq0.true in
     sym (ap (λ b. cond b true (small_of s.args.r.now)) e)
 
 small-requires : tie.Need-small-requires
 small-requires c κs = search rules
 
-returns-2 : tie.Need-returns-2
+returns-2 : tie.Need-returns
 returns-2 c =
     let s = c.before.before.before in
     let z = get_or s.args.r.now (s.args.j + 2) (pos 0) in
-    let e : is_zero z ≡ false = sym (bits-test z (record { sfits = c.before.before.e.given })) ∙ ne_eqb _ 0 c.before.if1.false in
+    let e : is_zero z ≡ false = sym (bits-test z (record { sfits = c.before.before.e-1.given })) ∙ ne_eqb _ 0 c.before.if-e-eq0.false in
     c.small.ensures ∙ sym (ap (λ b. cond b true (small_of s.args.r.now)) e)
 
 pub row_narrow_spec : {M : Type 1} → statement M

@@ -15,41 +15,41 @@ use Rattle.tableau.proofs.search.row_violated.Reads as reads
 use Rattle.tableau.proofs.search.row_violated.Lts as lts
 use Rattle.tableau.proofs.search.is_violated.Reads as is-violated-reads
 
-mul-i : tie.Need-overflow-mul-i
+mul-i : tie.Need-offset_bounds-place-v
 mul-i c = search rules
 
-shared-slice-read-i : tie.Need-shared-slice-read-i
+shared-slice-read-i : tie.Need-bounds-place-v
 shared-slice-read-i c = search rules
 
-mul-x : tie.Need-overflow-mul-x
+mul-x : tie.Need-offset_bounds-t-i
 mul-x c = search rules
 
-index-1-x : tie.Need-bounds-1-x
-index-1-x c = c.before.before.before.before.requires.1.1 c.if1.true
+index-1-x : tie.Need-bounds-t-i
+index-1-x c = c.before.before.before.before.requires.v_in_bounds_2.1 c.if-i-lt64.true
 
-index-2-x : tie.Need-bounds-2-x
+index-2-x : tie.Need-bounds-t-1
 index-2-x c = search rules
 
-shared-slice-read-is-violated : tie.Need-shared-slice-read-is-violated
+shared-slice-read-is-violated : tie.Need-bounds-kinds-v
 shared-slice-read-is-violated c = search rules
 
-is-violated-requires : tie.Need-is-violated-requires
+is-violated-requires : tie.Need-is_violated-requires
 is-violated-requires c κs = search rules
 
-returns : tie.Need-returns
+returns : tie.Need-returns-then-i-lt64
 unfolding violated_at
 returns c =
     let s = c.before.before.before.before.before.before.before in
     let i = get_or s.args.place.now s.args.v 0 in
     let z = get_or (get_or s.args.t.now i []) 1 (pos 0) in
-    c.is-violated.ensures ∙ ap (violated_by (get_or s.args.kinds.now s.args.v 0)) (to_z-of_z {w = w64} {z = z} (record { sfits = c.before.before.x.given }))
-    ∙ sym (ap (λ b. cond b (violated_by (get_or s.args.kinds.now s.args.v 0) z) false) (lt-ltb i 64 c.before.before.before.if1.true))
+    c.is_violated.ensures ∙ ap (violated_by (get_or s.args.kinds.now s.args.v 0)) (to_z-of_z {w = w64} {z = z} (record { sfits = c.before.before.x-1.given }))
+    ∙ sym (ap (λ b. cond b (violated_by (get_or s.args.kinds.now s.args.v 0) z) false) (lt-ltb i 64 c.before.before.before.if-i-lt64.true))
 
-returns-2 : tie.Need-returns-2
+returns-2 : tie.Need-returns
 unfolding violated_at
 returns-2 c =
     let s = c.before.before.before.before in
-    sym (ap (λ b. cond b (violated_by (get_or s.args.kinds.now s.args.v 0) (get_or (get_or s.args.t.now (get_or s.args.place.now s.args.v 0) []) 1 (pos 0))) false) (le-ltb _ 64 c.if1.false))
+    sym (ap (λ b. cond b (violated_by (get_or s.args.kinds.now s.args.v 0) (get_or (get_or s.args.t.now (get_or s.args.place.now s.args.v 0) []) 1 (pos 0))) false) (le-ltb _ 64 c.if-i-lt64.false))
 
 pub row_violated_spec : {M : Type 1} → statement M
 row_violated_spec =

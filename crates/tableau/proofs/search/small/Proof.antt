@@ -18,37 +18,37 @@ use Rattle.tableau.proofs.search.small.Tie as tie
 use Rattle.tableau.proofs.search.small.Reads as reads
 use Rattle.tableau.proofs.search.small.Lts as lts
 
-abbrev invariant-loop : tie.invariant-loop
+abbrev invariant-loop : tie.invariant-loop-i
 invariant-loop r n b₀ i₀ b i = (i ≤ 18) × (cond (leb b (bound 64)) (small_of (drop i r)) false ≡ small_of r)
 
-abbrev decreases-loop : tie.decreases-loop
+abbrev decreases-loop : tie.decreases-loop-i
 decreases-loop r n b₀ i₀ b i = 18 - i
 
-loop-holds : tie.Need-loop-init invariant-loop decreases-loop
+loop-holds : tie.Need-loop-i-init invariant-loop decreases-loop
 loop-holds c = (omega arith, refl)
 
-mul-x : tie.Need-overflow-mul-x invariant-loop decreases-loop
+mul-x : tie.Need-offset_bounds-r-i invariant-loop decreases-loop
 mul-x c = search rules
 
-element-copy-out-x : tie.Need-element-copy-out-x invariant-loop decreases-loop
+element-copy-out-x : tie.Need-bounds-r-i invariant-loop decreases-loop
 element-copy-out-x c = search rules
 
-magnitude-requires : tie.Need-magnitude-requires invariant-loop decreases-loop
+magnitude-requires : tie.Need-magnitude-bits-requires invariant-loop decreases-loop
 magnitude-requires c κs = search rules
 
-add-i : tie.Need-overflow-add-i invariant-loop decreases-loop
+add-i : tie.Need-overflow_add-i invariant-loop decreases-loop
 add-i c = search rules
 
-loop-less : tie.Need-loop-smaller invariant-loop decreases-loop
+loop-less : tie.Need-loop-i-smaller invariant-loop decreases-loop
 loop-less c = search rules
 
-loop-again : tie.Need-loop-preserved invariant-loop decreases-loop
+loop-again : tie.Need-loop-i-preserved invariant-loop decreases-loop
 loop-again c =
     let s = c.before.before.before.before in
-    let l = c.before.before.before.loop in
+    let l = c.before.before.before.loop-i in
     let r = s.args.r.now in
-    let x = to_z-of_z {w = w64} {z = get_or r l.i (pos 0)} (record { sfits = c.before.x.given }) in
-    let e = c.magnitude.ensures ∙ ap nat_abs x in (
+    let x = to_z-of_z {w = w64} {z = get_or r l.i (pos 0)} (record { sfits = c.before.x-1.given }) in
+    let e = c.magnitude-bits.ensures ∙ ap nat_abs x in (
       omega arith,
       ap (λ n. cond (leb (bit_or l.bits n) (bound 64)) (small_of (drop (l.i + 1) r)) false) e
           ∙ small-more r l.i l.bits (omega (arith, s.requires.long))
@@ -58,7 +58,7 @@ loop-again c =
 returns : tie.Need-returns invariant-loop decreases-loop
 returns c =
     let s = c.before.before in
-    let l = c.before.loop in
+    let l = c.before.loop-i in
     cond-self (leb l.bits (bound 64))
     ∙ ap (λ b. cond (leb l.bits (bound 64)) b false) (small-end (bound 64) s.args.n l.i s.args.r.now s.requires (omega (arith, s.requires.fit)))
     ∙ l.invariant.1

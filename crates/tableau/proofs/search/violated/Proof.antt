@@ -11,46 +11,46 @@ use Rattle.tableau.proofs.search.violated.Reads as reads
 use Rattle.tableau.proofs.search.violated.Lts as lts
 use Rattle.tableau.proofs.search.row_violated.Reads as row-violated-reads
 
-abbrev invariant-loop : tie.invariant-loop
+abbrev invariant-loop : tie.invariant-loop-v
 invariant-loop t place kinds v₀ v = (v ≤ length place) × (first (violated_at (t) (place) (kinds)) (length place - v) v ≡ first (violated_at (t) (place) (kinds)) (length place) 0)
 
-abbrev decreases-loop : tie.decreases-loop
+abbrev decreases-loop : tie.decreases-loop-v
 decreases-loop t place kinds v₀ v = length place - v
 
-loop-holds : tie.Need-loop-init invariant-loop decreases-loop
+loop-holds : tie.Need-loop-v-init invariant-loop decreases-loop
 loop-holds c = (omega arith, first-start _ _)
 
-row-violated-requires : tie.Need-row-violated-requires invariant-loop decreases-loop
+row-violated-requires : tie.Need-row_violated-requires invariant-loop decreases-loop
 row-violated-requires c κs =
     let s = c.before.before.before.before in
-    let v = c.before.loop.v in
-    (c.loop-test.true, (omega (arith, s.requires.0), s.requires.1 v c.loop-test.true))
+    let v = c.before.loop-v.v in
+    (c.loop-v-test.true, (omega (arith, s.requires.kinds_len), s.requires.by_index v c.loop-v-test.true))
 
-returns : tie.Need-returns invariant-loop decreases-loop
+returns : tie.Need-returns-then-row_violated invariant-loop decreases-loop
 unfolding violated_of
 returns c =
     let s = c.before.before.before.before.before.before in
-    let l = c.before.before.before.loop in
-    first-yes (violated_at s.args.t.now s.args.place.now s.args.kinds.now) (length s.args.place.now) l.v c.before.before.loop-test.true (sym c.before.row-violated.ensures ∙ c.if1.true) ∙ l.invariant.1
+    let l = c.before.before.before.loop-v in
+    first-yes (violated_at s.args.t.now s.args.place.now s.args.kinds.now) (length s.args.place.now) l.v c.before.before.loop-v-test.true (sym c.before.row_violated.ensures ∙ c.if-row_violated.true) ∙ l.invariant.1
 
-add-v : tie.Need-overflow-add-v invariant-loop decreases-loop
+add-v : tie.Need-overflow_add-v invariant-loop decreases-loop
 add-v c = search rules
 
-loop-less : tie.Need-loop-smaller invariant-loop decreases-loop
+loop-less : tie.Need-loop-v-smaller invariant-loop decreases-loop
 loop-less c = omega arith
 
-loop-again : tie.Need-loop-preserved invariant-loop decreases-loop
+loop-again : tie.Need-loop-v-preserved invariant-loop decreases-loop
 loop-again c =
     let s = c.before.before.before.before.before.before in
-    let l = c.before.before.before.loop in
-    (omega arith, first-no (violated_at s.args.t.now s.args.place.now s.args.kinds.now) (length s.args.place.now) l.v c.before.before.loop-test.true (sym c.before.row-violated.ensures ∙ c.if1.false) ∙ l.invariant.1)
+    let l = c.before.before.before.loop-v in
+    (omega arith, first-no (violated_at s.args.t.now s.args.place.now s.args.kinds.now) (length s.args.place.now) l.v c.before.before.loop-v-test.true (sym c.before.row_violated.ensures ∙ c.if-row_violated.false) ∙ l.invariant.1)
 
-returns-2 : tie.Need-returns-2 invariant-loop decreases-loop
+returns-2 : tie.Need-returns invariant-loop decreases-loop
 unfolding violated_of
 returns-2 c =
     let s = c.before.before.before.before in
-    let l = c.before.loop in
-    first-end (violated_at s.args.t.now s.args.place.now s.args.kinds.now) (length s.args.place.now) l.v c.loop-test.false ∙ l.invariant.1
+    let l = c.before.loop-v in
+    first-end (violated_at s.args.t.now s.args.place.now s.args.kinds.now) (length s.args.place.now) l.v c.loop-v-test.false ∙ l.invariant.1
 
 pub violated_spec : {M : Type 1} → statement M
 violated_spec =

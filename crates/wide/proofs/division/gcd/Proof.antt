@@ -11,48 +11,48 @@ use Rattle.wide.proofs.Digits.{gcd-turn, high-pos, none-high, one_word}
 use Rattle.wide.proofs.division.gcd.Statement.{statement}
 use Rattle.wide.proofs.division.gcd.Tie as tie
 
-abbrev invariant-loop : tie.invariant-loop
+abbrev invariant-loop : tie.invariant-loop-s
 invariant-loop x₀ y₀ x y = gcd (size x) (size y) ≡ gcd (size x₀) (size y₀)
 
-abbrev decreases-loop : tie.decreases-loop
+abbrev decreases-loop : tie.decreases-loop-s
 decreases-loop x₀ y₀ x y = size y
 
-loop-holds : tie.Need-loop-init invariant-loop decreases-loop
+loop-holds : tie.Need-loop-s-init invariant-loop decreases-loop
 loop-holds c = refl
 
-is-long-requires : tie.Need-is-long-requires invariant-loop decreases-loop
+is-long-requires : tie.Need-is_long-requires invariant-loop decreases-loop
 is-long-requires c κs = search rules
 
-long-divide-requires : tie.Need-long-divide-requires invariant-loop decreases-loop
-long-divide-requires c κs = let y = c.before.before.loop.y in high-pos 18446744073709551616 y.hi y.lo (lit< tt) (ltb-true _ _ (sym c.before.is-long.ensures ∙ c.if1.true))
+long-divide-requires : tie.Need-long_divide-s-requires invariant-loop decreases-loop
+long-divide-requires c κs = let y = c.before.before.loop-s.y in high-pos 18446744073709551616 y.hi y.lo (lit< tt) (ltb-true _ _ (sym c.before.is_long.ensures ∙ c.loop-s-test.true))
 
-loop-less : tie.Need-loop-smaller invariant-loop decreases-loop
+loop-less : tie.Need-loop-s-smaller invariant-loop decreases-loop
 loop-less c =
-    let d = c.before in let l = d.before.before.before.loop in
-    gcd-turn (size l.x) (size l.y) (size d.long-divide.result.rem) d.long-divide.ensures.rem (long-divide-requires d.before _)
+    let d = c.before in let l = d.before.before.before.loop-s in
+    gcd-turn (size l.x) (size l.y) (size d.long_divide-s.result.rem) d.long_divide-s.ensures.rem (long-divide-requires d.before _)
 
-loop-again : tie.Need-loop-preserved invariant-loop decreases-loop
+loop-again : tie.Need-loop-s-preserved invariant-loop decreases-loop
 loop-again c =
-    let d = c.before in let l = d.before.before.before.loop in
-    ap (gcd (size l.y)) d.long-divide.ensures.rem ∙ sym (gcd-step (size l.x) (size l.y)) ∙ l.invariant
+    let d = c.before in let l = d.before.before.before.loop-s in
+    ap (gcd (size l.y)) d.long_divide-s.ensures.rem ∙ sym (gcd-step (size l.x) (size l.y)) ∙ l.invariant
 
 -- after the loop y is one word
-one : (c : tie.Else1 invariant-loop decreases-loop) → size c.before.before.loop.y ≡ c.before.before.loop.y.lo
-one c = let y = c.before.before.loop.y in one_word 18446744073709551616 y.hi y.lo (none-high _ (ltb-false _ _ (sym c.before.is-long.ensures ∙ c.if1.false)))
+one : (c : tie.After-loop-s invariant-loop decreases-loop) → size c.before.before.loop-s.y ≡ c.before.before.loop-s.y.lo
+one c = let y = c.before.before.loop-s.y in one_word 18446744073709551616 y.hi y.lo (none-high _ (ltb-false _ _ (sym c.before.is_long.ensures ∙ c.loop-s-test.false)))
 
-returns : tie.Need-returns invariant-loop decreases-loop
-returns c = let l = c.before.before.before.loop in sym (gcd-zero (size l.x)) ∙ sym (ap (gcd (size l.x)) (one c.before ∙ c.if2.true)) ∙ l.invariant
+returns : tie.Need-returns-then-l-eq0 invariant-loop decreases-loop
+returns c = let l = c.before.before.before.loop-s in sym (gcd-zero (size l.x)) ∙ sym (ap (gcd (size l.x)) (one c.before ∙ c.if-l-eq0.true)) ∙ l.invariant
 
-word-rem-requires : tie.Need-word-rem-requires invariant-loop decreases-loop
-word-rem-requires c κs = pos_of_ne-zero c.if2.false
+word-rem-requires : tie.Need-word_rem-k-requires invariant-loop decreases-loop
+word-rem-requires c κs = pos_of_ne-zero c.if-l-eq0.false
 
 gcd-requires : tie.Need-gcd-requires invariant-loop decreases-loop
 gcd-requires c κs = search rules
 
-returns-2 : tie.Need-returns-2 invariant-loop decreases-loop
+returns-2 : tie.Need-returns invariant-loop decreases-loop
 returns-2 c =
-    let r = c.before in let e = r.before.before in let l = e.before.before.loop in
-    one_word 18446744073709551616 0 _ refl ∙ c.gcd.ensures ∙ ap (gcd l.y.lo) r.word-rem.ensures ∙ ap (λ (n : ℕ). gcd n (size l.x % n)) (sym (one e)) ∙ sym (gcd-step (size l.x) (size l.y)) ∙ l.invariant
+    let r = c.before in let e = r.before.before in let l = e.before.before.loop-s in
+    one_word 18446744073709551616 0 _ refl ∙ c.gcd.ensures ∙ ap (gcd l.y.lo) r.word_rem-k.ensures ∙ ap (λ (n : ℕ). gcd n (size l.x % n)) (sym (one e)) ∙ sym (gcd-step (size l.x) (size l.y)) ∙ l.invariant
 
 pub gcd_spec : {M : Type 1} → statement M
 gcd_spec = tie.close (tie.spec invariant-loop decreases-loop loop-holds is-long-requires long-divide-requires loop-less loop-again returns word-rem-requires gcd-requires returns-2)

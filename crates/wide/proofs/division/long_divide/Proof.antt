@@ -11,24 +11,24 @@ use Rattle.wide.proofs.Digits.{part_off, part-less, part-fits, quotient_is, rema
 use Rattle.wide.proofs.division.long_divide.Statement.{statement}
 use Rattle.wide.proofs.division.long_divide.Tie as tie
 
-abbrev invariant-loop : tie.invariant-loop
+abbrev invariant-loop : tie.invariant-loop-d
 invariant-loop d dh dl q₀ r₀ q r = (size q * size d + size r ≡ size q₀ * size d + size r₀)
 
-abbrev decreases-loop : tie.decreases-loop
+abbrev decreases-loop : tie.decreases-loop-d
 decreases-loop d dh dl q₀ r₀ q r = size r
 
-loop-holds : tie.Need-loop-init invariant-loop decreases-loop
+loop-holds : tie.Need-loop-d-init invariant-loop decreases-loop
 loop-holds c = refl
 
 less-requires : tie.Need-less-requires invariant-loop decreases-loop
 less-requires c κs = search rules
 
-taken-requires : tie.Need-taken-requires invariant-loop decreases-loop
-taken-requires c κs = ltb-false _ _ (sym c.before.less.ensures ∙ not-true _ c.if1.true)
+taken-requires : tie.Need-taken-p-requires invariant-loop decreases-loop
+taken-requires c κs = ltb-false _ _ (sym c.before.less.ensures ∙ not-true _ c.loop-d-test.true-raw)
 
 -- all that was divided is x
-whole : (c : tie.At-loop invariant-loop decreases-loop) → size c.loop.q * size c.before.args.d + size c.loop.r ≡ size c.before.args.x
-whole c = c.loop.invariant ∙ none_yet _ _
+whole : (c : tie.At-loop-d invariant-loop decreases-loop) → size c.loop-d.q * size c.before.args.d + size c.loop-d.r ≡ size c.before.args.x
+whole c = c.loop-d.invariant ∙ none_yet _ _
 
 -- a word as a number of two
 word : (k : ℕ) → 0 * 18446744073709551616 + k ≡ k
@@ -43,32 +43,32 @@ high c = omega (arith, c.well-formed)
 low : (c : tie.Start invariant-loop decreases-loop) → c.args.x.lo < 18446744073709551616
 low c = omega (arith, c.well-formed)
 
-sum-requires : tie.Need-sum-requires invariant-loop decreases-loop
+sum-requires : tie.Need-sum-q-requires invariant-loop decreases-loop
 sum-requires c κs =
-    let t = c.before in let l = t.before.before.before in let s = l.before in let p = t.taken.ensures in
-    lt_of_le_of_lt (le_of_eq (ap (λ (n : ℕ). size l.loop.q + n) (word t.taken.result.by)))
-    (part-fits (size s.args.x) (size s.args.d) (size l.loop.q) (size l.loop.r) t.taken.result.by (size t.taken.result.part) _ (whole l) p.part_is p.holds s.requires (below s.args.x (high s) (low s)))
+    let t = c.before in let l = t.before.before.before in let s = l.before in let p = t.taken-p.ensures in
+    lt_of_le_of_lt (le_of_eq (ap (λ (n : ℕ). size l.loop-d.q + n) (word t.taken-p.result.by)))
+    (part-fits (size s.args.x) (size s.args.d) (size l.loop-d.q) (size l.loop-d.r) t.taken-p.result.by (size t.taken-p.result.part) _ (whole l) p.part_is p.holds s.requires (below s.args.x (high s) (low s)))
 
-difference-requires : tie.Need-difference-requires invariant-loop decreases-loop
-difference-requires c κs = c.before.before.taken.ensures.holds
+difference-requires : tie.Need-difference-r-requires invariant-loop decreases-loop
+difference-requires c κs = c.before.before.taken-p.ensures.holds
 
-loop-less : tie.Need-loop-smaller invariant-loop decreases-loop
+loop-less : tie.Need-loop-d-smaller invariant-loop decreases-loop
 loop-less c =
-    let t = c.before.before.before in let l = t.before.before.before in let s = l.before in let p = t.taken.ensures in
-    lt_of_le_of_lt (le_of_eq c.difference.ensures) (part-less (size s.args.d) (size l.loop.r) t.taken.result.by (size t.taken.result.part) p.part_is p.some s.requires p.holds)
+    let t = c.before.before.before in let l = t.before.before.before in let s = l.before in let p = t.taken-p.ensures in
+    lt_of_le_of_lt (le_of_eq c.difference-r.ensures) (part-less (size s.args.d) (size l.loop-d.r) t.taken-p.result.by (size t.taken-p.result.part) p.part_is p.some s.requires p.holds)
 
-loop-again : tie.Need-loop-preserved invariant-loop decreases-loop
+loop-again : tie.Need-loop-d-preserved invariant-loop decreases-loop
 loop-again c =
-    let u = c.before in let t = u.before.before in let l = t.before.before.before in let s = l.before in let p = t.taken.ensures in
-    let e : size u.sum.result ≡ size l.loop.q + t.taken.result.by = u.sum.ensures ∙ ap (λ (n : ℕ). size l.loop.q + n) (word t.taken.result.by) in
-    ap (λ (n : ℕ). n * size s.args.d + size c.difference.result) e
-    ∙ ap (λ (n : ℕ). (size l.loop.q + t.taken.result.by) * size s.args.d + n) c.difference.ensures
-    ∙ part_off _ (size s.args.d) (size l.loop.q) (size l.loop.r) t.taken.result.by (size t.taken.result.part) l.loop.invariant p.part_is p.holds
+    let u = c.before in let t = u.before.before in let l = t.before.before.before in let s = l.before in let p = t.taken-p.ensures in
+    let e : size u.sum.result ≡ size l.loop.q + t.taken.result.by = u.sum-q.ensures ∙ ap (λ (n : ℕ). size l.loop-d.q + n) (word t.taken-p.result.by) in
+    ap (λ (n : ℕ). n * size s.args.d + size c.difference-r.result) e
+    ∙ ap (λ (n : ℕ). (size l.loop-d.q + t.taken-p.result.by) * size s.args.d + n) c.difference-r.ensures
+    ∙ part_off _ (size s.args.d) (size l.loop-d.q) (size l.loop-d.r) t.taken-p.result.by (size t.taken-p.result.part) l.loop-d.invariant p.part_is p.holds
 
 returns : tie.Need-returns invariant-loop decreases-loop
 returns c =
     let l = c.before.before in let s = l.before in
-    let h : size l.loop.r < size s.args.d = ltb-true _ _ (sym c.before.less.ensures ∙ not-false _ c.if1.false) in
+    let h : size l.loop.r < size s.args.d = ltb-true _ _ (sym c.before.less.ensures ∙ not-false _ c.loop-d-test.false-raw) in
     record { quo = quotient_is (size s.args.x) (size s.args.d) _ _ (whole l) h; rem = remainder_is (size s.args.x) (size s.args.d) _ _ (whole l) h }
 
 pub long_divide_spec : {M : Type 1} → statement M

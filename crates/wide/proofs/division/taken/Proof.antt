@@ -7,22 +7,22 @@ use Rattle.wide.proofs.Digits.{once}
 use Rattle.wide.proofs.division.taken.Statement.{statement}
 use Rattle.wide.proofs.division.taken.Tie as tie
 
-guess-requires : tie.Need-guess-requires
+guess-requires : tie.Need-guess-g-requires
 guess-requires c κs = search rules
 
-multiple-requires : tie.Need-multiple-requires
+multiple-requires : tie.Need-multiple-p-requires
 multiple-requires c κs = search rules
 
 less-requires : tie.Need-less-requires
 less-requires c κs = search rules
 
-returns : tie.Need-returns
+returns : tie.Need-returns-then-less
 returns c = record { part_is = once _; some = lit< tt; holds = c.before.before.before.before.before.requires }
 
-returns-2 : tie.Need-returns-2
+returns-2 : tie.Need-returns
 returns-2 c =
     let l = c.before in let m = l.before.before in
-    record { part_is = m.multiple.ensures.0; some = m.multiple.ensures.1; holds = ltb-false _ _ (sym l.less.ensures ∙ c.if1.false) }
+    record { part_is = m.multiple-p.ensures.0; some = m.multiple-p.ensures.1; holds = ltb-false _ _ (sym l.less.ensures ∙ c.if-less.false) }
 
 pub taken_spec : {M : Type 1} → statement M
 taken_spec = tie.close (tie.spec guess-requires multiple-requires less-requires returns returns-2)

@@ -10,13 +10,13 @@ use Rattle.wide.proofs.division.word_rem.Tie as tie
 word : (k : ℕ) → two 0 k ≡ k
 word k = one_word 18446744073709551616 0 k refl
 
-divide-requires : tie.Need-divide-requires
+divide-requires : tie.Need-divide-s-requires
 divide-requires c κs = subst (λ (n : ℕ). 0 < n) (sym (word c.args.d)) c.requires
 
 returns : tie.Need-returns
 returns c =
-    let d = c.before in let s = d.before in let r = d.divide.result.rem in
-    let f : size r ≡ size s.args.x % s.args.d = d.divide.ensures.rem ∙ ap (λ (n : ℕ). size s.args.x % n) (word s.args.d) in
+    let d = c.before in let s = d.before in let r = d.divide-s.result.rem in
+    let f : size r ≡ size s.args.x % s.args.d = d.divide-s.ensures.rem ∙ ap (λ (n : ℕ). size s.args.x % n) (word s.args.d) in
     low_word 18446744073709551616 r.hi r.lo (lt_trans (lt_of_le_of_lt (le_of_eq f) (mod-lt (size s.args.x) s.requires)) s.ranges.d.fits) ∙ f
 
 pub word_rem_spec : {M : Type 1} → statement M

@@ -12,14 +12,14 @@ use Rattle.wide.proofs.signed.is_negative.Tie as tie
 use Rattle.wide.proofs.signed.is_negative.Reads as reads
 use Rattle.wide.proofs.signed.is_negative.Lts as lts
 
-is-zero-requires : tie.Need-is-zero-requires
+is-zero-requires : tie.Need-is_zero-requires
 is-zero-requires c κs = search rules
 
-returns : tie.Need-returns
-returns c = let x = c.before.before.before.args.x in sym (ap (λ (z : ℤ). lt_z z (pos 0)) (signed-zero x.neg (size x.magnitude) (eqb-true _ _ (sym c.before.is_zero.ensures ∙ c.if1.true))))
+returns : tie.Need-returns-then-is_zero
+returns c = let x = c.before.before.before.args.x in sym (ap (λ (z : ℤ). lt_z z (pos 0)) (signed-zero x.neg (size x.magnitude) (eqb-true _ _ (sym c.before.is_zero.ensures ∙ c.if-is_zero.true))))
 
-returns-2 : tie.Need-returns-2
-returns-2 c = let x = c.before.before.before.args.x in sym (signed_lt x.neg (size x.magnitude) (pos_of_ne-zero (eqb-false _ _ (sym c.before.is_zero.ensures ∙ c.if1.false))))
+returns-2 : tie.Need-returns
+returns-2 c = let x = c.before.before.before.args.x in sym (signed_lt x.neg (size x.magnitude) (pos_of_ne-zero (eqb-false _ _ (sym c.before.is_zero.ensures ∙ c.if-is_zero.false))))
 
 pub is_negative_spec : {M : Type 1} → statement M
 is_negative_spec = tie.close (tie.spec is-zero-requires returns returns-2)

@@ -11,11 +11,11 @@ use Rattle.wide.proofs.signed.is_small.Tie as tie
 use Rattle.wide.proofs.signed.is_small.Reads as reads
 use Rattle.wide.proofs.signed.is_small.Lts as lts
 
-returns : tie.Need-returns
-returns c = let x = c.before.before.args.x in sym (ap (λ (n : ℕ). leb n 9223372036854775807) (nat_abs-signed x.neg (size x.magnitude)) ∙ lt-leb _ _ (large 9223372036854775807 18446744073709551616 x.magnitude.hi x.magnitude.lo (lit< tt) c.if1.true))
+returns : tie.Need-returns-then-h-ne0
+returns c = let x = c.before.before.args.x in sym (ap (λ (n : ℕ). leb n 9223372036854775807) (nat_abs-signed x.neg (size x.magnitude)) ∙ lt-leb _ _ (large 9223372036854775807 18446744073709551616 x.magnitude.hi x.magnitude.lo (lit< tt) c.if-h-ne0.true))
 
-returns-2 : tie.Need-returns-2
-returns-2 c = let x = c.before.before.args.x in sym (ap (λ (n : ℕ). leb n 9223372036854775807) (nat_abs-signed x.neg (size x.magnitude) ∙ one_word 18446744073709551616 x.magnitude.hi x.magnitude.lo c.if1.false))
+returns-2 : tie.Need-returns
+returns-2 c = let x = c.before.before.args.x in sym (ap (λ (n : ℕ). leb n 9223372036854775807) (nat_abs-signed x.neg (size x.magnitude) ∙ one_word 18446744073709551616 x.magnitude.hi x.magnitude.lo c.if-h-ne0.false))
 
 pub is_small_spec : {M : Type 1} → statement M
 is_small_spec = tie.close (tie.spec returns returns-2)

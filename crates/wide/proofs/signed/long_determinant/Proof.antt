@@ -7,17 +7,17 @@ use Rattle.wide.proofs.signed.long_determinant.Tie as tie
 use Rattle.wide.proofs.signed.long_determinant.Reads as reads
 use Rattle.wide.proofs.signed.long_determinant.Lts as lts
 
-times-requires : tie.Need-times-requires
+times-requires : tie.Need-times-p-requires
 times-requires c κs = search rules
 
-times-requires-2 : tie.Need-times-requires-2
+times-requires-2 : tie.Need-times-q-requires
 times-requires-2 c κs = search rules
 
 minus-requires : tie.Need-minus-requires
-minus-requires c κs = let h = c.before.before.requires in (both-fit 128 (lit≤ tt) c.before.times.result c.times2.result h.0 h.1 h.2 h.3 c.before.times.ensures c.times2.ensures)
+minus-requires c κs = let h = c.before.before.requires in (both-fit 128 (lit≤ tt) c.before.times-p.result c.times-q.result h.0 h.1 h.2 h.3 c.before.times-p.ensures c.times-q.ensures)
 
 returns : tie.Need-returns
-returns c = let h = c.before.before.before.requires in det-is 128 (lit≤ tt) c.before.before.times.result c.before.times2.result h.0 h.1 h.2 h.3 c.before.before.times.ensures c.before.times2.ensures c.minus.result c.minus.ensures
+returns c = let h = c.before.before.before.requires in det-is 128 (lit≤ tt) c.before.before.times-p.result c.before.times-q.result h.0 h.1 h.2 h.3 c.before.before.times-p.ensures c.before.times-q.ensures c.minus.result c.minus.ensures
 
 pub long_determinant_spec : {M : Type 1} → statement M
 long_determinant_spec = tie.close (tie.spec times-requires times-requires-2 minus-requires returns)

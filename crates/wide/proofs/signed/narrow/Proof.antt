@@ -28,25 +28,25 @@ module _ (x : Wide) (h : Within 2147483647 (value_of x)) where
   low : x.magnitude.lo < 2147483648
   low = let a = few in let e = word in omega arith
 
-cast-l : tie.Need-overflow-cast-l
+cast-l : tie.Need-overflow_cast-l
 cast-l c = let s = c.before.before in let h = low s.args.x s.requires in record { sfits = omega arith }
 
-sub-result : tie.Need-overflow-sub-result
+sub-result : tie.Need-overflow_sub-result
 sub-result c =
     let s = c.before.before.before in let n = s.args.x.magnitude.lo in let h : n < 2147483648 = low s.args.x s.requires in
     lia-fits (pos n ∷ []) [] (search mach depth 30) (omega arith)
 
-returns : tie.Need-returns
+returns : tie.Need-returns-then-s
 returns c =
     let s = c.before.before.before in let x = s.args.x in let n = x.magnitude.lo in
     let z : pos 0 -ℤ pos n ≡ neg_ℤ (pos n) = lia-eq (pos n ∷ []) [] (search lin depth 30) (omega arith) in
     to_z_of_z (sub-result c) ∙ ap (λ (y : ℤ). pos 0 -ℤ y) (to_z-nat w64 n 2147483648 (low x s.requires) tt) ∙ z
-    ∙ ap₂ signed (sym c.if1.true) (word x s.requires)
+    ∙ ap₂ signed (sym c.if-s.true) (word x s.requires)
 
-returns-2 : tie.Need-returns-2
+returns-2 : tie.Need-returns
 returns-2 c =
     let s = c.before.before.before in let x = s.args.x in
-    to_z-nat w64 x.magnitude.lo 2147483648 (low x s.requires) tt ∙ ap₂ signed (sym c.if1.false) (word x s.requires)
+    to_z-nat w64 x.magnitude.lo 2147483648 (low x s.requires) tt ∙ ap₂ signed (sym c.if-s.false) (word x s.requires)
 
 pub narrow_spec : {M : Type 1} → statement M
 narrow_spec = tie.close (tie.spec cast-l sub-result returns returns-2)

@@ -10,11 +10,11 @@ use Rattle.wide.proofs.signed.quotient.Tie as tie
 use Rattle.wide.proofs.signed.quotient.Reads as reads
 use Rattle.wide.proofs.signed.quotient.Lts as lts
 
-divide-requires : tie.Need-divide-requires
+divide-requires : tie.Need-divide-p-requires
 divide-requires c κs = search rules
 
 returns : tie.Need-returns
-returns c = let s = c.before.before.before in let x = s.args.x in let e = c.before.divide.ensures.quo in (ap (signed x.neg) e ∙ signed_quot x.neg (size x.magnitude) (size s.args.d), lt_of_le_of_lt (le_trans (le_of_eq e) (div-le_self (size x.magnitude) (size s.args.d))) s.requires.0)
+returns c = let s = c.before.before.before in let x = s.args.x in let e = c.before.divide-p.ensures.quo in (ap (signed x.neg) e ∙ signed_quot x.neg (size x.magnitude) (size s.args.d), lt_of_le_of_lt (le_trans (le_of_eq e) (div-le_self (size x.magnitude) (size s.args.d))) s.requires.0)
 
 pub quotient_spec : {M : Type 1} → statement M
 quotient_spec = tie.close (tie.spec divide-requires returns)

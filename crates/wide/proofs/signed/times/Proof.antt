@@ -19,16 +19,16 @@ use Rattle.wide.proofs.signed.times.Lts as lts
 word : (x : Wide) → Within 9223372036854775807 (value_of x) → x.magnitude.lo ≡ size x.magnitude
 word x h = low_word 18446744073709551616 x.magnitude.hi x.magnitude.lo (lt_of_le_of_lt (le_trans (le_of_eq (sym (nat_abs-signed x.neg (size x.magnitude)))) h.size) (lit< tt))
 
-differ-requires : tie.Need-differ-requires
+differ-requires : tie.Need-differ-n-requires
 differ-requires c κs = search rules
 
-product-requires : tie.Need-product-requires
+product-requires : tie.Need-product-m-requires
 product-requires c κs = search rules
 
 returns : tie.Need-returns
 returns c =
     let s = c.before.before.before.before in let x = s.args.x in let y = s.args.y in
-    ap₂ signed c.before.differ.ensures (c.product.ensures ∙ ap₂ ◌*◌ (word x s.requires.0) (word y s.requires.1)) ∙ signed_mul x.neg y.neg (size x.magnitude) (size y.magnitude)
+    ap₂ signed c.before.differ-n.ensures (c.product-m.ensures ∙ ap₂ ◌*◌ (word x s.requires.0) (word y s.requires.1)) ∙ signed_mul x.neg y.neg (size x.magnitude) (size y.magnitude)
 
 pub times_spec : {M : Type 1} → statement M
 times_spec = tie.close (tie.spec differ-requires product-requires returns)

@@ -17,10 +17,10 @@ one_word n = omega arith
 word : (x : Wide) → Short x → x.magnitude.lo ≡ size x.magnitude
 word x h = sym (ap (λ (n : ℕ). two n x.magnitude.lo) h.high ∙ one_word x.magnitude.lo)
 
-differ-requires : tie.Need-differ-requires
+differ-requires : tie.Need-differ-n-requires
 differ-requires c κs = search rules
 
-mul-t11 : tie.Need-overflow-mul-t11
+mul-t11 : tie.Need-overflow_mul-m
 mul-t11 c =
     let s = c.before.before.before in
     record { fits = let p = room 4294967296 s.args.x.magnitude.lo s.args.y.magnitude.lo 0 0 s.requires.0.low s.requires.1.low (lit< tt) (lit< tt) in omega arith }
@@ -28,7 +28,7 @@ mul-t11 c =
 returns : tie.Need-returns
 returns c =
     let s = c.before.before.before in let x = s.args.x in let y = s.args.y in
-    ap₂ signed c.differ.ensures (one_word (x.magnitude.lo * y.magnitude.lo) ∙ ap₂ ◌*◌ (word x s.requires.0) (word y s.requires.1)) ∙ signed_mul x.neg y.neg (size x.magnitude) (size y.magnitude)
+    ap₂ signed c.differ-n.ensures (one_word (x.magnitude.lo * y.magnitude.lo) ∙ ap₂ ◌*◌ (word x s.requires.0) (word y s.requires.1)) ∙ signed_mul x.neg y.neg (size x.magnitude) (size y.magnitude)
 
 pub times_short_spec : {M : Type 1} → statement M
 times_short_spec = tie.close (tie.spec differ-requires mul-t11 returns)

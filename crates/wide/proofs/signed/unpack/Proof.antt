@@ -8,14 +8,14 @@ use Rattle.wide.proofs.signed.unpack.Tie as tie
 use Rattle.wide.proofs.signed.unpack.Reads as reads
 use Rattle.wide.proofs.signed.unpack.Lts as lts
 
-rest : (c : tie.Else1) → c.before.args.hi - 9223372036854775808 < 9223372036854775808
+rest : (c : tie.Else-hi-lt-SIGN) → c.before.args.hi - 9223372036854775808 < 9223372036854775808
 rest c = omega arith
 
-returns : tie.Need-returns
-returns c = let a = c.before.args in (cell-low 9223372036854775808 18446744073709551616 a.lo a.hi c.if1.true, cell-fits 9223372036854775808 18446744073709551616 a.lo a.hi c.before.ranges.lo.fits c.if1.true)
+returns : tie.Need-returns-then-hi-lt-SIGN
+returns c = let a = c.before.args in (cell-low 9223372036854775808 18446744073709551616 a.lo a.hi c.if-hi-lt-SIGN.true, cell-fits 9223372036854775808 18446744073709551616 a.lo a.hi c.before.ranges.lo.fits c.if-hi-lt-SIGN.true)
 
-returns-2 : tie.Need-returns-2
-returns-2 c = let a = c.before.args in (cell-high 9223372036854775808 18446744073709551616 a.lo a.hi _ (rest c) refl c.if1.false, cell-fits 9223372036854775808 18446744073709551616 a.lo _ c.before.ranges.lo.fits (rest c))
+returns-2 : tie.Need-returns
+returns-2 c = let a = c.before.args in (cell-high 9223372036854775808 18446744073709551616 a.lo a.hi _ (rest c) refl c.if-hi-lt-SIGN.false, cell-fits 9223372036854775808 18446744073709551616 a.lo _ c.before.ranges.lo.fits (rest c))
 
 pub unpack_spec : {M : Type 1} → statement M
 unpack_spec = tie.close (tie.spec returns returns-2)

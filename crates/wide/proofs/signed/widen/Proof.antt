@@ -14,21 +14,21 @@ use Rattle.wide.proofs.Digits.{one_word}
 use Rattle.wide.proofs.signed.widen.Statement.{statement}
 use Rattle.wide.proofs.signed.widen.Tie as tie
 
-magnitude-requires : tie.Need-magnitude-requires
+magnitude-requires : tie.Need-magnitude-l-requires
 magnitude-requires c κs = search rules
 
-is-below-requires : tie.Need-is-below-requires
+is-below-requires : tie.Need-is_below-s-requires
 is-below-requires c κs = search rules
 
-word : (c : tie.After-magnitude) → c.magnitude.result < 18446744073709551616
-word c = omega (arith, c.magnitude.type-inv)
+word : (c : tie.After-magnitude-l) → c.magnitude-l.result < 18446744073709551616
+word c = omega (arith, c.magnitude-l.type-inv)
 
 returns : tie.Need-returns
 returns c =
     let m = c.before in let s = m.before in
-    let e = one_word 18446744073709551616 0 m.magnitude.result refl in
+    let e = one_word 18446744073709551616 0 m.magnitude-l.result refl in
     let f = to_z_of_z s.ranges.x in
-    (ap₂ signed (c.is_below.ensures ∙ ap (λ (z : ℤ). lt_z z (pos 0)) f) (e ∙ m.magnitude.ensures ∙ ap nat_abs f) ∙ signed_is s.args.x, lt_of_le_of_lt (le_of_eq e) (lt_trans (word m) (lit< tt)))
+    (ap₂ signed (c.is_below-s.ensures ∙ ap (λ (z : ℤ). lt_z z (pos 0)) f) (e ∙ m.magnitude-l.ensures ∙ ap nat_abs f) ∙ signed_is s.args.x, lt_of_le_of_lt (le_of_eq e) (lt_trans (word m) (lit< tt)))
 
 pub widen_spec : {M : Type 1} → statement M
 widen_spec = tie.close (tie.spec magnitude-requires is-below-requires returns)

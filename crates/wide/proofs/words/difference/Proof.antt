@@ -14,29 +14,29 @@ word c = omega (arith, c.well-formed)
 below : (c : tie.Start) → c.args.a.lo < 18446744073709551616
 below c = omega (arith, c.well-formed)
 
-sub-t9 : tie.Need-overflow-sub-t9
-sub-t9 c = let a = c.before.args.a in let b = c.before.args.b in le_of_lt (diff-borrow 18446744073709551616 a.hi a.lo b.hi b.lo c.if1.true c.before.requires)
+sub-t9 : tie.Need-overflow_sub-result
+sub-t9 c = let a = c.before.args.a in let b = c.before.args.b in le_of_lt (diff-borrow 18446744073709551616 a.hi a.lo b.hi b.lo c.if-al-bl.true c.before.requires)
 
-sub-t10 : tie.Need-overflow-sub-t10
-sub-t10 c = let a = c.before.args.a in let b = c.before.args.b in one-off _ _ (diff-borrow 18446744073709551616 a.hi a.lo b.hi b.lo c.if1.true c.before.requires)
+sub-t10 : tie.Need-overflow_sub-result-then-al-bl
+sub-t10 c = let a = c.before.args.a in let b = c.before.args.b in one-off _ _ (diff-borrow 18446744073709551616 a.hi a.lo b.hi b.lo c.if-al-bl.true c.before.requires)
 
-sub-t11 : tie.Need-overflow-sub-t11
-sub-t11 c = le_of_lt c.if1.true
+sub-t11 : tie.Need-overflow_sub-result-then-al-bl-2
+sub-t11 c = le_of_lt c.if-al-bl.true
 
-sub-t12 : tie.Need-overflow-sub-t12
+sub-t12 : tie.Need-overflow_sub-result-then-al-bl-3
 sub-t12 c = let a = c.before.args.a in let b = c.before.args.b in word-left 18446744073709551615 a.lo b.lo (word c.before)
 
-add-t13 : tie.Need-overflow-add-t13
-add-t13 c = let a = c.before.args.a in let b = c.before.args.b in record { fits = back_in 18446744073709551615 a.lo b.lo c.if1.true (word c.before) }
+add-t13 : tie.Need-overflow_add-result
+add-t13 c = let a = c.before.args.a in let b = c.before.args.b in record { fits = back_in 18446744073709551615 a.lo b.lo c.if-al-bl.true (word c.before) }
 
-sub-t14 : tie.Need-overflow-sub-t14
+sub-t14 : tie.Need-overflow_sub-result-else-al-bl
 sub-t14 c = let a = c.before.args.a in let b = c.before.args.b in diff-high 18446744073709551616 a.hi a.lo b.hi b.lo (below c.before) c.before.requires
 
-returns : tie.Need-returns
-returns c = let a = c.before.args.a in let b = c.before.args.b in diff-borrowed 18446744073709551615 a.hi a.lo b.hi b.lo c.if1.true (word c.before) (diff-borrow 18446744073709551616 a.hi a.lo b.hi b.lo c.if1.true c.before.requires)
+returns : tie.Need-returns-then-al-bl
+returns c = let a = c.before.args.a in let b = c.before.args.b in diff-borrowed 18446744073709551615 a.hi a.lo b.hi b.lo c.if-al-bl.true (word c.before) (diff-borrow 18446744073709551616 a.hi a.lo b.hi b.lo c.if-al-bl.true c.before.requires)
 
-returns-2 : tie.Need-returns-2
-returns-2 c = let a = c.before.args.a in let b = c.before.args.b in diff_is 18446744073709551616 a.hi a.lo b.hi b.lo c.if1.false (sub-t14 c)
+returns-2 : tie.Need-returns-else-al-bl
+returns-2 c = let a = c.before.args.a in let b = c.before.args.b in diff_is 18446744073709551616 a.hi a.lo b.hi b.lo c.if-al-bl.false (sub-t14 c)
 
 pub difference_spec : {M : Type 1} → statement M
 difference_spec = tie.close (tie.spec sub-t9 sub-t10 sub-t11 sub-t12 add-t13 sub-t14 returns returns-2)

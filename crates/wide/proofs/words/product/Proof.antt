@@ -7,34 +7,34 @@ use Rattle.wide.proofs.Digits.{low_fits, mid-fits, mid2-fits, high_fits, product
 use Rattle.wide.proofs.words.product.Statement.{statement}
 use Rattle.wide.proofs.words.product.Tie as tie
 
-mul_low : tie.Need-overflow-mul-low
+mul_low : tie.Need-overflow_mul-low
 mul_low c = record { fits = low_fits 4294967296 c.args.a c.args.b (lit< tt) c.ranges.a.fits c.ranges.b.fits }
 
-add-mid : tie.Need-overflow-add-mid
+add-mid : tie.Need-overflow_add-mid
 add-mid c = record { fits = mid-fits 4294967296 c.args.a c.args.b (lit< tt) c.ranges.a.fits c.ranges.b.fits }
 
-mul-mid : tie.Need-overflow-mul-mid
+mul-mid : tie.Need-overflow_mul-mid
 mul-mid c = omega (arith, add-mid c)
 
-add-mid2 : tie.Need-overflow-add-mid2
+add-mid2 : tie.Need-overflow_add-mid2
 add-mid2 c = record { fits = mid2-fits 4294967296 c.args.a c.args.b (lit< tt) c.ranges.a.fits c.ranges.b.fits }
 
-mul-mid2 : tie.Need-overflow-mul-mid2
+mul-mid2 : tie.Need-overflow_mul-mid2
 mul-mid2 c = omega (arith, add-mid2 c)
 
-add-t14 : tie.Need-overflow-add-t14
+add-t14 : tie.Need-overflow_add-result-2
 add-t14 c = record { fits = high_fits 4294967296 c.args.a c.args.b (lit< tt) c.ranges.a.fits c.ranges.b.fits }
 
-add-t12 : tie.Need-overflow-add-t12
+add-t12 : tie.Need-overflow_add-result
 add-t12 c = record { fits = lt_of_le_of_lt (le-add_right _ _) (add-t14 c).ranges }
 
-mul-t10 : tie.Need-overflow-mul-t10
+mul-t10 : tie.Need-overflow_mul-result
 mul-t10 c = record { fits = lt_of_le_of_lt (le-add_right _ _) (add-t12 c).ranges }
 
-mul-t16 : tie.Need-overflow-mul-t16
+mul-t16 : tie.Need-overflow_mul-result-2
 mul-t16 c = search rules
 
-add-t18 : tie.Need-overflow-add-t18
+add-t18 : tie.Need-overflow_add-result-3
 add-t18 c = search rules
 
 returns : tie.Need-returns

@@ -100,20 +100,20 @@ module _ (x : tie.After-wipe) where
   own : get_or (rows_of (set (t s) (i s) (p o))) (i s) [] ≡ cells (p o)
   own = rows_at (set (t s) (i s) (p o)) (i s) ∙ ap cells (copied o)
 
-abbrev wiping : tie.After-t → tie.After-wipe
+abbrev wiping : tie.After-t-1 → tie.After-wipe
 wiping c = c.before.before.before.before
 
-count : (c : tie.After-t) → let s = s (wiping c) in c.before.sweep.result + 1 ≡ R.touched (j s) (rows_of (t s))
+count : (c : tie.After-t-1) → let s = s (wiping c) in c.before.sweep.result + 1 ≡ R.touched (j s) (rows_of (t s))
 count c =
     let x = wiping c in
     let s = s x in
     let e = ap (λ (l : List (List ℤ)). R.touched (j s) (set l (i s) [])) (table x) ∙ ap (R.touched (j s)) (set-set (rows_of (t s)) (i s) (cells (p (o x))) []) in
     omega (arith, c.before.sweep.ensures.1, L.touched-others (j s) (i s) (rows_of (t s)) (d s).row (d s).cross)
 
-mul-solve : tie.Need-overflow-mul-solve
+mul-solve : tie.Need-offset_bounds-t-i
 mul-solve c = search rules
 
-index-1-solve : tie.Need-bounds-1-solve
+index-1-solve : tie.Need-bounds-t-i
 index-1-solve c = row c
 
 solve-requires : tie.Need-solve-requires
@@ -122,13 +122,13 @@ solve-requires c κs =
     let w = fits s (i s) (row s) in
     (s.requires.0.at (i s) (row s), (d s).col, w.line, w.small (cross s), cross s)
 
-mul-p : tie.Need-overflow-mul-p
+mul-p : tie.Need-offset_bounds-t-i-2
 mul-p c = search rules
 
-slice-copy-out-p : tie.Need-slice-copy-out-p
+slice-copy-out-p : tie.Need-slice_copy_out-p
 slice-copy-out-p c = let s = c.before.before in omega (arith, length-set (t s) (i s) (p c), row s)
 
-cell-at-requires : tie.Need-cell-at-requires
+cell-at-requires : tie.Need-cell_at-m-requires
 cell-at-requires c κs = (copied-sheet c.before.before, omega arith)
 
 wipe-requires : tie.Need-wipe-requires
@@ -153,7 +153,7 @@ sweep-requires c κs =
           (subst (R.DivisorAt (bound 128) (n s) (get_or (cells r) 0 (pos 0))) (sym (q-is x)) (L.divisor-of (n s) (cells r) (sound x))),
     )
 
-add-result : tie.Need-overflow-add-result
+add-result : tie.Need-overflow_add-result
 add-result c = let s = s (wiping c) in record { fits = omega (arith, count c, L.touched-le (j s) (rows_of (t s)), (d s).count) }
 
 returns : tie.Need-returns
@@ -175,7 +175,7 @@ returns c =
       count c,
     )
 
-same_length : tie.Need-same-length
+same_length : tie.Need-shape_of-t
 same_length c = kept (s (wiping c)) _ (returns c).0
 
 pub exchange_spec : {M : Type 1} → statement M

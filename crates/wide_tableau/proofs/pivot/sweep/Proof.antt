@@ -22,15 +22,15 @@ use Rattle.wide_tableau.proofs.pivot.sweep.Reads as reads
 use Rattle.wide_tableau.proofs.pivot.sweep.Lts as lts
 use Rattle.wide_tableau.proofs.pivot.rebuild.Reads as rebuild-reads
 
-abbrev invariant-loop : tie.invariant-loop
+abbrev invariant-loop : tie.invariant-loop-k
 invariant-loop t₀ n i j m q built₀ k₀ t built k =
     (k ≤ length t₀) × (length t ≡ length t₀) × Sheets t × Rest k t₀ t × (rows_of t ≡ L.up_to (L.but i (R.rebuild_row j (value_of m) (cells q))) k (rows_of t₀)) × (built + R.touched j (drop k (set (rows_of t₀) i [])) ≡ R.touched j (set (rows_of t₀) i []))
 
-abbrev decreases-loop : tie.decreases-loop
+abbrev decreases-loop : tie.decreases-loop-k
 decreases-loop t₀ n i j m q built₀ k₀ t built k = length t₀ - k
 
 -- row k is looked at
-module _ (c : tie.In-loop invariant-loop decreases-loop) where
+module _ (c : tie.In-loop-k invariant-loop decreases-loop) where
   abbrev i : ℕ
   i = c.before.before.args.i
 
@@ -78,8 +78,8 @@ module _ (c : tie.In-loop invariant-loop decreases-loop) where
   rest-passed = record { at = λ m h. c.before.loop.invariant.3.at m (omega arith) }
 
 -- it is another than row i
-module _ (c : tie.After-rebuild invariant-loop decreases-loop) where
-  abbrev u : tie.In-loop invariant-loop decreases-loop
+module _ (c : tie.After-rebuild-built invariant-loop decreases-loop) where
+  abbrev u : tie.In-loop-k invariant-loop decreases-loop
   u = c.before.before.before
 
   counted : c.rebuild.result ≡ R.rebuilt (j u) (get_or (set (rows_of (t₀ u)) (i u) []) (k u) [])
@@ -88,42 +88,42 @@ module _ (c : tie.After-rebuild invariant-loop decreases-loop) where
       ∙ ap (λ (r : List ℕ). R.rebuilt (j u) (cells r)) (same u)
       ∙ sym (ap (R.rebuilt (j u)) (get_or-set_other (rows_of (t₀ u)) (i u) (k u) [] [] c.before.before.if1.true ∙ rows_at (t₀ u) (k u)))
 
-loop-holds : tie.Need-loop-init invariant-loop decreases-loop
+loop-holds : tie.Need-loop-k-init invariant-loop decreases-loop
 loop-holds c = (omega arith, refl, c.requires.0, rest-none _, L.up_to-none _ _, omega arith)
 
-mul-rebuild : tie.Need-overflow-mul-rebuild invariant-loop decreases-loop
+mul-rebuild : tie.Need-offset_bounds-t-k invariant-loop decreases-loop
 mul-rebuild c = search rules
 
-index-1-rebuild : tie.Need-bounds-1-rebuild invariant-loop decreases-loop
-index-1-rebuild c = c.before.loop-test.true
+index-1-rebuild : tie.Need-bounds-t-k invariant-loop decreases-loop
+index-1-rebuild c = c.before.loop-k-test.true
 
-rebuild-requires : tie.Need-rebuild-requires invariant-loop decreases-loop
+rebuild-requires : tie.Need-rebuild-built-requires invariant-loop decreases-loop
 rebuild-requires c κs =
     let u = c.before.before in
     let s = u.before.before in (
-      u.before.loop.invariant.2.at (k u) u.loop-test.true,
+      u.before.loop-k.invariant.2.at (k u) u.loop-k-test.true,
       s.requires.1,
       s.requires.2,
-      subst (λ (r : List ℕ). R.FitAt (bound 128) s.args.n (cells r) (j u)) (sym (same u)) (s.requires.4 (k u) (within u) c.before.if1.true),
+      subst (λ (r : List ℕ). R.FitAt (bound 128) s.args.n (cells r) (j u)) (sym (same u)) (s.requires.4 (k u) (within u) c.before.if-k-i.true),
       s.requires.5,
     )
 
-add-built : tie.Need-overflow-add-built invariant-loop decreases-loop
+add-built : tie.Need-overflow_add-built invariant-loop decreases-loop
 add-built c =
     let v = u c in
     let r = rows_of (t₀ v) in
     record { fits = omega (arith, counted c, step v, L.touched-le (j v) (set r (i v) []), length-set r (i v) [], rows-length (t₀ v), v.before.before.pre.3, v.before.loop.inv.5) }
 
-add-k : tie.Need-overflow-add-k invariant-loop decreases-loop
+add-k : tie.Need-overflow_add-k invariant-loop decreases-loop
 add-k c = search rules
 
-loop-less : tie.Need-loop-smaller invariant-loop decreases-loop
+loop-less : tie.Need-loop-k-smaller invariant-loop decreases-loop
 loop-less c = omega (arith, within c.before)
 
-loop-again : tie.Need-loop-preserved invariant-loop decreases-loop
+loop-again : tie.Need-loop-k-preserved invariant-loop decreases-loop
 loop-again c =
     let v = c.before in
-    let l = v.before.loop in
+    let l = v.before.loop-k in
     let h = within v in
     ⊎_elim
     (λ w.
@@ -147,20 +147,20 @@ loop-again c =
       ap rows_of w.1 ∙ passed v w.0.left,
       omega (arith, w.2, uncounted v w.0.left, step v, l.invariant.5),
     ))
-    c.if1.branch
+    c.if-k-i.branch
 
-same_length : tie.Need-same-length invariant-loop decreases-loop
-same_length c = c.before.loop.invariant.1
+same_length : tie.Need-shape_of-t invariant-loop decreases-loop
+same_length c = c.before.loop-k.invariant.1
 
 returns : tie.Need-returns invariant-loop decreases-loop
 returns c =
-    let l = c.before.loop in
+    let l = c.before.loop-k in
     let s = c.before.before in
     let t = s.args.t.now in
     let i = s.args.i in
     let f = R.rebuild_row s.args.j (value_of s.args.m) (cells s.args.q.now) in
     let a = rows-length t in
-    let v : length (rows_of t) ≤ l.k = omega (arith, c.loop-test.false, l.invariant.1) in (
+    let v : length (rows_of t) ≤ l.k = omega (arith, c.loop-k-test.false, l.invariant.1) in (
       record { is = l.invariant.4 ∙ L.up_to-but [] i f l.k (rows_of t) v; sheets = l.invariant.2 },
       omega (arith, L.touched-end s.args.j l.k (set (rows_of t) i []) (omega (arith, length-set (rows_of t) i [])), l.invariant.5),
     )

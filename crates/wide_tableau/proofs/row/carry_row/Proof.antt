@@ -20,50 +20,50 @@ use Rattle.wide_tableau.proofs.row.carry_row.Lts as lts
 use Rattle.wide.proofs.widen.Reads as widen-reads
 use Rattle.wide_tableau.proofs.row.set_cell.Reads as set-cell-reads
 
-abbrev invariant-loop : tie.invariant-loop
+abbrev invariant-loop : tie.invariant-loop-i
 invariant-loop s out₀ i₀ out i = (i ≤ 18) × Sheet out × (cells out ≡ L.up_to (from_list (pos 0) s) i (cells out₀))
 
-abbrev decreases-loop : tie.decreases-loop
+abbrev decreases-loop : tie.decreases-loop-i
 decreases-loop s out₀ i₀ out i = 18 - i
 
-loop-holds : tie.Need-loop-init invariant-loop decreases-loop
+loop-holds : tie.Need-loop-i-init invariant-loop decreases-loop
 loop-holds c = (omega arith, blank, L.up_to-none _ _)
 
-mul-x : tie.Need-overflow-mul-x invariant-loop decreases-loop
+mul-x : tie.Need-offset_bounds-s-i invariant-loop decreases-loop
 mul-x c = search rules
 
-element-copy-out-x : tie.Need-element-copy-out-x invariant-loop decreases-loop
+element-copy-out-x : tie.Need-bounds-s-i invariant-loop decreases-loop
 element-copy-out-x c = search rules
 
-widen-requires : tie.Need-widen-requires invariant-loop decreases-loop
+widen-requires : tie.Need-widen-z-requires invariant-loop decreases-loop
 widen-requires c κs = search rules
 
-set-cell-requires : tie.Need-set-cell-requires invariant-loop decreases-loop
+set-cell-requires : tie.Need-set_cell-requires invariant-loop decreases-loop
 set-cell-requires c κs =
     let i = c.before.before.before in
-    (i.before.loop.invariant.1, i.loop-test.true, c.before.widen.ensures.1)
+    (i.before.loop-i.invariant.1, i.loop-i-test.true, c.before.widen-z.ensures.1)
 
-add-i : tie.Need-overflow-add-i invariant-loop decreases-loop
+add-i : tie.Need-overflow_add-i invariant-loop decreases-loop
 add-i c = search rules
 
-loop-less : tie.Need-loop-smaller invariant-loop decreases-loop
+loop-less : tie.Need-loop-i-smaller invariant-loop decreases-loop
 loop-less c = search rules
 
-loop-again : tie.Need-loop-preserved invariant-loop decreases-loop
+loop-again : tie.Need-loop-i-preserved invariant-loop decreases-loop
 loop-again c =
-    let w = c.before.before in let x = w.before in let i = x.before in let l = i.before.loop in let s = i.before.before.before in
-    let h : l.i < length (cells (replicate 36 0)) = omega (arith, sheet-long (replicate 36 0) blank, i.loop-test.true) in (
-      omega (arith, i.loop-test.true),
-      c.set-cell.ensures.sheet,
-      c.set-cell.ensures.is
+    let w = c.before.before in let x = w.before in let i = x.before in let l = i.before.loop-i in let s = i.before.before.before in
+    let h : l.i < length (cells (replicate 36 0)) = omega (arith, sheet-long (replicate 36 0) blank, i.loop-i-test.true) in (
+      omega (arith, i.loop-i-test.true),
+      c.set_cell.ensures.sheet,
+      c.set_cell.ensures.is
           ∙ L.up_to-more (pos 0) (from_list (pos 0) s.args.s.now) l.i (cells (replicate 36 0)) (cells l.out) _ h l.invariant.2
-          (w.widen.ensures.0 ∙ to_z-of_z {w = w64} {z = get_or s.args.s.now l.i (pos 0)} (record { sfits = x.x.given }) ∙ sym (from_list-is (pos 0) s.args.s.now l.i _)),
+          (w.widen-z.ensures.0 ∙ to_z-of_z {w = w64} {z = get_or s.args.s.now l.i (pos 0)} (record { sfits = x.x-1.given }) ∙ sym (from_list-is (pos 0) s.args.s.now l.i _)),
     )
 
 returns : tie.Need-returns invariant-loop decreases-loop
 returns c =
-    let l = c.before.loop in let s = c.before.before.before in let e = sheet-long (replicate 36 0) blank in
-    record { is = l.invariant.2 ∙ up_to-from (pos 0) l.i (cells (replicate 36 0)) s.args.s.now (omega (arith, c.loop-test.false)) (e ∙ sym s.requires); sheet = l.invariant.1 }
+    let l = c.before.loop-i in let s = c.before.before.before in let e = sheet-long (replicate 36 0) blank in
+    record { is = l.invariant.2 ∙ up_to-from (pos 0) l.i (cells (replicate 36 0)) s.args.s.now (omega (arith, c.loop-i-test.false)) (e ∙ sym s.requires); sheet = l.invariant.1 }
 
 pub carry_row_spec : {M : Type 1} → statement M
 carry_row_spec =

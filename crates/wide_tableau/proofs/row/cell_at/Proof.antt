@@ -9,25 +9,25 @@ use Rattle.wide_tableau.proofs.row.cell_at.Reads as reads
 use Rattle.wide_tableau.proofs.row.cell_at.Lts as lts
 use Rattle.wide.proofs.unpack.Reads as unpack-reads
 
-add-h : tie.Need-overflow-add-h
+add-h : tie.Need-overflow_add-h
 add-h c = search rules
 
-mul-h : tie.Need-overflow-mul-h
+mul-h : tie.Need-offset_bounds-r-i
 mul-h c = search rules
 
-element-copy-out-h : tie.Need-element-copy-out-h
+element-copy-out-h : tie.Need-bounds-r-i
 element-copy-out-h c = search rules
 
-add-l : tie.Need-overflow-add-l
+add-l : tie.Need-overflow_add-l
 add-l c = search rules
 
-add-l-2 : tie.Need-overflow-add-l-2
+add-l-2 : tie.Need-overflow_add-l-2
 add-l-2 c = search rules
 
-mul-l : tie.Need-overflow-mul-l
+mul-l : tie.Need-offset_bounds-r-i-2
 mul-l c = search rules
 
-element-copy-out-l : tie.Need-element-copy-out-l
+element-copy-out-l : tie.Need-bounds-r-i-2
 element-copy-out-l c = search rules
 
 unpack-requires : tie.Need-unpack-requires

@@ -15,19 +15,19 @@ use Rattle.wide_tableau.proofs.row.divisor_with.Lts as lts
 use Rattle.wide.proofs.gcd.Reads as gcd-reads
 use Rattle.wide.proofs.is_one.Reads as is-one-reads
 
-is-one-requires : tie.Need-is-one-requires
+is-one-requires : tie.Need-is_one-requires
 is-one-requires c κs = search rules
 
-returns : tie.Need-returns
+returns : tie.Need-returns-then-is_one
 returns c =
     let o = c.before in let s = o.before.before in let x = s.args.x in
-    let e : size s.args.g ≡ 1 = eqb-true _ _ (sym o.is_one.ensures ∙ c.if1.true) in
+    let e : size s.args.g ≡ 1 = eqb-true _ _ (sym o.is_one.ensures ∙ c.if-is_one.true) in
     e ∙ sym (L.gcd-one (nat_abs (value_of x))) ∙ ap (gcd (nat_abs (value_of x))) (sym e)
 
 gcd-requires : tie.Need-gcd-requires
 gcd-requires c κs = search rules
 
-returns-2 : tie.Need-returns-2
+returns-2 : tie.Need-returns
 returns-2 c =
     let s = c.before.before.before.before in let x = s.args.x in
     c.gcd.ensures ∙ ap (λ (n : ℕ). gcd n (size s.args.g)) (sym (nat_abs-signed x.neg (size x.magnitude)))

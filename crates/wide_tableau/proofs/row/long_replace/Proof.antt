@@ -22,33 +22,33 @@ use Rattle.wide_tableau.proofs.row.clear.Reads as clear_reads
 use Rattle.wide_tableau.proofs.row.combine.Reads as combine-reads
 use Rattle.wide_tableau.proofs.row.reduce_by.Reads as reduce-by-reads
 
-abbrev start : tie.After-combine → tie.Start
+abbrev start : tie.After-combine-g → tie.Start
 start c = c.before.before.before.before.before.before.before
 
 -- minus the entry
-other : (c : tie.After-negate) → let s = c.before.before.before in value_of c.negate.result ≡ pos 0 -ℤ R.entry (cells s.args.r.now) s.args.j
-other c = let s = c.before.before.before in c.negate.ensures.0 ∙ ap neg_ℤ c.before.Cell-at.ensures.0 ∙ sym (L.minus_is (R.entry (cells s.args.r.now) s.args.j))
+other : (c : tie.After-negate-c) → let s = c.before.before.before in value_of c.negate-c.result ≡ pos 0 -ℤ R.entry (cells s.args.r.now) s.args.j
+other c = let s = c.before.before.before in c.negate-c.ensures.0 ∙ ap neg_ℤ c.before.Cell-at.ensures.0 ∙ sym (L.minus_is (R.entry (cells s.args.r.now) s.args.j))
 
 -- the row before it is reduced
-full : (c : tie.After-combine) → let s = start c in let r = cells s.args.r.now in
-    cells c.combine.new.0 ≡ R.combine_rows (value_of s.args.m) (pos 0 -ℤ R.entry r s.args.j) (set r (s.args.j + 2) (pos 0)) (cells s.args.q.now)
+full : (c : tie.After-combine-g) → let s = start c in let r = cells s.args.r.now in
+    cells c.combine-g.new.0 ≡ R.combine_rows (value_of s.args.m) (pos 0 -ℤ R.entry r s.args.j) (set r (s.args.j + 2) (pos 0)) (cells s.args.q.now)
 full c =
     let s = start c in let k = c.before.before in
-    c.combine.ensures.is ∙ ap₂ (λ (b : ℤ) (l : List ℤ). R.combine_rows (value_of s.args.m) b l (cells s.args.q.now)) (other k.before.before) k.clear.ensures.is
+    c.combine-g.ensures.is ∙ ap₂ (λ (b : ℤ) (l : List ℤ). R.combine_rows (value_of s.args.m) b l (cells s.args.q.now)) (other k.before.before) k.clear.ensures.is
 
-add-cell-at : tie.Need-overflow-add-cell-at
+add-cell-at : tie.Need-overflow_add-j
 add-cell-at c = search rules
 
-cell-at-requires : tie.Need-cell-at-requires
+cell-at-requires : tie.Need-cell_at-b-requires
 cell-at-requires c κs = search rules
 
-negate-requires : tie.Need-negate-requires
+negate-requires : tie.Need-negate-c-requires
 negate-requires c κs = search rules
 
 clear-requires : tie.Need-clear-requires
 clear-requires c κs = search rules
 
-combine-requires : tie.Need-combine-requires
+combine-requires : tie.Need-combine-g-requires
 combine-requires c κs =
     let k = c.before in let n = k.before.before in let s = n.before.before.before in
     let r = cells s.args.r.now in let j = s.args.j in let e = k.clear.ensures.is in (
@@ -62,22 +62,22 @@ combine-requires c κs =
       subst (Within (bound 128)) (sym (other n)) (L.within-minus (s.requires.5 (j + 2))),
     )
 
-reduce-by-requires : tie.Need-reduce-by-requires
+reduce-by-requires : tie.Need-reduce_by-requires
 reduce-by-requires c κs =
     let m = c.before in let s = start m in
     let r = cells s.args.r.now in let q = cells s.args.q.now in let j = s.args.j in let n = s.args.n in
     let l = set r (j + 2) (pos 0) in let b = pos 0 -ℤ R.entry r j in
     let hl = L.clear-line n r (j + 2) s.pre.3 in (
-      m.combine.ensures.sheet,
+      m.combine-g.ensures.sheet,
       subst (R.Line n) (sym (full m)) (L.combine-line n (value_of s.args.m) b l q hl s.pre.4),
       subst (λ (x : List ℤ). pos 0 <ℤ R.den x) (sym (full m)) (L.combine-den n (value_of s.args.m) b l q hl s.pre.4 s.pre.9 (subst (λ (x : ℤ). pos 0 <ℤ x) (sym (L.set-den r j (pos 0))) s.pre.10) s.pre.7),
-      m.combine.ensures.divisor_is ∙ ap R.divisor (sym m.combine.ensures.is),
+      m.combine-g.ensures.divisor_is ∙ ap R.divisor (sym m.combine-g.ensures.is),
     )
 
 returns : tie.Need-returns
 unfolding R.replace_row
 returns c =
-    record { is = c.reduce-by.ensures.is ∙ ap R.reduce_row (full c.before.before); sheet = c.reduce-by.ensures.sheet }
+    record { is = c.reduce_by.ensures.is ∙ ap R.reduce_row (full c.before.before); sheet = c.reduce_by.ensures.sheet }
 
 pub long_replace_spec : {M : Type 1} → statement M
 long_replace_spec =

@@ -17,7 +17,7 @@ use Rattle.wide_tableau.proofs.row.reduce_by.Lts as lts
 use Rattle.wide.proofs.is_one.Reads as is-one-reads
 use Rattle.wide_tableau.proofs.row.divide.Reads as divide-reads
 
-is-one-requires : tie.Need-is-one-requires
+is-one-requires : tie.Need-is_one-requires
 is-one-requires c κs = search rules
 
 divide-requires : tie.Need-divide-requires
@@ -25,17 +25,17 @@ divide-requires c κs =
     let s = c.before.before.before in
     (s.requires.0, s.requires.1, subst (λ (n : ℕ). 0 < n) (sym s.requires.3) (L.row-divisor (cells s.args.r.now) s.requires.2).0)
 
-returns : tie.Need-returns
+returns : tie.Need-returns-then-not-is_one
 unfolding R.reduce_row R.divide_row
 returns c =
     let s = c.before.before.before.before in
     record { is = c.divide.ensures.is ∙ ap (λ (n : ℕ). map (λ x. quot_z x (pos n)) (cells s.args.r.now)) s.requires.3; sheet = c.divide.ensures.sheet }
 
-returns-2 : tie.Need-returns-2
+returns-2 : tie.Need-returns-else-not-is_one
 unfolding R.reduce_row R.divide_row
 returns-2 c =
     let o = c.before in let s = o.before in let r = cells s.args.r.now in
-    let e : size s.args.g ≡ 1 = eqb-true _ _ (sym o.is_one.ensures ∙ not-false _ c.if1.false) in
+    let e : size s.args.g ≡ 1 = eqb-true _ _ (sym o.is_one.ensures ∙ not-false _ c.if-not-is_one.false-raw) in
     record { is = sym (ap (λ (n : ℕ). map (λ x. quot_z x (pos n)) r) (sym s.requires.3 ∙ e) ∙ L.map-quot-one r); sheet = s.requires.0 }
 
 pub reduce_by_spec : {M : Type 1} → statement M

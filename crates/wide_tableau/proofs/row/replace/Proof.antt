@@ -18,15 +18,15 @@ use Rattle.wide_tableau.specs.Cells.{cells, Becomes, Narrows}
 use Rattle.wide_tableau.proofs.row.replace.Statement.{statement}
 use Rattle.wide_tableau.proofs.row.replace.Tie as tie
 
-all-narrow-requires : tie.Need-all-narrow-requires
+all-narrow-requires : tie.Need-all_narrow-requires
 all-narrow-requires c κs = let s = c.before.before.before in (s.requires.0, s.requires.1, s.requires.3, s.requires.4)
 
-narrow-requires : tie.Need-narrow-requires
-narrow-requires c κs = (c.before.all-narrow.ensures c.if1.true).2
+narrow-requires : tie.Need-narrow-d-requires
+narrow-requires c κs = (c.before.all_narrow.ensures c.if-all_narrow.true).2
 
 -- at 64 bits: the start, and the numbers as they are taken over
-module _ (c : tie.After-narrow) where
-  abbrev taken : tie.After-all-narrow
+module _ (c : tie.After-narrow-d) where
+  abbrev taken : tie.After-all_narrow
   taken = c.before.before
 
   abbrev st : tie.Start
@@ -73,7 +73,7 @@ replace-requires c κs =
 replaced : (c : tie.After-replace) → let k = c.before.before.before in let a = st k in c.replace.new.0 ≡ R.replace_row (r k) a.args.j (value_of a.args.m) (q k)
 replaced c =
     let k = c.before.before.before in let a = st k in let h = rows k in
-    c.replace.ensures ∙ ap₂ (λ (l m : List ℤ). R.replace_row l a.args.j (to_z w64 (of_z w64 k.narrow.result)) m) h.0.is h.1.is
+    c.replace.ensures ∙ ap₂ (λ (l m : List ℤ). R.replace_row l a.args.j (to_z w64 (of_z w64 k.narrow-d.result)) m) h.0.is h.1.is
     ∙ ap (λ (z : ℤ). R.replace_row (r k) a.args.j z (q k)) (divisor_is k)
 
 eighteen : (n j : ℕ) (m : ℤ) (x y : List ℤ) → R.Line n x → R.Line n y → length (R.replace_row x j m y) ≡ 18
@@ -81,18 +81,18 @@ unfolding R.replace_row R.divide_row R.combine_rows R.reduce_row
 eighteen n j m x y h k =
     length-map (R.combine_rows m (pos 0 -ℤ R.entry x j) (set x (j + 2) (pos 0)) y) _ ∙ (L.combine-line n m (pos 0 -ℤ R.entry x j) (set x (j + 2) (pos 0)) y (L.clear-line n x (j + 2) h) k).long
 
-carry-row-requires : tie.Need-carry-row-requires
+carry-row-requires : tie.Need-carry_row-requires
 carry-row-requires c κs =
     let e = c.before.before in let k = e.before.before.before in let a = st k in
     ap length (replaced e) ∙ eighteen a.args.n a.args.j (value_of a.args.m) (r k) (q k) a.pre.3 a.pre.4
 
-returns : tie.Need-returns
-returns c = let e = c.before.before.before in subst (Becomes _) (replaced e) c.carry-row.ensures
+returns : tie.Need-returns-then-all_narrow
+returns c = let e = c.before.before.before in subst (Becomes _) (replaced e) c.carry_row.ensures
 
-long-replace-requires : tie.Need-long-replace-requires
+long-replace-requires : tie.Need-long_replace-requires
 long-replace-requires c κs = search rules
 
-returns-2 : tie.Need-returns-2
+returns-2 : tie.Need-returns
 returns-2 c = search rules
 
 pub replace_spec : {M : Type 1} → statement M

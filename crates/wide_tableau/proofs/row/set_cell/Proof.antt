@@ -18,28 +18,28 @@ use Rattle.wide.proofs.high_of.Reads as high-of-reads
 low : (c : tie.Start) → c.args.x.magnitude.lo < 18446744073709551616
 low c = omega (arith, c.well-formed)
 
-high-of-requires : tie.Need-high-of-requires
+high-of-requires : tie.Need-high_of-h-requires
 high-of-requires c κs = search rules
 
-add_r : tie.Need-overflow-add-r
+add_r : tie.Need-overflow_add-r
 add_r c = search rules
 
-mul-r : tie.Need-overflow-mul-r
+mul-r : tie.Need-offset_bounds-r-i
 mul-r c = search rules
 
-element-write-r : tie.Need-element-write-r
+element-write-r : tie.Need-bounds-r-i
 element-write-r c = search rules
 
-add-r-2 : tie.Need-overflow-add-r-2
+add-r-2 : tie.Need-overflow_add-r-2
 add-r-2 c = search rules
 
-add-r-3 : tie.Need-overflow-add-r-3
+add-r-3 : tie.Need-overflow_add-r-3
 add-r-3 c = search rules
 
-mul-r-2 : tie.Need-overflow-mul-r-2
+mul-r-2 : tie.Need-offset_bounds-r-i-2
 mul-r-2 c = search rules
 
-element-write-r-2 : tie.Need-element-write-r-2
+element-write-r-2 : tie.Need-bounds-r-i-2
 element-write-r-2 c = search rules
 
 returns : tie.Need-returns

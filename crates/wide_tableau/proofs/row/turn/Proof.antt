@@ -24,74 +24,74 @@ use Rattle.wide_tableau.proofs.row.cell_at.Reads as cell-at-reads
 use Rattle.wide_tableau.proofs.row.negate.Reads as row-negate-reads
 use Rattle.wide_tableau.proofs.row.set_cell.Reads as set-cell-reads
 
-add-cell-at : tie.Need-overflow-add-cell-at
+add-cell-at : tie.Need-overflow_add-j
 add-cell-at c = search rules
 
-cell-at-requires : tie.Need-cell-at-requires
+cell-at-requires : tie.Need-cell_at-a-requires
 cell-at-requires c κs = search rules
 
-cell-at-requires-2 : tie.Need-cell-at-requires-2
+cell-at-requires-2 : tie.Need-cell_at-d-requires
 cell-at-requires-2 c κs = search rules
 
-is-negative-requires : tie.Need-is-negative-requires
+is-negative-requires : tie.Need-is_negative-requires
 is-negative-requires c κs = search rules
 
-negate-requires : tie.Need-negate-requires
+negate-requires : tie.Need-negate-x-requires
 negate-requires c κs = search rules
 
-negate-requires-2 : tie.Need-negate-requires-2
+negate-requires-2 : tie.Need-negate-y-requires
 negate-requires-2 c κs = search rules
 
-set-cell-requires : tie.Need-set-cell-requires
+set-cell-requires : tie.Need-set_cell-requires
 set-cell-requires c κs =
     let m = c.before.before in let a = m.before.before.before.before.before in let s = a.before.before in
-    (s.requires.0, lit< tt, lt_of_le_of_lt (le_of_eq m.negate.ensures.1) a.Cell-at.ensures.1)
+    (s.requires.0, lit< tt, lt_of_le_of_lt (le_of_eq m.negate-x.ensures.1) a.Cell-at.ensures.1)
 
-add-set-cell : tie.Need-overflow-add-set-cell
+add-set-cell : tie.Need-overflow_add-j-then-is_negative
 add-set-cell c = search rules
 
-set-cell-requires-2 : tie.Need-set-cell-requires-2
+set-cell-requires-2 : tie.Need-set_cell-requires-then-is_negative
 set-cell-requires-2 c κs =
     let w = c.before in let n = w.before.before in let d = n.before.before.before.before in let s = d.before.before.before.before in
-    (w.set-cell.ensures.sheet, omega (arith, s.requires.2), lt_of_le_of_lt (le_of_eq n.negate2.ensures.1) d.cell-at2.ensures.1)
+    (w.set_cell.ensures.sheet, omega (arith, s.requires.2), lt_of_le_of_lt (le_of_eq n.negate-y.ensures.1) d.cell_at-d.ensures.1)
 
-returns : tie.Need-returns
+returns : tie.Need-returns-then-is_negative
 unfolding R.turn_row
 returns c =
     let w = c.before.before in let n = w.before.before in let m = n.before in let t = m.before in let g = t.before in let d = g.before in let a = d.before.before in let s = a.before.before in
     let r = cells s.args.r.now in let j = s.args.j in
-    let ex : value_of m.negate.result ≡ pos 0 -ℤ R.entry r j = m.negate.ensures.0 ∙ ap neg_ℤ a.Cell-at.ensures.0 ∙ sym (L.minus_is (R.entry r j)) in
-    let ey : value_of n.negate2.result ≡ pos 0 -ℤ R.den r = n.negate2.ensures.0 ∙ ap neg_ℤ d.cell-at2.ensures.0 ∙ sym (L.minus_is (R.den r)) in
-    let e : lt_z (R.entry r j) (pos 0) ≡ true = sym (ap (λ (z : ℤ). lt_z z (pos 0)) a.Cell-at.ensures.0) ∙ sym g.is_negative.ensures ∙ t.if1.true in
+    let ex : value_of m.negate.result ≡ pos 0 -ℤ R.entry r j = m.negate-x.ensures.0 ∙ ap neg_ℤ a.Cell-at.ensures.0 ∙ sym (L.minus_is (R.entry r j)) in
+    let ey : value_of n.negate2.result ≡ pos 0 -ℤ R.den r = n.negate-y.ensures.0 ∙ ap neg_ℤ d.cell_at-d.ensures.0 ∙ sym (L.minus_is (R.den r)) in
+    let e : lt_z (R.entry r j) (pos 0) ≡ true = sym (ap (λ (z : ℤ). lt_z z (pos 0)) a.Cell-at.ensures.0) ∙ sym g.is_negative.ensures ∙ t.if-is_negative.true in
     record {
-      is = c.set-cell2.ensures.is ∙ ap₂ (λ (l : List ℤ) (v : ℤ). set l (j + 2) v) (w.set-cell.ensures.is ∙ ap (set r 0) ex) ey ∙ sym (ap (λ (b : Bool). R.turn_by b r j) e);
-      sheet = c.set-cell2.ensures.sheet;
+      is = c.set_cell-then-is_negative.ensures.is ∙ ap₂ (λ (l : List ℤ) (v : ℤ). set l (j + 2) v) (w.set_cell.ensures.is ∙ ap (set r 0) ex) ey ∙ sym (ap (λ (b : Bool). R.turn_by b r j) e);
+      sheet = c.set_cell-then-is_negative.ensures.sheet;
     }
 
-negate-requires-3 : tie.Need-negate-requires-3
+negate-requires-3 : tie.Need-negate-requires
 negate-requires-3 c κs = search rules
 
-set-cell-requires-3 : tie.Need-set-cell-requires-3
+set-cell-requires-3 : tie.Need-set_cell-requires-2
 set-cell-requires-3 c κs = search rules
 
-add-set-cell-2 : tie.Need-overflow-add-set-cell-2
+add-set-cell-2 : tie.Need-overflow_add-j-2
 add-set-cell-2 c = search rules
 
-set-cell-requires-4 : tie.Need-set-cell-requires-4
+set-cell-requires-4 : tie.Need-set_cell-requires-3
 set-cell-requires-4 c κs = search rules
 
-returns-2 : tie.Need-returns-2
+returns-2 : tie.Need-returns
 unfolding R.turn_row
 returns-2 c =
     let w = c.before.before in let n = w.before.before in let t = n.before.before in let g = t.before in let d = g.before in let a = d.before.before in let s = a.before.before in
     let r = cells s.args.r.now in let j = s.args.j in
-    let e : lt_z (R.entry r j) (pos 0) ≡ false = sym (ap (λ (z : ℤ). lt_z z (pos 0)) a.Cell-at.ensures.0) ∙ sym g.is_negative.ensures ∙ t.if1.false in
+    let e : lt_z (R.entry r j) (pos 0) ≡ false = sym (ap (λ (z : ℤ). lt_z z (pos 0)) a.Cell-at.ensures.0) ∙ sym g.is_negative.ensures ∙ t.if-is_negative.false in
     record {
       is =
-          c.set-cell4.ensures.is
-          ∙ ap₂ (λ (l : List ℤ) (v : ℤ). set l (j + 2) v) (w.set-cell3.ensures.is ∙ ap₂ (λ (l : List ℤ) (v : ℤ). set l 0 v) n.negate3.ensures.is a.Cell-at.ensures.0) d.cell-at2.ensures.0
+          c.set_cell-3.ensures.is
+          ∙ ap₂ (λ (l : List ℤ) (v : ℤ). set l (j + 2) v) (w.set_cell-2.ensures.is ∙ ap₂ (λ (l : List ℤ) (v : ℤ). set l 0 v) n.negate.ensures.is a.Cell-at.ensures.0) d.cell_at-d.ensures.0
           ∙ sym (ap (λ (b : Bool). R.turn_by b r j) e);
-      sheet = c.set-cell4.ensures.sheet;
+      sheet = c.set_cell-3.ensures.sheet;
     }
 
 pub turn_spec : {M : Type 1} → statement M

@@ -11,16 +11,16 @@ use Rattle.wide_tableau.proofs.row.wipe.Lts as lts
 use Rattle.wide_tableau.proofs.row.set_cell.Reads as set-cell-reads
 use Rattle.wide_tableau.proofs.row.zero.Reads as zero-reads
 
-zero-requires : tie.Need-zero-requires
+zero-requires : tie.Need-zero-z-requires
 zero-requires c κs = search rules
 
-set-cell-requires : tie.Need-set-cell-requires
+set-cell-requires : tie.Need-set_cell-requires
 set-cell-requires c κs = search rules
 
 returns : tie.Need-returns
 returns c =
     let z = c.before.before in let s = z.before in
-    record { is = c.set-cell.ensures.is ∙ ap (set (cells s.args.r.now) 0) z.zero.ensures.0; sheet = c.set-cell.ensures.sheet }
+    record { is = c.set_cell.ensures.is ∙ ap (set (cells s.args.r.now) 0) z.zero-z.ensures.0; sheet = c.set_cell.ensures.sheet }
 
 pub wipe_spec : {M : Type 1} → statement M
 wipe_spec = tie.close (tie.spec zero-requires set-cell-requires returns)

@@ -15,40 +15,40 @@ use Rattle.wide_tableau.proofs.search.column_helps.Lts as lts
 use Rattle.wide_tableau.proofs.row.cell_at.Reads as cell-at-reads
 use Rattle.wide_tableau.proofs.search.is_helping.Reads as is-helping-reads
 
-mul-i : tie.Need-overflow-mul-i
+mul-i : tie.Need-offset_bounds-place-v
 mul-i c = search rules
 
-shared-slice-read-i : tie.Need-shared-slice-read-i
+shared-slice-read-i : tie.Need-bounds-place-v
 shared-slice-read-i c = search rules
 
-shared-slice-read-k : tie.Need-shared-slice-read-k
+shared-slice-read-k : tie.Need-bounds-kinds-v
 shared-slice-read-k c = search rules
 
-returns : tie.Need-returns
+returns : tie.Need-returns-then-i-lt64
 unfolding R.helps_at
 returns c =
     let s = c.before.before.before.before.before in let r = cells s.args.r.now in
-    sym (ap (λ (b : Bool). cond b false (R.helps_by (get_or s.args.kinds.now s.args.v 0) (get_or r 1 (pos 0)) (get_or r (get_or s.args.place.now s.args.v 0 - 64 + 2) (pos 0)))) (lt-ltb _ 64 c.if1.true))
+    sym (ap (λ (b : Bool). cond b false (R.helps_by (get_or s.args.kinds.now s.args.v 0) (get_or r 1 (pos 0)) (get_or r (get_or s.args.place.now s.args.v 0 - 64 + 2) (pos 0)))) (lt-ltb _ 64 c.if-i-lt64.true))
 
-cell-at-requires : tie.Need-cell-at-requires
+cell-at-requires : tie.Need-cell_at-c-requires
 cell-at-requires c κs = search rules
 
-add-cell-at : tie.Need-overflow-add-cell-at
+add-cell-at : tie.Need-overflow_add-i
 add-cell-at c = search rules
 
-cell-at-requires-2 : tie.Need-cell-at-requires-2
+cell-at-requires-2 : tie.Need-cell_at-e-requires
 cell-at-requires-2 c κs = search rules
 
-is-helping-requires : tie.Need-is-helping-requires
+is-helping-requires : tie.Need-is_helping-requires
 is-helping-requires c κs = search rules
 
-returns-2 : tie.Need-returns-2
+returns-2 : tie.Need-returns
 unfolding R.helps_at
 returns-2 c =
     let y = c.before in let x = y.before in let e = x.before in let s = e.before.before.before.before.before in let r = cells s.args.r.now in
     let i = get_or s.args.place.now s.args.v 0 in let k = get_or s.args.kinds.now s.args.v 0 in
-    c.is-helping.ensures ∙ ap₂ (R.helps_by k) x.Cell-at.ensures.0 y.cell-at2.ensures.0
-    ∙ sym (ap (λ (b : Bool). cond b false (R.helps_by k (get_or r 1 (pos 0)) (get_or r (i - 64 + 2) (pos 0)))) (le-ltb i 64 e.if1.false))
+    c.is_helping.ensures ∙ ap₂ (R.helps_by k) x.Cell-at.ensures.0 y.cell_at-e.ensures.0
+    ∙ sym (ap (λ (b : Bool). cond b false (R.helps_by k (get_or r 1 (pos 0)) (get_or r (i - 64 + 2) (pos 0)))) (le-ltb i 64 e.if-i-lt64.false))
 
 pub column_helps_spec : {M : Type 1} → statement M
 column_helps_spec =

@@ -8,13 +8,13 @@ use Rattle.wide_tableau.proofs.search.constant_at.Reads as reads
 use Rattle.wide_tableau.proofs.search.constant_at.Lts as lts
 use Rattle.wide_tableau.proofs.row.cell_at.Reads as cell-at-reads
 
-mul-cell-at : tie.Need-overflow-mul-cell-at
+mul-cell-at : tie.Need-offset_bounds-t-i
 mul-cell-at c = search rules
 
-shared-slice-element-cell-at : tie.Need-shared-slice-element-cell-at
+shared-slice-element-cell-at : tie.Need-bounds-t-i
 shared-slice-element-cell-at c = search rules
 
-cell-at-requires : tie.Need-cell-at-requires
+cell-at-requires : tie.Need-cell_at-requires
 cell-at-requires c κs = let s = c.before in (s.requires.0.at s.args.i s.requires.1, lit< tt)
 
 returns : tie.Need-returns

@@ -13,16 +13,16 @@ use Rattle.wide_tableau.proofs.search.is_positive.Lts as lts
 use Rattle.wide.proofs.is_negative.Reads as is-negative-reads
 use Rattle.wide.proofs.negate.Reads as negate-reads
 
-negate-requires : tie.Need-negate-requires
+negate-requires : tie.Need-negate-y-requires
 negate-requires c κs = search rules
 
-is-negative-requires : tie.Need-is-negative-requires
+is-negative-requires : tie.Need-is_negative-requires
 is-negative-requires c κs = search rules
 
 returns : tie.Need-returns
 returns c =
     let n = c.before in let x = value_of n.before.args.x in
-    c.is_negative.ensures ∙ ap (λ (z : ℤ). lt_z z (pos 0)) n.negate.ensures.0 ∙ neg-lt x
+    c.is_negative.ensures ∙ ap (λ (z : ℤ). lt_z z (pos 0)) n.negate-y.ensures.0 ∙ neg-lt x
 
 pub is_positive_spec : {M : Type 1} → statement M
 is_positive_spec = tie.close (tie.spec negate-requires is-negative-requires returns)

@@ -17,26 +17,26 @@ use Rattle.wide_tableau.proofs.search.is_violated.Lts as lts
 use Rattle.wide.proofs.is_negative.Reads as is-negative-reads
 use Rattle.wide.proofs.is_zero.Reads as is-zero-reads
 
-is-negative-requires : tie.Need-is-negative-requires
+is-negative-requires : tie.Need-is_negative-requires
 is-negative-requires c κs = search rules
 
-returns : tie.Need-returns
+returns : tie.Need-returns-then-kind-eq1
 returns c =
     let t = c.before in let s = t.before.before in
-    c.is_negative.ensures ∙ sym (ap (λ (k : ℕ). R.violated_by k (value_of s.args.x)) t.if1.true)
+    c.is_negative.ensures ∙ sym (ap (λ (k : ℕ). R.violated_by k (value_of s.args.x)) t.if-kind-eq1.true)
 
-is-zero-requires : tie.Need-is-zero-requires
+is-zero-requires : tie.Need-is_zero-requires
 is-zero-requires c κs = search rules
 
-returns-2 : tie.Need-returns-2
+returns-2 : tie.Need-returns-then-kind-eq2
 returns-2 c =
     let t = c.before in let s = t.before.before.before in let x = s.args.x in
-    ap not (c.is_zero.ensures ∙ zero_is x.neg (size x.magnitude)) ∙ sym (ap (λ (k : ℕ). R.violated_by k (value_of x)) t.if2.true)
+    ap not (c.is_zero.ensures ∙ zero_is x.neg (size x.magnitude)) ∙ sym (ap (λ (k : ℕ). R.violated_by k (value_of x)) t.if-kind-eq2.true)
 
-returns-3 : tie.Need-returns-3
+returns-3 : tie.Need-returns
 returns-3 c =
     let s = c.before.before.before in let x = value_of s.args.x in
-    sym (ap₂ (λ (a b : Bool). cond a (lt_z x (pos 0)) (cond b (not (is_zero x)) false)) (ne_eqb s.args.kind 1 c.before.if1.false) (ne_eqb s.args.kind 2 c.if2.false))
+    sym (ap₂ (λ (a b : Bool). cond a (lt_z x (pos 0)) (cond b (not (is_zero x)) false)) (ne_eqb s.args.kind 1 c.before.if-kind-eq1.false) (ne_eqb s.args.kind 2 c.if-kind-eq2.false))
 
 pub is_violated_spec : {M : Type 1} → statement M
 is_violated_spec =

@@ -17,35 +17,35 @@ use Rattle.wide_tableau.proofs.search.row_violated.Lts as lts
 use Rattle.wide_tableau.proofs.search.constant_at.Reads as constant-at-reads
 use Rattle.wide_tableau.proofs.search.is_violated.Reads as is-violated-reads
 
-mul-i : tie.Need-overflow-mul-i
+mul-i : tie.Need-offset_bounds-place-v
 mul-i c = search rules
 
-shared-slice-read-i : tie.Need-shared-slice-read-i
+shared-slice-read-i : tie.Need-bounds-place-v
 shared-slice-read-i c = search rules
 
-shared-slice-read-k : tie.Need-shared-slice-read-k
+shared-slice-read-k : tie.Need-bounds-kinds-v
 shared-slice-read-k c = search rules
 
-constant-at-requires : tie.Need-constant-at-requires
-constant-at-requires c κs = let s = c.before.before.before.before.before in (s.requires.0, s.requires.3 c.if1.true)
+constant-at-requires : tie.Need-constant_at-x-requires
+constant-at-requires c κs = let s = c.before.before.before.before.before in (s.requires.0, s.requires.3 c.if-i-lt64.true)
 
-is-violated-requires : tie.Need-is-violated-requires
+is-violated-requires : tie.Need-is_violated-requires
 is-violated-requires c κs = search rules
 
-returns : tie.Need-returns
+returns : tie.Need-returns-then-i-lt64
 unfolding R.violated_at
 returns c =
     let v = c.before in let t = v.before in let s = t.before.before.before.before.before in
     let i = get_or s.args.place.now s.args.v 0 in let k = get_or s.args.kinds.now s.args.v 0 in let rs = rows_of s.args.t.now in
-    c.is-violated.ensures ∙ ap (R.violated_by k) (v.constant-at.ensures ∙ ap (λ (r : List ℤ). get_or r 1 (pos 0)) (sym (rows_at s.args.t.now i)))
-    ∙ sym (ap (λ (b : Bool). cond b (R.violated_by k (get_or (get_or rs i []) 1 (pos 0))) false) (lt-ltb i 64 t.if1.true))
+    c.is_violated.ensures ∙ ap (R.violated_by k) (v.constant_at-x.ensures ∙ ap (λ (r : List ℤ). get_or r 1 (pos 0)) (sym (rows_at s.args.t.now i)))
+    ∙ sym (ap (λ (b : Bool). cond b (R.violated_by k (get_or (get_or rs i []) 1 (pos 0))) false) (lt-ltb i 64 t.if-i-lt64.true))
 
-returns-2 : tie.Need-returns-2
+returns-2 : tie.Need-returns
 unfolding R.violated_at
 returns-2 c =
     let s = c.before.before.before.before.before in
     let i = get_or s.args.place.now s.args.v 0 in
-    sym (ap (λ (b : Bool). cond b (R.violated_by (get_or s.args.kinds.now s.args.v 0) (get_or (get_or (rows_of s.args.t.now) i []) 1 (pos 0))) false) (le-ltb i 64 c.if1.false))
+    sym (ap (λ (b : Bool). cond b (R.violated_by (get_or s.args.kinds.now s.args.v 0) (get_or (get_or (rows_of s.args.t.now) i []) 1 (pos 0))) false) (le-ltb i 64 c.if-i-lt64.false))
 
 pub row_violated_spec : {M : Type 1} → statement M
 row_violated_spec =

@@ -4,7 +4,7 @@ use borrow.Author.Rules.{rules}
 use Rattle.worked.proofs.refusals.show.Statement.{statement}
 use Rattle.worked.proofs.refusals.show.Tie as tie
 
-slice-aggregate-say : tie.Need-slice-aggregate-say
+slice-aggregate-say : tie.Need-slice_bounds-say-end
 slice-aggregate-say c = sym (length-take-le c.before.before.args.n c.before.before.args.text.now c.before.before.requires)
 
 say-requires : tie.Need-say-requires

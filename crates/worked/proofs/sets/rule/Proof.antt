@@ -4,32 +4,32 @@ use borrow.Author.Rules.{rules}
 use Rattle.worked.proofs.sets.rule.Statement.{statement}
 use Rattle.worked.proofs.sets.rule.Tie as tie
 
-add-put-i32 : tie.Need-overflow-add-put-i32
+add-put-i32 : tie.Need-overflow_add-at
 add-put-i32 c = search rules
 
-put-i32-requires : tie.Need-put-i32-requires
+put-i32-requires : tie.Need-put_i32-requires
 put-i32-requires c κs = search rules
 
-add-put-i16 : tie.Need-overflow-add-put-i16
+add-put-i16 : tie.Need-overflow_add-at-2
 add-put-i16 c = search rules
 
-put-i16-requires : tie.Need-put-i16-requires
+put-i16-requires : tie.Need-put_i16-requires
 put-i16-requires c κs = search rules
 
-add-put-i16-2 : tie.Need-overflow-add-put-i16-2
+add-put-i16-2 : tie.Need-overflow_add-at-3
 add-put-i16-2 c = search rules
 
-put-i16-requires-2 : tie.Need-put-i16-requires-2
+put-i16-requires-2 : tie.Need-put_i16-requires-2
 put-i16-requires-2 c κs = search rules
 
-slice-write-out : tie.Need-slice-write-out
+slice-write-out : tie.Need-bounds-out-at
 slice-write-out c = search rules
 
-same_length : tie.Need-same-length
+same_length : tie.Need-shape_of-out
 same_length c =
     let at-put-i16 = c.before.before.before.before.before.before in let at-put-i32 = at-put-i16.before.before.before.before in let at-p13 = at-put-i32.before.before.before in
     let st = at-p13 in
-    length-set c.before.before.put-i162.new.0 st.args.at st.args.kind ∙ c.before.before.put-i162.auto.0 ∙ at-put-i16.put-i16.auto.0 ∙ at-put-i32.put-i32.auto.0
+    length-set c.before.before.put_i16-2.new.0 st.args.at st.args.kind ∙ c.before.before.put_i16-2.auto.0 ∙ at-put-i16.put-i16.auto.0 ∙ at-put-i32.put-i32.auto.0
 
 returns : tie.Need-returns
 returns c = search rules

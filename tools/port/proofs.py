@@ -1,0 +1,323 @@
+#!/usr/bin/env python3
+"""Gives the names that today's Rattle makes to the proofs by hand, once, after port.py and names.py.
+
+usage: proofs.py OLD NAMES [CRATE..]
+
+OLD is the last commit in the older form, NAMES the folder that `rt names NAMES` wrote at the top. In each crates/CRATE/proofs/**/*.antt it turns
+the goals, the places and the steps of a function's walk: tie.Need-div-q, tie.Then1, c.if1.true, c.f.ensures.0  ->  tie.Need-nonzero_div-q,
+tie.Then-r-lt0, c.if-r-lt0.true, c.f.ensures.is. A line `look:` names what it could not turn.
+"""
+import glob
+import json
+import os
+import re
+import subprocess
+import sys
+
+NAME = r"[^\s(){}.;,@\"«»\[\]|]+"
+MODULES = "Tie|Lts|Given|Goals"
+LOOP_ENDS = {"holds": "init", "less": "smaller", "again": "preserved"}
+
+
+def norm(name):
+    return name.replace("_", "-")
+
+
+def read(path):
+    with open(path, encoding="utf-8") as f:
+        return f.read()
+
+
+class Walk:
+    """the names of one function's walk"""
+
+    def __init__(self, of):
+        self.needs = [(norm(old), new) for old, new in of["needs"]]
+        self.asked_at = [norm(old) for old, _ in of["asked_at"]]
+        self.asked = {norm(old): fields for old, fields in of["asked"].items()}
+        self.places, self.parent, self.step, self.variables, self.fields = {}, {}, {}, {}, {}
+        for (old, before, step, _, variables), new, clauses in zip(of["places"], of["places_by_name"], of["clauses"]):
+            old = norm(old)
+            self.places[old] = new
+            self.parent[old] = norm(before) if before else None
+            self.step[old] = (norm(step[0]), step[1])
+            self.variables[old] = {norm(it[0]): it[1] for it in variables}
+            self.fields[old] = clauses["fields"] if clauses else None
+        self.pre = of["pre"]["fields"] if of["pre"] else None
+        self.loops = [(norm(old), new) for (old, new), *_ in of["loops"]]
+
+    def need(self, label):
+        for loop, _ in self.loops:
+            for old, new in LOOP_ENDS.items():
+                if label == f"{loop}-{old}":
+                    label = f"{loop}-{new}"
+        for at, (old, new) in enumerate(self.needs):
+            if old == label:
+                return at, new
+        return None
+
+    def label(self, old):
+        """the new spelling of a name of the walk's module, and the place that it speaks of"""
+        old = norm(old)
+        if old.startswith("Need-"):
+            found = self.need(old[5:])
+            return found and ("Need-" + found[1], self.asked_at[found[0]])
+        for loop, new in self.loops:
+            if old in (f"InvT-{loop}", f"invariant-{loop}"):
+                return "invariant-" + new, None
+            if old in (f"MeasureT-{loop}", f"decreases-{loop}"):
+                return "decreases-" + new, None
+        return (self.places[old], old) if old in self.places else None
+
+
+def walks(folder):
+    out = {}
+    for path in glob.glob(f"{folder}/crates/*/names.json"):
+        crate = path.split("/")[-2]
+        for key, of in json.loads(read(path)).items():
+            if ".Lts" in key:
+                out[crate, key.split(".", 1)[1]] = of
+    return out
+
+
+def aliases(text, found):
+    out = {}
+    for crate, path, module, alias in re.findall(rf"(?m)^use Rattle\.(\w+)\.proofs\.(\S+)\.((?:{MODULES})\S*) as (\S+)", text):
+        names = [key for key in found if key[0] == crate and key[1].rsplit(".Lts", 1)[0] == path]
+        if len(names) == 1:
+            out[alias] = Walk(found[names[0]])
+    return out
+
+
+class Turner:
+    def __init__(self, path, old, new, found):
+        self.path, self.text = path, new
+        self.ties = aliases(new, found)
+        heads = "|".join(map(re.escape, self.ties)) or "(?!)"
+        self.label = re.compile(rf"(?<![\w.'-])({heads})\.({NAME})")
+        olds, news = self.label.findall(self.code(old)), self.label.findall(self.code(new))
+        self.olds = [it[1] for it in olds] if len(olds) == len(news) else None
+        if self.olds is None and news:
+            print(f"look: {path}: {len(olds)} names of the walk were {len(news)}")
+        self.at, self.functions = 0, {}
+
+    @staticmethod
+    def code(text):
+        return "\n".join("" if re.match(r"\s*(--|use )", line) else line for line in text.split("\n"))
+
+    def turned(self):
+        if not self.ties:
+            return self.text
+        return "\n\n".join(self.declaration(it) for it in self.text.split("\n\n"))
+
+    def declaration(self, text):
+        walk, place = None, None
+        spans = []
+        places = []
+        for m in self.label.finditer(self.code(text)):
+            old = self.olds[self.at] if self.olds else m[2]
+            self.at += 1
+            tie = self.ties[m[1]]
+            named = tie.label(old) or tie.label(m[2])
+            if named is None:
+                if old not in ("spec", "close"):
+                    print(f"look: {self.path}: {m[1]}.{old}")
+                continue
+            # comment lines are blank in code(): find the same occurrence in the text
+            spans.append((m[1], m[2], named[0]))
+            places.append((tie, named[1], m[1], named[0]))
+        for alias, label, new in spans:
+            text = re.sub(rf"(?<![\w.'-]){re.escape(alias)}\.{re.escape(label)}(?![^\s(){{}}.;,])", f"\x00{alias}\x01{new}", text, count=1)
+        text = text.replace("\x00", "").replace("\x01", ".")
+        if not places:
+            return self.chains(text, {}) if self.functions else text
+        return self.in_walk(text)
+
+    def place_of(self, label_text):
+        m = re.match(rf"({NAME})\.({NAME})", label_text)
+        tie = self.ties.get(m[1]) if m else None
+        if tie is None:
+            return None
+        for old, new in tie.places.items():
+            if new == m[2]:
+                return tie, old
+        if m[2].startswith("Need-"):
+            for at, (_, new) in enumerate(tie.needs):
+                if "Need-" + new == m[2]:
+                    return tie, tie.asked_at[at]
+        return None
+
+    def in_walk(self, text):
+        env = {}
+        lines = text.split("\n")
+        # signatures: NAME : (c : tie.Place ..) → .., NAME : tie.Need-X .., NAME : tie.Place .. → tie.Place
+        for at, line in enumerate(lines):
+            m = re.match(rf"\s*(?:abbrev )?(?:pub )?({NAME}) : (.*)", line)
+            if not m:
+                continue
+            binders = re.findall(rf"\((\w+(?: \w+)*) : ({NAME}\.{NAME})", m[2])
+            for names, label in binders:
+                where = self.place_of(label)
+                for name in names.split():
+                    if where:
+                        env[name] = where
+            plain = re.match(rf"({NAME}\.{NAME})([^→]*)(?:→ ({NAME}\.{NAME}))?", m[2])
+            if plain and not binders:
+                where = self.place_of(plain[1])
+                if where:
+                    for later in lines[at + 1 :]:
+                        c = re.match(rf"\s*{re.escape(m[1])} ([\w']+)", later)
+                        if c:
+                            env[c[1]] = where
+                            break
+                if plain[3] and self.place_of(plain[3]):
+                    self.functions[m[1]] = self.place_of(plain[3])
+            elif binders:
+                result = re.search(rf"→ ({NAME}\.{NAME})[^→]*$", m[2])
+                if result and self.place_of(result[1]):
+                    self.functions[m[1]] = self.place_of(result[1])
+                # the clause may call its first parameter otherwise
+                for later in lines[at + 1 :]:
+                    c = re.match(rf"\s*{re.escape(m[1])} ([\w']+)", later)
+                    if c and c[1] not in env and self.place_of(binders[0][1]):
+                        env[c[1]] = self.place_of(binders[0][1])
+                        break
+            if m[2].startswith(tuple(f"{a}.Need-" for a in self.ties)):
+                self.fields_of_goal(lines, at, m[1], plain[1])
+        return self.chains("\n".join(lines), env)
+
+    def fields_of_goal(self, lines, at, name, label):
+        """a pair that answers a goal of several clauses becomes a record"""
+        alias, need = label.split(".", 1)
+        tie = self.ties[alias]
+        old = next((o for o, n in tie.needs if "Need-" + n == need), None)
+        fields = tie.asked.get(old)
+        if not fields:
+            return
+        start = next((i for i in range(at + 1, len(lines)) if re.match(rf"\s*{re.escape(name)} .*=", lines[i])), None)
+        if start is None:
+            return
+        body = "\n".join(lines[start:])
+        first = body.index("=") + 1
+        # the last parenthesis at depth 0 that ends the body
+        stripped = body.rstrip()
+        if not stripped.endswith(")"):
+            print(f"look: {self.path}: {name} has the fields {', '.join(fields)}")
+            return
+        depth, i = 0, len(stripped) - 1
+        while i >= first:
+            depth += (stripped[i] == ")") - (stripped[i] == "(")
+            if depth == 0:
+                break
+            i -= 1
+        before = stripped[first:i].rstrip()
+        if before and not before.endswith((" in", "=", "\nin", "(in")):
+            print(f"look: {self.path}: {name} has the fields {', '.join(fields)}")
+            return
+        parts, depth, last = [], 0, i + 1
+        for j in range(i + 1, len(stripped) - 1):
+            depth += (stripped[j] in "([{") - (stripped[j] in ")]}")
+            if stripped[j] == "," and depth == 0:
+                parts.append(stripped[last:j].strip())
+                last = j + 1
+        rest = stripped[last:-1].strip()
+        if rest:
+            parts.append(rest)
+        if len(parts) != len(fields):
+            print(f"look: {self.path}: {name} has the fields {', '.join(fields)}, and {len(parts)} parts")
+            return
+        new = "record { " + "; ".join(f"{f} = {p}" for f, p in zip(fields, parts)) + " }"
+        lines[start:] = (stripped[:i] + new).split("\n")
+
+    def chains(self, text, env):
+        env = dict(env)
+        token = re.compile(rf"(?P<let>\blet (?P<var>[\w']+)(?P<type> : [^=\n]*?)? = )|(?P<head>\)|(?<![\w.'-])[A-Za-z_][^\s(){{}}.;,]*)(?P<fields>(?:\.{NAME})*)")
+        out, last, pending = [], 0, None
+        for m in token.finditer(text):
+            if m["let"]:
+                pending = (m["var"], m.end())
+                env.pop(m["var"], None)
+                continue
+            where = None
+            if m["head"] == ")":
+                inner = self.inside(text, m.start())
+                f = re.match(rf"\s*({NAME}) ", inner or "")
+                where = self.functions.get(f[1]) if f else None
+            elif m["head"] in self.ties:
+                continue
+            else:
+                where = env.get(m["head"])
+            if where is None:
+                # a call of a helper that gives a place: let s = start c in
+                if pending and pending[1] == m.start() and m["head"] in self.functions and not m["fields"]:
+                    env[pending[0]] = self.functions[m["head"]]
+                pending = None
+                continue
+            new, end = self.chain(where, re.findall(rf"\.({NAME})", m["fields"]))
+            if pending and pending[1] == m.start() and end is not None:
+                env[pending[0]] = (where[0], end)
+            pending = None
+            out.append(text[last : m.start("fields")])
+            out.append("".join("." + it for it in new))
+            last = m.end("fields")
+        out.append(text[last:])
+        return "".join(out)
+
+    @staticmethod
+    def inside(text, at):
+        depth, i = 0, at
+        while i >= 0:
+            depth += (text[i] == ")") - (text[i] == "(")
+            if depth == 0:
+                return text[i + 1 : at]
+            i -= 1
+        return None
+
+    def chain(self, where, fields):
+        """the fields in today's names, and the place where the chain ends, if it is one"""
+        tie, place = where
+        new, i = [], 0
+        while i < len(fields) and fields[i] == "before" and place:
+            new.append("before")
+            place = tie.parent.get(place)
+            i += 1
+        if place is None:
+            return new + fields[i:], None
+        if i == len(fields):
+            return new, place
+        step = tie.step[place]
+        if norm(fields[i]) == step[0] and step[0]:
+            new.append(step[1])
+            i += 1
+            variables = tie.variables[place]
+            if i < len(fields) and norm(fields[i]) in variables:
+                new.append(variables[norm(fields[i])])
+                i += 1
+            elif i + 1 < len(fields) and fields[i] == "ensures" and tie.fields[place] and fields[i + 1].isdigit():
+                at = int(fields[i + 1])
+                new += ["ensures", tie.fields[place][at] if at < len(tie.fields[place]) else fields[i + 1]]
+                i += 2
+        elif fields[i] in ("requires", "pre") and tie.pre and i + 1 < len(fields) and fields[i + 1].isdigit():
+            new += ["requires", tie.pre[int(fields[i + 1])]]
+            i += 2
+        return new + fields[i:], None
+
+
+def main():
+    commit, names, *crates = sys.argv[1:]
+    found = walks(names)
+    for path in sorted(glob.glob("crates/*/proofs/**/*.antt", recursive=True)):
+        if crates and path.split("/")[1] not in crates:
+            continue
+        new = read(path)
+        if not re.search(rf"(?m)^use Rattle\.\S+\.(?:{MODULES})\S* as ", new):
+            continue
+        old = subprocess.run(["git", "show", f"{commit}:{path}"], capture_output=True, text=True).stdout
+        turned = Turner(path, old, new, found).turned()
+        if turned != new:
+            with open(path, "w", encoding="utf-8") as f:
+                f.write(turned)
+
+
+if __name__ == "__main__":
+    main()
