@@ -4,8 +4,8 @@
 usage: proofs.py OLD NAMES [CRATE..]
 
 OLD is the last commit in the older form, NAMES the folder that `rt names NAMES` wrote at the top. In each crates/CRATE/proofs/**/*.antt it turns
-the goals, the places and the steps of a function's walk: tie.Need-div-q, tie.Then1, c.if1.true, c.f.ensures.0  ->  tie.Need-nonzero_div-q,
-tie.Then-r-lt0, c.if-r-lt0.true, c.f.ensures.is. A line `look:` names what it could not turn.
+the goals, the places and the steps of a function's walk: tie.Need-div-q, tie.Then1, c.if1.true  ->  tie.Need-nonzero_div-q,
+tie.Then-r-lt0, c.if-r-lt0.true. A line `look:` names what it could not turn.
 """
 import glob
 import json
@@ -16,6 +16,7 @@ import sys
 
 NAME = r"[^\s(){}.;,@\"«»\[\]|]+"
 MODULES = "Tie|Lts|Given|Goals"
+OWN = {"type-inv": "type_inv", "well-formed": "well_formed"}
 LOOP_ENDS = {"holds": "init", "less": "smaller", "again": "preserved"}
 
 
@@ -34,16 +35,13 @@ class Walk:
     def __init__(self, of):
         self.needs = [(norm(old), new) for old, new in of["needs"]]
         self.asked_at = [norm(old) for old, _ in of["asked_at"]]
-        self.asked = {norm(old): fields for old, fields in of["asked"].items()}
-        self.places, self.parent, self.step, self.variables, self.fields = {}, {}, {}, {}, {}
-        for (old, before, step, _, variables), new, clauses in zip(of["places"], of["places_by_name"], of["clauses"]):
+        self.places, self.parent, self.step, self.variables = {}, {}, {}, {}
+        for (old, before, step, _, variables), new in zip(of["places"], of["places_by_name"]):
             old = norm(old)
             self.places[old] = new
             self.parent[old] = norm(before) if before else None
             self.step[old] = (norm(step[0]), step[1])
             self.variables[old] = {norm(it[0]): it[1] for it in variables}
-            self.fields[old] = clauses["fields"] if clauses else None
-        self.pre = of["pre"]["fields"] if of["pre"] else None
         self.loops = [(norm(old), new) for (old, new), *_ in of["loops"]]
 
     def need(self, label):
@@ -182,52 +180,7 @@ class Turner:
                     if c and c[1] not in env and self.place_of(binders[0][1]):
                         env[c[1]] = self.place_of(binders[0][1])
                         break
-            if m[2].startswith(tuple(f"{a}.Need-" for a in self.ties)):
-                self.fields_of_goal(lines, at, m[1], plain[1])
         return self.chains("\n".join(lines), env)
-
-    def fields_of_goal(self, lines, at, name, label):
-        """a pair that answers a goal of several clauses becomes a record"""
-        alias, need = label.split(".", 1)
-        tie = self.ties[alias]
-        old = next((o for o, n in tie.needs if "Need-" + n == need), None)
-        fields = tie.asked.get(old)
-        if not fields:
-            return
-        start = next((i for i in range(at + 1, len(lines)) if re.match(rf"\s*{re.escape(name)} .*=", lines[i])), None)
-        if start is None:
-            return
-        body = "\n".join(lines[start:])
-        first = body.index("=") + 1
-        # the last parenthesis at depth 0 that ends the body
-        stripped = body.rstrip()
-        if not stripped.endswith(")"):
-            print(f"look: {self.path}: {name} has the fields {', '.join(fields)}")
-            return
-        depth, i = 0, len(stripped) - 1
-        while i >= first:
-            depth += (stripped[i] == ")") - (stripped[i] == "(")
-            if depth == 0:
-                break
-            i -= 1
-        before = stripped[first:i].rstrip()
-        if before and not before.endswith((" in", "=", "\nin", "(in")):
-            print(f"look: {self.path}: {name} has the fields {', '.join(fields)}")
-            return
-        parts, depth, last = [], 0, i + 1
-        for j in range(i + 1, len(stripped) - 1):
-            depth += (stripped[j] in "([{") - (stripped[j] in ")]}")
-            if stripped[j] == "," and depth == 0:
-                parts.append(stripped[last:j].strip())
-                last = j + 1
-        rest = stripped[last:-1].strip()
-        if rest:
-            parts.append(rest)
-        if len(parts) != len(fields):
-            print(f"look: {self.path}: {name} has the fields {', '.join(fields)}, and {len(parts)} parts")
-            return
-        new = "record { " + "; ".join(f"{f} = {p}" for f, p in zip(fields, parts)) + " }"
-        lines[start:] = (stripped[:i] + new).split("\n")
 
     def chains(self, text, env):
         env = dict(env)
@@ -286,20 +239,17 @@ class Turner:
         if i == len(fields):
             return new, place
         step = tie.step[place]
-        if norm(fields[i]) == step[0] and step[0]:
+        # port.py took some steps for types
+        if step[0] and norm(fields[i]).lower() == step[0].lower():
             new.append(step[1])
             i += 1
             variables = tie.variables[place]
             if i < len(fields) and norm(fields[i]) in variables:
                 new.append(variables[norm(fields[i])])
                 i += 1
-            elif i + 1 < len(fields) and fields[i] == "ensures" and tie.fields[place] and fields[i + 1].isdigit():
-                at = int(fields[i + 1])
-                new += ["ensures", tie.fields[place][at] if at < len(tie.fields[place]) else fields[i + 1]]
-                i += 2
-        elif fields[i] in ("requires", "pre") and tie.pre and i + 1 < len(fields) and fields[i + 1].isdigit():
-            new += ["requires", tie.pre[int(fields[i + 1])]]
-            i += 2
+            elif i < len(fields):
+                new.append(OWN.get(fields[i], fields[i]))
+                i += 1
         return new + fields[i:], None
 
 

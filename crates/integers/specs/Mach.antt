@@ -36,7 +36,7 @@ le_z-false a b e = nle a b (subst (λ (t : Bool). T (not t)) (sym e) tt)
 
 -- ---- what a local's bits stand for
 pub to_z_of_z : {w : Width} {z : ℤ} → SFits w z → to_z w (of_z w z) ≡ z
-to_z_of_z {w} {z} h = L.to_z_of_z w z h
+to_z_of_z {w} {z} h = L.to_z-of_z w z h
 
 -- an unsigned number that is below a bound, cast to a signed type
 pub to_z-nat : (w : Width) (n m : ℕ) → n < m → T (leb m (2 ^ hbits w)) → to_z w n ≡ pos n

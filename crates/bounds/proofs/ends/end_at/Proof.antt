@@ -20,16 +20,16 @@ moved-requires : tie.Need-moved-requires
 moved-requires c κs = search rules
 
 sum_is : (c : tie.After-moved) → to_z w64 (of_z w64 c.before.s32_at-c.result) +ℤ to_z w64 (of_z w64 c.moved.result) ≡ c.before.s32_at-c.result +ℤ c.moved.result
-sum_is c = ap₂ ◌+ℤ◌ (result_is w64 c.before.s32_at-c.result c.before.s32_at-c.type-inv) (result_is w64 c.moved.result c.moved.type-inv)
+sum_is c = ap₂ ◌+ℤ◌ (result_is w64 c.before.s32_at-c.result c.before.s32_at-c.type_inv) (result_is w64 c.moved.result c.moved.type_inv)
 
 add-result : tie.Need-overflow_add-result
-add-result c = rw (sum_is c) (within-fits (omega arith) (end-within c.before.s32_at-c.ensures.size c.moved.ensures.size))
+add-result c = rw (sum_is c) (within-fits (omega arith) (end-within c.before.s32_at-c.ensures.1 c.moved.ensures.1))
 
 returns : tie.Need-returns
 returns c =
     let st = c.before.before.before in
     let e = to_z_of_z (add-result c) ∙ sum_is c in
-    record { is = e ∙ ap₂ ◌+ℤ◌ c.before.s32_at-c.ensures.is (c.moved.ensures.is ∙ gain-back st.args.k (axes_in st.args.t.now) st.ranges.z st.ranges.from st.ranges.to); size = subst (Within 549755813888) (sym e) (end-within c.before.s32_at-c.ensures.size c.moved.ensures.size) }
+    (e ∙ ap₂ ◌+ℤ◌ c.before.s32_at-c.ensures.0 (c.moved.ensures.0 ∙ gain-back st.args.k (axes_in st.args.t.now) st.ranges.z st.ranges.from st.ranges.to), subst (Within 549755813888) (sym e) (end-within c.before.s32_at-c.ensures.1 c.moved.ensures.1))
 
 pub end_at_spec : {M : Type 1} → statement M
 end_at_spec = tie.close (tie.spec s32-at-requires moved-requires add-result returns)

@@ -43,7 +43,7 @@ shared-slice-copy-out-term-2 c = let m = c.before.before.before in let st = m.be
 term-requires : tie.Need-term-s-requires invariant-loop decreases-loop
 term-requires c κs =
     let m = c.before.before.before.before in let st = m.before.before in let i = m.loop-i.i in
-    (back-within (omega arith) c.before.before.s16_at.ensures.size, back-within (omega arith) (st.requires.1.lows.at i), back-within (omega arith) (st.requires.1.highs.at i))
+    (back-within (omega arith) c.before.before.s16_at.ensures.1, back-within (omega arith) (st.requires.1.lows.at i), back-within (omega arith) (st.requires.1.highs.at i))
 
 -- what a call of term gives, in the plain numbers
 term_is : (c : tie.After-term-s invariant-loop decreases-loop) →
@@ -51,10 +51,10 @@ term_is : (c : tie.After-term-s invariant-loop decreases-loop) →
     to_z w64 (of_z w64 c.term-s.result) ≡ x.s16_at.result *ℤ cond (non_neg x.s16_at.result) (get_or st.args.u.now m.loop-i.i (pos 0)) (get_or st.args.v.now m.loop-i.i (pos 0))
 term_is c =
     let x = c.before.before.before in let m = x.before.before in let st = m.before.before in let i = m.loop-i.i in
-    let a = result_is w64 x.s16_at.result x.s16_at.type-inv in
+    let a = result_is w64 x.s16_at.result x.s16_at.type_inv in
     let u : to_z w64 (of_z w64 (get_or st.args.u.now i (pos 0))) ≡ get_or st.args.u.now i (pos 0) = to_z_of_z (within-fits (omega arith) (st.requires.1.lows.at i)) in
     let v : to_z w64 (of_z w64 (get_or st.args.v.now i (pos 0))) ≡ get_or st.args.v.now i (pos 0) = to_z_of_z (within-fits (omega arith) (st.requires.1.highs.at i)) in
-    result_is w64 c.term-s.result c.term-s.type-inv ∙ c.term-s.ensures ∙ ap (λ (z : ℤ). z *ℤ cond (non_neg z) (to_z w64 (of_z w64 (get_or st.args.u.now i (pos 0)))) (to_z w64 (of_z w64 (get_or st.args.v.now i (pos 0))))) a
+    result_is w64 c.term-s.result c.term-s.type_inv ∙ c.term-s.ensures ∙ ap (λ (z : ℤ). z *ℤ cond (non_neg z) (to_z w64 (of_z w64 (get_or st.args.u.now i (pos 0)))) (to_z w64 (of_z w64 (get_or st.args.v.now i (pos 0))))) a
     ∙ ap₂ (λ (y z : ℤ). x.s16_at.result *ℤ cond (non_neg x.s16_at.result) y z) u v
 
 add-s : tie.Need-overflow_add-s invariant-loop decreases-loop
@@ -63,7 +63,7 @@ add-s c =
     let e = term_is c in
     summing-fits st.args.t.now st.args.p st.args.u.now st.args.v.now (to_z w64 (of_z w64 st.args.from)) m.loop-i.s-bits i m.loop-i.q m.loop-i.invariant st.requires.1.few 2199023255552 (omega arith)
     (rw (to_z_of_z st.ranges.from) st.requires.2) st.requires.1.lows st.requires.1.highs _
-    (subst (Within (32768 * 2199023255552)) (sym e) (term-within x.s16_at.ensures.size (st.requires.1.lows.at i) (st.requires.1.highs.at i)))
+    (subst (Within (32768 * 2199023255552)) (sym e) (term-within x.s16_at.ensures.1 (st.requires.1.lows.at i) (st.requires.1.highs.at i)))
 
 add-q : tie.Need-overflow_add-q invariant-loop decreases-loop
 add-q c = let m = c.before.before.before.before.before in let st = m.before.before in let v = m.loop-i.invariant.place in let f = st.requires.1.few in let g = st.requires.0 in omega arith
@@ -78,12 +78,15 @@ loop-again : tie.Need-loop-i-preserved invariant-loop decreases-loop
 loop-again c =
     let a2 = c.before in let x = a2.before.before in let lp = x.before in let m = lp.before in let st = m.before.before in
     summing-next st.args.t.now st.args.p st.args.u.now st.args.v.now (to_z w64 (of_z w64 st.args.from)) m.loop-i.s-bits m.loop-i.i m.loop-i.q m.loop-i.invariant lp.loop-i-test.true st.requires.1.same st.requires.1.few _ x.s16_at.result _
-    x.s16_at.ensures.is x.s16_at.ensures.size (term_is c) (to_z_of_z (add-s c))
+    x.s16_at.ensures.0 x.s16_at.ensures.1 (term_is c) (to_z_of_z (add-s c))
 
 returns : tie.Need-returns invariant-loop decreases-loop
 returns c =
     let m = c.before in let st = m.before.before in
-    let e = to_z_of_z st.ranges.from in record { is = summing-end st.args.t.now st.args.p st.args.u.now st.args.v.now (to_z w64 (of_z w64 st.args.from)) m.loop-i.s-bits m.loop-i.i m.loop-i.q m.loop-i.invariant c.loop-i-test.false ∙ rw e; size = λ F B f hu hv. summing-size st.args.t.now st.args.p st.args.u.now st.args.v.now (to_z w64 (of_z w64 st.args.from)) m.loop-i.s-bits m.loop-i.i m.loop-i.q m.loop-i.invariant st.requires.1.few F B (rw e f) hu hv }
+    let e = to_z_of_z st.ranges.from in (
+      summing-end st.args.t.now st.args.p st.args.u.now st.args.v.now (to_z w64 (of_z w64 st.args.from)) m.loop-i.s-bits m.loop-i.i m.loop-i.q m.loop-i.invariant c.loop-i-test.false ∙ rw e,
+      λ F B f hu hv. summing-size st.args.t.now st.args.p st.args.u.now st.args.v.now (to_z w64 (of_z w64 st.args.from)) m.loop-i.s-bits m.loop-i.i m.loop-i.q m.loop-i.invariant st.requires.1.few F B (rw e f) hu hv,
+    )
 
 pub extreme_spec : {M : Type 1} → statement M
 extreme_spec =

@@ -26,9 +26,9 @@ floor-div-requires c κs =
 returns : tie.Need-returns
 returns c =
     let x = c.before in let st = x.before.before in let a = st.args in let t = a.t.now in
-    let e = result_is w64 c.floor_div.result c.floor_div.type-inv ∙ c.floor_div.ensures
-    ∙ ap₂ (λ (z w : ℤ). floor_div z (nat_abs w)) (result_is w64 x.end_at-e.result x.end_at-e.type-inv) (to_z-nat w64 a.d 4294967296 st.requires.2 tt) in
-    record { is = e ∙ ap (λ (z : ℤ). floor_div z a.d) (x.end_at-e.ensures.is ∙ ap (λ (z : ℤ). constant_in t +ℤ z) (gain-back a.k (axes_in t) st.ranges.z st.ranges.from st.ranges.to)); size = subst (Within 549755813888) (sym e) (floor-within 549755813888 x.end_at-e.result a.d x.end_at-e.ensures.size) }
+    let e = result_is w64 c.floor_div.result c.floor_div.type_inv ∙ c.floor_div.ensures
+    ∙ ap₂ (λ (z w : ℤ). floor_div z (nat_abs w)) (result_is w64 x.end_at-e.result x.end_at-e.type_inv) (to_z-nat w64 a.d 4294967296 st.requires.2 tt) in
+    (e ∙ ap (λ (z : ℤ). floor_div z a.d) (x.end_at-e.ensures.0 ∙ ap (λ (z : ℤ). constant_in t +ℤ z) (gain-back a.k (axes_in t) st.ranges.z st.ranges.from st.ranges.to)), subst (Within 549755813888) (sym e) (floor-within 549755813888 x.end_at-e.result a.d x.end_at-e.ensures.1))
 
 pub quotient_end_spec : {M : Type 1} → statement M
 quotient_end_spec = tie.close (tie.spec end-at-requires cast-floor-div floor-div-requires returns)

@@ -109,7 +109,7 @@ body-requires c κs = (here c.before).whole
 divisor-in : (x : tie.After-body-t invariant-loop decreases-loop) → let d = x.before.head-e.result in (division_body ≤ length x.body-t.result.now) × (0 < d) × (d < 4294967296)
 divisor-in x =
     let h = x.before in let v = here h.before in
-    (subst (λ (u : List ℕ). division_body ≤ length u) (sym x.body-t.ensures) v.body, subst (λ (d : ℕ). 0 < d) (sym h.head-e.ensures.is) v.divisor, h.head-e.ensures.size)
+    (subst (λ (u : List ℕ). division_body ≤ length u) (sym x.body-t.ensures) v.body, subst (λ (d : ℕ). 0 < d) (sym h.head-e.ensures.0) v.divisor, h.head-e.ensures.1)
 
 mul-quotient-end : tie.Need-offset_bounds-r-d invariant-loop decreases-loop
 mul-quotient-end c = let f = few c.before.before in omega arith
@@ -178,15 +178,15 @@ plain z z' f f' g g' k d d' u v o e a b c =
 loop-again : tie.Need-loop-e-preserved invariant-loop decreases-loop
 loop-again c =
     let q2 = c.before in let q1 = q2.before.before in let x = q1.before.before in let y = x.before in let t = y.before in let a = (st t).args in let l = (m t).loop in let low = a.low.now in let high = a.high.now in let r = a.r.now in
-    let kl = result_is w64 q1.quotient_end-l.result q1.quotient_end-l.type-inv in let kh = result_is w64 q2.quotient_end-h.result q2.quotient_end-h.type-inv in
-    let pl = kl ∙ q1.quotient_end-l.ensures.is ∙ plain _ _ _ _ _ _ a.k _ _ _ _ y.head-e.ensures.is x.body-t.ensures (to_z_of_z {w = w64} (within-fits (omega arith) (least t))) (low-gap t) (high-gap t) in
-    let ph = kh ∙ q2.quotient_end-h.ensures.is ∙ plain _ _ _ _ _ _ a.k _ _ _ _ y.head-e.ensures.is x.body-t.ensures (to_z_of_z {w = w64} (within-fits (omega arith) (greatest t))) (high-gap t) (low-gap t) in
+    let kl = result_is w64 q1.quotient_end-l.result q1.quotient_end-l.type_inv in let kh = result_is w64 q2.quotient_end-h.result q2.quotient_end-h.type_inv in
+    let pl = kl ∙ q1.quotient_end-l.ensures.0 ∙ plain _ _ _ _ _ _ a.k _ _ _ _ y.head-e.ensures.0 x.body-t.ensures (to_z_of_z {w = w64} (within-fits (omega arith) (least t))) (low-gap t) (high-gap t) in
+    let ph = kh ∙ q2.quotient_end-h.ensures.0 ∙ plain _ _ _ _ _ _ a.k _ _ _ _ y.head-e.ensures.0 x.body-t.ensures (to_z_of_z {w = w64} (within-fits (omega arith) (greatest t))) (high-gap t) (low-gap t) in
     let f : l.d < 56 = let y = few t in omega arith in
     let o = bounding-form a.s.now (start_of r) (box_of low high) l.at l.d l.ql l.qh l.inv (code t) in
     subst (λ (p : ℕ). Bounding a.s.now (start_of r) (box_of low high) p (l.d + 1) (set l.ql l.d (to_z w64 (of_z w64 q1.quotient_end-l.result))) (set l.qh l.d (to_z w64 (of_z w64 q2.quotient_end-h.result)))) (sym c.next-at.ensures)
     (bounding-next a.s.now (start_of r) (box_of low high) l.at l.d l.ql l.qh l.inv (code t) _ _
     (settled-quotient a.s.now a.k low high r (st t).requires.0 (st t).requires.1 l.d f (division_at a.s.now l.at) o ∙ sym (ap₂ side pl ph))
-    (subst (Within 549755813888) (sym kl) q1.quotient_end-l.ensures.size) (subst (Within 549755813888) (sym kh) q2.quotient_end-h.ensures.size))
+    (subst (Within 549755813888) (sym kl) q1.quotient_end-l.ensures.1) (subst (Within 549755813888) (sym kh) q2.quotient_end-h.ensures.1))
 
 same_length : tie.Need-shape_of-ql invariant-loop decreases-loop
 same_length c = let m = c.before.before in m.loop-e.invariant.lows ∙ sym m.before.before.before.before.before.requires.2

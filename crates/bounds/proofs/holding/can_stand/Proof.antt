@@ -77,7 +77,7 @@ can-meet-requires : tie.Need-can_meet-requires
 can-meet-requires c κs =
     let x = c.before.before in let g2 = x.before.before in let g1 = g2.before in let st = g1.before.before in let a = st.args in let l = loose st in let u = st.requires.3 in (
       after x,
-      record { axis = axis st; from_size = back-within (omega arith) g1.gap-from.ensures.size; to_size = back-within (omega arith) g2.gap-to.ensures.size },
+      record { axis = axis st; from_size = back-within (omega arith) g1.gap-from.ensures.1; to_size = back-within (omega arith) g2.gap-to.ensures.1 },
       back-within (omega arith) (l.least a.i u.few),
       back-within (omega arith) (l.greatest a.i u.few),
       st.requires.2,
@@ -88,7 +88,7 @@ returns c =
     let x = c.before.before.before in let g2 = x.before.before in let g1 = g2.before in let st = g1.before.before in let a = st.args in let l = loose st in let u = st.requires.3 in
     c.can_meet.ensures
     ∙ stands st _ _ _ _ _ _ (to_z_of_z {w = w64} (within-fits (omega arith) (l.least a.i u.few))) (to_z_of_z {w = w64} (within-fits (omega arith) (l.greatest a.i u.few)))
-    (result_is w64 g1.gap-from.result g1.gap-from.type-inv ∙ g1.gap-from.ensures.is) (result_is w64 g2.gap-to.result g2.gap-to.type-inv ∙ g2.gap-to.ensures.is) x.before.code-b.ensures x.body-t.ensures
+    (result_is w64 g1.gap-from.result g1.gap-from.type_inv ∙ g1.gap-from.ensures.0) (result_is w64 g2.gap-to.result g2.gap-to.type_inv ∙ g2.gap-to.ensures.0) x.before.code-b.ensures x.body-t.ensures
 
 pub can_stand_spec : {M : Type 1} → statement M
 can_stand_spec = tie.close (tie.spec gap-requires gap-requires-2 code-requires body-requires mul-can-meet element-copy-out-can-meet add-can-meet mul-can-meet-2 element-copy-out-can-meet-2 can-meet-requires returns)

@@ -39,7 +39,7 @@ low-gap : (c : tie.After-gap-to) → let g = c.before.before in let st = g.befor
 low-gap c = let g = c.before.before in result_is w64 g.gap.result g.gap.type-inv ∙ g.gap.ensures.0
 
 high-gap : (c : tie.After-gap-to) → let st = c.before.before.before.before.before.before in to_z w64 (of_z w64 c.gap-to.result) ≡ get_or st.args.high.now st.args.j (pos 0) -ℤ get_or st.args.r.now (120 + st.args.j) (pos 0)
-high-gap c = result_is w64 c.gap-to.result c.gap-to.type-inv ∙ c.gap-to.ensures.is
+high-gap c = result_is w64 c.gap-to.result c.gap-to.type_inv ∙ c.gap-to.ensures.0
 
 returns-2 : tie.Need-returns-then-unmoved
 returns-2 c =
@@ -50,7 +50,7 @@ shift-requires : tie.Need-shift-requires
 shift-requires c κs =
     let x = c.before.before.before in let st = x.before.before.before.before.before.before in let a = st.args in (
       row_loose a.s.now (length a.low.now) a.r.now st.requires.1.few st.requires.0,
-      record { axis = axis st; from_size = back-within (omega arith) x.before.before.gap.ensures.1; to_size = back-within (omega arith) x.gap-to.ensures.size },
+      record { axis = axis st; from_size = back-within (omega arith) x.before.before.gap.ensures.1; to_size = back-within (omega arith) x.gap-to.ensures.1 },
     )
 
 mul-r : tie.Need-offset_bounds-low-j

@@ -18,7 +18,7 @@ array-set-from-r c = search rules
 returns : tie.Need-returns
 returns c =
     let e = to_z-nat w64 c.args.start 9223372036854775808 c.requires tt in
-    record { place = ap nat_abs e; row = λ s n l o. subst (λ (z : ℤ). Row s n (set (replicate 129 (pos 0)) 128 z)) (sym e) (fresh-row s c.args.start n o l) }
+    (ap nat_abs e, λ s n l o. subst (λ (z : ℤ). Row s n (set (replicate 129 (pos 0)) 128 z)) (sym e) (fresh-row s c.args.start n o l))
 
 pub fresh_spec : {M : Type 1} → statement M
 fresh_spec = tie.close (tie.spec cast-r array-set-from-r returns)

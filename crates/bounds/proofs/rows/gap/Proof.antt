@@ -40,7 +40,7 @@ sub-result : tie.Need-overflow_sub-result
 sub-result c = let st = c.before.before in rw (back st) (within-fits (omega arith) (size st))
 
 returns : tie.Need-returns
-returns c = let st = c.before.before in let e = to_z_of_z (sub-result c) ∙ back st in record { is = e; size = subst (Within 2097152) (sym e) (size st) }
+returns c = let st = c.before.before in let e = to_z_of_z (sub-result c) ∙ back st in (e, subst (Within 2097152) (sym e) (size st))
 
 pub gap_spec : {M : Type 1} → statement M
 gap_spec = tie.close (tie.spec mul-result shared-slice-copy-out-result add-result mul-result-2 element-copy-out-result sub-result returns)

@@ -30,7 +30,10 @@ loop-again c =
 
 returns : tie.Need-returns invariant-loop decreases-loop
 returns c =
-    let m = c.before in let st = m.before.before in let a = st.args in record { is = settling-end a.s.now a.k a.low.now a.high.now a.r.now m.loop-j.r m.loop-j.j m.loop-j.invariant st.requires.2 c.loop-j-test.false; place = settling-place a.s.now a.k a.low.now a.high.now a.r.now m.loop-j.r m.loop-j.j m.loop-j.invariant }
+    let m = c.before in let st = m.before.before in let a = st.args in (
+      settling-end a.s.now a.k a.low.now a.high.now a.r.now m.loop-j.r m.loop-j.j m.loop-j.invariant st.requires.2 c.loop-j-test.false,
+      settling-place a.s.now a.k a.low.now a.high.now a.r.now m.loop-j.r m.loop-j.j m.loop-j.invariant,
+    )
 
 pub settle_spec : {M : Type 1} → statement M
 settle_spec = tie.close (tie.spec invariant-loop decreases-loop loop-holds follow-requires add-j loop-less loop-again returns)

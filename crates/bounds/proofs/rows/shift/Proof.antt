@@ -122,9 +122,9 @@ loop-again : tie.Need-loop-t-preserved invariant-loop decreases-loop
 loop-again c =
     let c2 = c.before in let c1 = c2.before in let x = c1.before.before.before in let t = x.before in let a = (st t).args in
     let j = a.j in let f = F t in let g = G t in let l = (m t).loop in
-    let k1 = result_is w64 c1.moved.result c1.moved.type-inv in let k2 = result_is w64 c2.moved-in-loop-t.result c2.moved-in-loop-t.type-inv in
-    let e1 = k1 ∙ c1.moved.ensures.is ∙ ap₂ (λ (z : ℤ) (u : List ℕ). z +ℤ gain j f g (axes_in u)) (to_z_of_z (within-fits (omega arith) (sizes t).0)) x.body-t.ensures in
-    let e2 = k2 ∙ c2.moved-in-loop-t.ensures.is ∙ ap₂ (λ (z : ℤ) (u : List ℕ). z +ℤ gain j g f (axes_in u)) (to_z_of_z (within-fits (omega arith) (sizes t).1)) x.body-t.ensures in
+    let k1 = result_is w64 c1.moved.result c1.moved.type_inv in let k2 = result_is w64 c2.moved-in-loop-t.result c2.moved-in-loop-t.type_inv in
+    let e1 = k1 ∙ c1.moved.ensures.0 ∙ ap₂ (λ (z : ℤ) (u : List ℕ). z +ℤ gain j f g (axes_in u)) (to_z_of_z (within-fits (omega arith) (sizes t).0)) x.body-t.ensures in
+    let e2 = k2 ∙ c2.moved-in-loop-t.ensures.0 ∙ ap₂ (λ (z : ℤ) (u : List ℕ). z +ℤ gain j g f (axes_in u)) (to_z_of_z (within-fits (omega arith) (sizes t).1)) x.body-t.ensures in
     let o : length l.r ≡ 129 = l.inv.is.places ∙ (st t).requires.0.places in
     subst (λ (w : ℕ). Shifting a.s.now j f g a.r.now (set (set l.r l.i (to_z w64 (of_z w64 c1.moved.result))) (64 + l.i) (to_z w64 (of_z w64 c2.moved-in-loop-t.result))) w (l.i + 1)) (sym c.next-at.ensures)
     (shifting-next a.s.now j f g a.r.now l.r l.at l.i l.inv (pass t) o (to_z w64 (of_z w64 c1.moved.result)) (to_z w64 (of_z w64 c2.moved-in-loop-t.result)) e1 e2)

@@ -34,7 +34,7 @@ is-negative-requires c κs = search rules
 returns : tie.Need-returns-then-greatest
 returns c =
     let n = c.before in let t = n.before in let e = t.before in let s = e.before in let a = R.entry (cells s.args.goal.now) s.args.j in
-    c.is_negative.ensures ∙ ap (λ (x : ℤ). lt_z x (pos 0)) (n.negate-b.ensures.0 ∙ ap neg_ℤ e.Cell-at.ensures.0 ∙ sym (minus_one a))
+    c.is_negative.ensures ∙ ap (λ (x : ℤ). lt_z x (pos 0)) (n.negate-b.ensures.0 ∙ ap neg_ℤ e.cell_at-a.ensures.0 ∙ sym (minus_one a))
     ∙ sym (ap (λ (b : Bool). moves_up b a) t.if-greatest.true)
 
 is-negative-requires-2 : tie.Need-is_negative-requires-2
@@ -43,7 +43,7 @@ is-negative-requires-2 c κs = search rules
 returns-2 : tie.Need-returns
 returns-2 c =
     let t = c.before in let e = t.before in let s = e.before in let a = R.entry (cells s.args.goal.now) s.args.j in
-    c.is_negative-2.ensures ∙ ap (λ (x : ℤ). lt_z x (pos 0)) (e.Cell-at.ensures.0 ∙ sym (one-*ℤ a)) ∙ sym (ap (λ (b : Bool). moves_up b a) t.if-greatest.false)
+    c.is_negative-2.ensures ∙ ap (λ (x : ℤ). lt_z x (pos 0)) (e.cell_at-a.ensures.0 ∙ sym (one-*ℤ a)) ∙ sym (ap (λ (b : Bool). moves_up b a) t.if-greatest.false)
 
 pub moves_up_spec : {M : Type 1} → statement M
 moves_up_spec =

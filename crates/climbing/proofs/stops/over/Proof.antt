@@ -57,7 +57,7 @@ returns-2 : tie.Need-returns
 returns-2 c =
     let e = c.before.before in let s = begun e in
     let i = get_or s.args.place.now s.args.v 0 in let r = get_or (rows_of s.args.t.now) i [] in
-    c.Cell-at.ensures.0 ∙ ap (λ (l : List ℤ). get_or l 1 (pos 0)) (sym (rows_at s.args.t.now i))
+    c.cell_at.ensures.0 ∙ ap (λ (l : List ℤ). get_or l 1 (pos 0)) (sym (rows_at s.args.t.now i))
     ∙ sym (ap (λ (b : Bool). cond b (pos 0) (get_or r 1 (pos 0))) (ne_eqb _ 2 e.if1.false))
 
 pub over_spec : {M : Type 1} → statement M

@@ -66,7 +66,7 @@ returns c =
     let x = c.before in let e = x.before in let t = e.before.before in let s = begun t in
     let i = get_or s.args.place.now s.args.v 0 in let k = get_or s.args.kinds.now s.args.v 0 in
     c.is_violated.ensures
-    ∙ ap (R.violated_by k) (x.change-x.ensures ∙ ap (moved s.args.up) e.Cell-at.ensures.0 ∙ ap (changed s) (sym (rows_at s.args.t.now i)))
+    ∙ ap (R.violated_by k) (x.change-x.ensures ∙ ap (moved s.args.up) e.cell_at-e.ensures.0 ∙ ap (changed s) (sym (rows_at s.args.t.now i)))
     ∙ sym (ap (λ (b : Bool). cond b (R.violated_by k (changed s (get_or (rows_of s.args.t.now) i []))) false) (lt-ltb i 64 t.if1.true))
 
 returns-2 : tie.Need-returns

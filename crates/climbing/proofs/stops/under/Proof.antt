@@ -35,9 +35,9 @@ cell-at-requires c κs = let s = c.before.before.before in (s.requires.0.at _ s.
 
 returns : tie.Need-returns
 returns c =
-    let e = c.before in let s = e.before.before.before.before in let x = e.Cell-at.result in
+    let e = c.before in let s = e.before.before.before.before in let x = e.cell_at-e.result in
     ap pos (
-    sym (nat_abs-signed x.neg (size x.magnitude)) ∙ ap nat_abs e.Cell-at.ensures.0
+    sym (nat_abs-signed x.neg (size x.magnitude)) ∙ ap nat_abs e.cell_at-e.ensures.0
     ∙ ap (λ (r : List ℤ). nat_abs (R.entry r s.args.j)) (sym (rows_at s.args.t.now (get_or s.args.place.now s.args.v 0))))
 
 pub under_spec : {M : Type 1} → statement M

@@ -51,7 +51,7 @@ returns-6 c =
     λ e. record {
       inside = omega arith;
       command = e2.if-s-at-ne-DIVISION.false;
-      divisor = division-divisor at s e2.if-s-at-ne-DIVISION.false u.u16_at-d.result u.u16_at-d.ensures.is e3.if-d-eq0.false e4.if-d-gt-DIVISOR.false;
+      divisor = division-divisor at s e2.if-s-at-ne-DIVISION.false u.u16_at-d.result u.u16_at-d.ensures.0 e3.if-d-eq0.false e4.if-d-gt-DIVISOR.false;
       constant = division-constant at s e2.if-s-at-ne-DIVISION.false k.result k.ensures (is_ge (b-of f) (b-lit w32 3294967296 refl) c.if-k-lt-LEAST_CONSTANT.false) (is_le (b-of f) (b-lit w32 1000000000 refl) e);
     }
 

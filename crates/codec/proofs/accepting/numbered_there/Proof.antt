@@ -25,7 +25,7 @@ u16-at-requires c κs = let i = (c.before.command_there.ensures (not-false _ c.i
 returns-2 : tie.Need-returns
 returns-2 c =
     let e1 = c.before in let t = e1.before in let a = t.before.before.args in
-    λ e. numbered-command a.s.now a.at (t.command_there.ensures (not-false _ e1.if-not-command_there.false-raw)) (sym (ap (λ (v : ℕ). eqb v 0) c.u16_at.ensures.is) ∙ not-true _ e)
+    λ e. numbered-command a.s.now a.at (t.command_there.ensures (not-false _ e1.if-not-command_there.false-raw)) (sym (ap (λ (v : ℕ). eqb v 0) c.u16_at.ensures.0) ∙ not-true _ e)
 
 pub numbered_there_spec : {M : Type 1} → statement M
 numbered_there_spec = tie.close (tie.spec command-there-requires returns add-u16-at u16-at-requires returns-2)

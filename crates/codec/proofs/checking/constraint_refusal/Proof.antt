@@ -74,7 +74,7 @@ numbered : (c : tie.Else-is_misnumbered) → is_misnumbered (s3 c.before).args.b
 numbered c = sym c.before.is_misnumbered.ensures ∙ c.if-is_misnumbered.false
 
 constant-is : (c : tie.After-constraint_constant_in) → constant (s4 c) ≡ c.constraint_constant_in.result
-constant-is c = ap (λ (x : ℕ). constant_fits (kind_of (s4 c).args.b) (signed 4 x)) (sym c.before.u32_at.ensures.is) ∙ sym c.constraint_constant_in.ensures
+constant-is c = ap (λ (x : ℕ). constant_fits (kind_of (s4 c).args.b) (signed 4 x)) (sym c.before.u32_at.ensures.0) ∙ sym c.constraint_constant_in.ensures
 
 constant-in : (c : tie.Else-not-constraint_constant_in) → constant (s4 c.before) ≡ true
 constant-in c = constant-is c.before ∙ not-false _ c.if-not-constraint_constant_in.false-raw

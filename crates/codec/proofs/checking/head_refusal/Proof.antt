@@ -87,7 +87,7 @@ returns-4 : tie.Need-returns-then-is_division
 returns-4 c =
     let y = c.before in let d = y.before in let h = d.before in let o = h.before in let e = o.before.before in
     c.division_refusal.ensures
-    ∙ ap₂ (λ (m : ℕ) (t : List ℕ). B.refusal (st e).args.n (k e) (B.division (B.read_division m t))) h.head-m.ensures.is o.body-t.ensures
+    ∙ ap₂ (λ (m : ℕ) (t : List ℕ). B.refusal (st e).args.n (k e) (B.division (B.read_division m t))) h.head-m.ensures.0 o.body-t.ensures
     ∙ ap (B.refusal (st e).args.n (k e)) (sym (read-division (b e) (drop (at e + 1) (s e)) (sym d.is_division.ensures ∙ y.if-is_division.true))) ∙ sym (refuses e)
 
 -- a rule
@@ -108,7 +108,7 @@ returns-5 : tie.Need-returns
 returns-5 c =
     let y = c.before in let e = (o y).before.before in
     c.constraint_refusal.ensures
-    ∙ ap₂ (λ (m : ℕ) (t : List ℕ). B.refusal (st e).args.n (k e) (B.read_rule (b e) m t)) y.before.before.head-m.ensures.is (o y).body.ensures
+    ∙ ap₂ (λ (m : ℕ) (t : List ℕ). B.refusal (st e).args.n (k e) (B.read_rule (b e) m t)) y.before.before.head-m.ensures.0 (o y).body.ensures
     ∙ ap (B.refusal (st e).args.n (k e)) (sym (read-rule (b e) (drop (at e + 1) (s e)) (o y).before.if3.false (other y))) ∙ sym (refuses e)
 
 pub head_refusal_spec : {M : Type 1} → statement M

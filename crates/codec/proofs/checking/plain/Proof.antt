@@ -45,11 +45,11 @@ loop-less c = let h = c.before.before.loop-i-test.true in omega arith
 -- src/checking.rt:32:5
 loop-again : tie.Need-loop-i-preserved invariant-loop decreases-loop
 loop-again c =
-    let u = c.before in let b = u.before in let m = b.before in let a = m.before.before.args in let h = b.loop-i-test.true in let e = u.u16_at-v.ensures.is in (
+    let u = c.before in let b = u.before in let m = b.before in let a = m.before.before.args in let h = b.loop-i-test.true in let e = u.u16_at-v.ensures.0 in (
       omega arith,
       ⊎_elim
           (λ w. ap (λ (o : Bool). o && from coefficient a.t.now a.p (m.loop-i.i + 1)) w.1 ∙ sym (failed coefficient a.t.now a.p m.loop-i.i _ h e m.loop-i.ok (coefficient-not _ w.0.taken)) ∙ m.loop-i.invariant.1)
-          (λ w. ap (λ (o : Bool). o && from coefficient a.t.now a.p (m.loop-i.i + 1)) w.1 ∙ sym (passed coefficient a.t.now a.p m.loop-i.i _ h e m.loop-i.ok (coefficient-yes _ u.u16_at-v.ensures.small w.0.left)) ∙ m.loop-i.invariant.1)
+          (λ w. ap (λ (o : Bool). o && from coefficient a.t.now a.p (m.loop-i.i + 1)) w.1 ∙ sym (passed coefficient a.t.now a.p m.loop-i.i _ h e m.loop-i.ok (coefficient-yes _ u.u16_at-v.ensures.1 w.0.left)) ∙ m.loop-i.invariant.1)
           c.if-v-eq32768.branch,
     )
 

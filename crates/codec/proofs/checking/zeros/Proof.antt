@@ -66,12 +66,12 @@ loop-less c = let h = c.before.before.before.loop-i-test.true in omega arith
 -- src/checking.rt:55:5
 loop-again : tie.Need-loop-i-preserved invariant-loop decreases-loop
 loop-again c =
-    let u = c.before.before in let b = u.before in let m = b.before in let st = m.before.before.before in let a = st.args in let h = b.loop-i-test.true in let e = u.u16_at-v.ensures.is in
+    let u = c.before.before in let b = u.before in let m = b.before in let st = m.before.before.before in let a = st.args in let h = b.loop-i-test.true in let e = u.u16_at-v.ensures.0 in
     let q = st.requires.2 in (
       omega arith,
       ⊎_elim
-          (λ w. ap (λ (o : Bool). o && from is_zero a.t.now a.p (later a.n (m.loop-i.i + 1))) w.1 ∙ sym (over-allowed a.t.now a.p a.n m.loop-i.i _ st.requires.1 h e u.u16_at-v.ensures.small m.loop-i.ok (subst (λ (l : List ℕ). get_or l (8 - a.n + m.loop-i.i) 0 < u.u16_at-v.result) q w.0.taken)) ∙ m.loop-i.invariant.1)
-          (λ w. ap (λ (o : Bool). o && from is_zero a.t.now a.p (later a.n (m.loop-i.i + 1))) w.1 ∙ sym (within-allowed a.t.now a.p a.n m.loop-i.i _ st.requires.1 h e u.u16_at-v.ensures.small m.loop-i.ok (subst (λ (l : List ℕ). u.u16_at-v.result ≤ get_or l (8 - a.n + m.loop-i.i) 0) q w.0.left)) ∙ m.loop-i.invariant.1)
+          (λ w. ap (λ (o : Bool). o && from is_zero a.t.now a.p (later a.n (m.loop-i.i + 1))) w.1 ∙ sym (over-allowed a.t.now a.p a.n m.loop-i.i _ st.requires.1 h e u.u16_at-v.ensures.1 m.loop-i.ok (subst (λ (l : List ℕ). get_or l (8 - a.n + m.loop-i.i) 0 < u.u16_at-v.result) q w.0.taken)) ∙ m.loop-i.invariant.1)
+          (λ w. ap (λ (o : Bool). o && from is_zero a.t.now a.p (later a.n (m.loop-i.i + 1))) w.1 ∙ sym (within-allowed a.t.now a.p a.n m.loop-i.i _ st.requires.1 h e u.u16_at-v.ensures.1 m.loop-i.ok (subst (λ (l : List ℕ). u.u16_at-v.result ≤ get_or l (8 - a.n + m.loop-i.i) 0) q w.0.left)) ∙ m.loop-i.invariant.1)
           c.if-most-v.branch,
     )
 

@@ -30,10 +30,10 @@ u16-at-requires c κs =
 returns : tie.Need-returns-then-has_head
 returns c =
     let t = c.before in let h = t.before in let a = h.before.before.before.args in let u = c.u16_at.ensures in let l = u.1 in
-    record { is = u.0 ∙ sym (head-two (b h) (drop (a.at + 1) a.s.now) (sym (headed h) ∙ t.if-has_head.true)); size = omega arith }
+    (u.0 ∙ sym (head-two (b h) (drop (a.at + 1) a.s.now) (sym (headed h) ∙ t.if-has_head.true)), omega arith)
 
 returns-2 : tie.Need-returns
-returns-2 c = let h = c.before in let a = h.before.before.before.args in record { is = sym (head-none (b h) (drop (a.at + 1) a.s.now) (sym (headed h) ∙ c.if-has_head.false)); size = omega arith }
+returns-2 c = let h = c.before in let a = h.before.before.before.args in (sym (head-none (b h) (drop (a.at + 1) a.s.now) (sym (headed h) ∙ c.if-has_head.false)), omega arith)
 
 pub head_spec : {M : Type 1} → statement M
 head_spec = tie.close (tie.spec code-requires has-head-requires add-u16-at u16-at-requires returns returns-2)

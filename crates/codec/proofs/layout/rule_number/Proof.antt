@@ -33,12 +33,12 @@ u16-at-requires c κs =
     let j = body-in (b h) p.known in let k = p.room in omega arith
 
 cast-result : tie.Need-overflow_cast-result
-cast-result c = let l = c.u16_at.ensures.small in omega arith
+cast-result c = let l = c.u16_at.ensures.1 in omega arith
 
 returns : tie.Need-returns-then-is_numbered
 returns c =
     let t = c.before in let h = t.before in let a = (st h).args in
-    c.u16_at.ensures.is ∙ sym (head-two (b h) (drop (a.at + 1) a.s.now) (headed-numbered (b h) (sym (numbered h) ∙ t.if-is_numbered.true)))
+    c.u16_at.ensures.0 ∙ sym (head-two (b h) (drop (a.at + 1) a.s.now) (headed-numbered (b h) (sym (numbered h) ∙ t.if-is_numbered.true)))
 
 returns-2 : tie.Need-returns
 returns-2 c =

@@ -27,7 +27,7 @@ part-requires c κs = search rules
 returns : tie.Need-returns-then-check-ne0
 returns c = let h = c.before.before in let a = h.before.before.args in
     let e = part-refused a.n a.set.now a.k (λ z. c.before.if-check-ne0.true (h.check.ensures ∙ z)) in
-    record { bytes = c.part.ensures.bytes ∙ ap (λ (p : Part). held p a.set.now) (sym e); place = c.part.ensures.place ∙ ap (λ (p : Part). (a.set.ref_ptr.0, a.set.ref_ptr.1 + p.place)) (sym e) }
+    (c.part.ensures.0 ∙ ap (λ (p : Part). held p a.set.now) (sym e), c.part.ensures.1 ∙ ap (λ (p : Part). (a.set.ref_ptr.0, a.set.ref_ptr.1 + p.place)) (sym e))
 
 part-requires-2 : tie.Need-part-requires-then-k-eq0
 part-requires-2 c κs = search rules
@@ -35,7 +35,7 @@ part-requires-2 c κs = search rules
 returns-2 : tie.Need-returns-then-k-eq0
 returns-2 c = let h = c.before.before.before in let a = h.before.before.args in
     let e : part_of a.n a.set.now a.k ≡ nowhere = ap (part_of a.n a.set.now) c.before.if-k-eq0.true ∙ part-zero a.n a.set.now in
-    record { bytes = c.part-then-k-eq0.ensures.bytes ∙ ap (λ (p : Part). held p a.set.now) (sym e); place = c.part-then-k-eq0.ensures.place ∙ ap (λ (p : Part). (a.set.ref_ptr.0, a.set.ref_ptr.1 + p.place)) (sym e) }
+    (c.part-then-k-eq0.ensures.0 ∙ ap (λ (p : Part). held p a.set.now) (sym e), c.part-then-k-eq0.ensures.1 ∙ ap (λ (p : Part). (a.set.ref_ptr.0, a.set.ref_ptr.1 + p.place)) (sym e))
 
 sub-start-of : tie.Need-overflow_sub-k
 sub-start-of c = search rules
@@ -51,7 +51,7 @@ returns-3 c = let o = c.before.before in let h = o.before.before.before in let g
     let q : a.k - 1 + 1 ≡ a.k = omega arith in
     let z : number (decode a.n s) ≡ 0 = sym h.check.ensures ∙ o.before.before.if-check-ne0.false in
     let e : part_of a.n s a.k ≡ nowhere = ap (part_of a.n s) (sym q) ∙ started_none s (a.k - 1) o.start_of_lem.result (bytes_of s (λ x. omega (arith, g.shared_slice_known-1.given x))) o.start_of_lem.ensures a.n z c.before.if-set-at.true in
-    record { bytes = c.part-then-set-at.ensures.bytes ∙ ap (λ (p : Part). held p s) (sym e); place = c.part-then-set-at.ensures.place ∙ ap (λ (p : Part). (a.set.ptr.0, a.set.ptr.1 + p.place)) (sym e) }
+    (c.part-then-set-at.ensures.0 ∙ ap (λ (p : Part). held p s) (sym e), c.part-then-set-at.ensures.1 ∙ ap (λ (p : Part). (a.set.ptr.0, a.set.ptr.1 + p.place)) (sym e))
 
 add-end-of : tie.Need-overflow_add-at
 add-end-of c = search rules
@@ -68,7 +68,10 @@ returns-4 c = let d = c.before in let o = d.before.before in let h = o.before.be
     let q : a.k - 1 + 1 ≡ a.k = omega arith in
     let z : number (decode a.n s) ≡ 0 = sym h.check.ensures ∙ o.before.before.if-check-ne0.false in
     let e : part_of a.n s a.k ≡ record { place = at; size = end_of s (at + 1) - at } =
-    ap (part_of a.n s) (sym q) ∙ started-part s (a.k - 1) at (bytes_of s (λ x. omega (arith, g.shared_slice_known-1.given x))) o.start_of_lem.ensures a.n z d.before.if-set-at.false in record { bytes = c.part-2.ensures.bytes ∙ ap (λ (x : ℕ). take (x - at) (drop at s)) d.end_of_lem.ensures ∙ ap (λ (p : Part). held p s) (sym e); place = c.part-2.ensures.place ∙ ap (λ (p : Part). (a.set.ptr.0, a.set.ptr.1 + p.place)) (sym e) }
+    ap (part_of a.n s) (sym q) ∙ started-part s (a.k - 1) at (bytes_of s (λ x. omega (arith, g.shared_slice_known-1.given x))) o.start_of_lem.ensures a.n z d.before.if-set-at.false in (
+      c.part-2.ensures.0 ∙ ap (λ (x : ℕ). take (x - at) (drop at s)) d.end_of_lem.ensures ∙ ap (λ (p : Part). held p s) (sym e),
+      c.part-2.ensures.1 ∙ ap (λ (p : Part). (a.set.ptr.0, a.set.ptr.1 + p.place)) (sym e),
+    )
 
 pub basic_spec : {M : Type 1} → statement M
 basic_spec =

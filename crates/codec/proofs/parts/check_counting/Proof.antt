@@ -7,19 +7,19 @@ accepts-requires : tie.Need-accepts-q-requires
 accepts-requires c κs = search rules
 
 returns : tie.Need-returns-then-q
-returns c = let q = c.before.accepts-q.ensures in record { refusal = sym (q.none c.if-q.true); basics = λ z. q.basics c.if-q.true }
+returns c = let q = c.before.accepts-q.ensures in (sym (q.none c.if-q.true), λ z. q.basics c.if-q.true)
 
 scanned-requires : tie.Need-scanned-k-requires
 scanned-requires c κs = search rules
 
 returns-2 : tie.Need-returns-then-k-ne0
-returns-2 c = record { refusal = c.before.scanned-k.ensures; basics = λ z. absurd (c.if-k-ne0.true z) }
+returns-2 c = (c.before.scanned-k.ensures, λ z. absurd (c.if-k-ne0.true z))
 
 count-requires : tie.Need-count-requires
 count-requires c κs = let st = c.before.before.before.before.before in record { n = st.args.n; accepted = sym c.before.scanned-k.ensures ∙ c.if-k-ne0.false }
 
 returns-3 : tie.Need-returns
-returns-3 c = let e = c.before in record { refusal = sym e.if-k-ne0.false ∙ e.before.scanned-k.ensures; basics = λ z. c.count.ensures }
+returns-3 c = let e = c.before in (sym e.if-k-ne0.false ∙ e.before.scanned-k.ensures, λ z. c.count.ensures)
 
 pub check_counting_spec : {M : Type 1} → statement M
 check_counting_spec =

@@ -68,9 +68,12 @@ returns c =
     (λ (o : Answer ℕ). Result room (answer_of (state_in st.args.axes st.args.tables.now st.args.lengths.now) st.args.b st.args.s.now) o
     at-answer.answer.new.1.1.1.1.1.0)
     (ap outcome_is at_a.a-1.given.1) at-answer.answer.ensures in
-    let e = answered-refused _ x in record { told = writes-same (omega arith) (ap (tells done_line) (sym e)) c.before.before.refused_line.ensures; kept = kept-refused
+    let e = answered-refused _ x in (
+      writes-same (omega arith) (ap (tells done_line) (sym e)) c.before.before.refused_line.ensures,
+      kept-refused
           (memory st.args.tables.now st.args.lengths.now st.args.res.now) (get_or st.args.s.now 0 0)
-          (answer_of (state_in st.args.axes st.args.tables.now st.args.lengths.now) st.args.b st.args.s.now) _ _ e x.bytes }
+          (answer_of (state_in st.args.axes st.args.tables.now st.args.lengths.now) st.args.b st.args.s.now) _ _ e x.bytes,
+    )
 
 same-length-5 : tie.Need-shape_of-tables-in-Length
 same-length-5 c = search rules
@@ -92,9 +95,12 @@ returns-2 c =
     (λ (o : Answer ℕ). Result room (answer_of (state_in st.args.axes st.args.tables.now st.args.lengths.now) st.args.b st.args.s.now) o
     at-answer.answer.new.1.1.1.1.1.0)
     (ap outcome_is at-a2.a2.given.1) at-answer.answer.ensures in
-    let g = answered-gives _ x in record { told = writes-same (omega arith) (ap (tells done_line) (sym g.is)) c.before.before.word.ensures; kept = kept-given (memory st.args.tables.now st.args.lengths.now st.args.res.now)
+    let g = answered-gives _ x in (
+      writes-same (omega arith) (ap (tells done_line) (sym g.is)) c.before.before.word.ensures,
+      kept-given (memory st.args.tables.now st.args.lengths.now st.args.res.now)
           (get_or st.args.s.now 0 0) (answer_of (state_in st.args.axes st.args.tables.now st.args.lengths.now) st.args.b st.args.s.now) _ _ _ _ _ at_byte.byte.ensures.0 g
-          x.bytes at-keep.keep.ensures.0 at-keep.keep.ensures.1 }
+          x.bytes at-keep.keep.ensures.0 at-keep.keep.ensures.1,
+    )
 
 pub assign_spec : {M : Type 1} → statement M
 assign_spec =

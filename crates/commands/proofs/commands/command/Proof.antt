@@ -45,12 +45,15 @@ same_length c = search rules
 returns : tie.Need-returns-then-b-eq0
 returns c =
     let at-word = c.before.before.before in let at-if1 = at-word.before.before.before in let at_tail = at-if1.before in
-    let st = at_tail.before.before.before.before.before.before.before in record { told = command-end st.args.axes st.args.tables.now st.args.lengths.now st.args.c.now _ st.args.out.now _ (get_or st.args.c.now 0 0) _
+    let st = at_tail.before.before.before.before.before.before.before in (
+      command-end st.args.axes st.args.tables.now st.args.lengths.now st.args.c.now _ st.args.out.now _ (get_or st.args.c.now 0 0) _
           (split-first st.args.c.now (begun st.args.axes st.args.c.now st.requires.0).some ∙ ap (λ (l : List ℕ). get_or st.args.c.now 0 0 ∷ l) (sym at_tail.tail.ensures))
-          at-if1.if1.true c.says.ensures at-word.word.ensures; kept = none-command (memory st.args.tables.now st.args.lengths.now st.args.res.now)
+          at-if1.if1.true c.says.ensures at-word.word.ensures,
+      none-command (memory st.args.tables.now st.args.lengths.now st.args.res.now)
           (state_in st.args.axes st.args.tables.now st.args.lengths.now) st.args.c.now (get_or st.args.c.now 0 0) _
           (split-first st.args.c.now (begun st.args.axes st.args.c.now st.requires.0).some ∙ ap (λ (l : List ℕ). get_or st.args.c.now 0 0 ∷ l) (sym at_tail.tail.ensures))
-          (effect-end (state_in st.args.axes st.args.tables.now st.args.lengths.now) (get_or st.args.c.now 0 0) _ at-if1.if1.true) }
+          (effect-end (state_in st.args.axes st.args.tables.now st.args.lengths.now) (get_or st.args.c.now 0 0) _ at-if1.if1.true),
+    )
 
 byte-requires : tie.Need-byte-requires
 byte-requires c κs =
@@ -71,13 +74,16 @@ same-length-2 c = search rules
 returns-2 : tie.Need-returns-then-b-eq16
 returns-2 c =
     let at_byte = c.before.before.before.before in let at-if2 = at_byte.before in let at_tail = at-if2.before.before in
-    let st = at_tail.before.before.before.before.before.before.before in record { told = command-open st.args.axes st.args.tables.now st.args.lengths.now st.args.c.now _ st.args.out.now _ (get_or st.args.c.now 0 0) _
+    let st = at_tail.before.before.before.before.before.before.before in (
+      command-open st.args.axes st.args.tables.now st.args.lengths.now st.args.c.now _ st.args.out.now _ (get_or st.args.c.now 0 0) _
           (split-first st.args.c.now (begun st.args.axes st.args.c.now st.requires.0).some ∙ ap (λ (l : List ℕ). get_or st.args.c.now 0 0 ∷ l) (sym at_tail.tail.ensures))
-          at-if2.if2.true at_byte.byte.result at_byte.byte.ensures.is c.before.before.«open».ensures; kept = none-command
+          at-if2.if2.true at_byte.byte.result at_byte.byte.ensures.0 c.before.before.«open».ensures,
+      none-command
           (memory st.args.tables.now st.args.lengths.now st.args.res.now) (state_in st.args.axes st.args.tables.now st.args.lengths.now) st.args.c.now
           (get_or st.args.c.now 0 0) _
           (split-first st.args.c.now (begun st.args.axes st.args.c.now st.requires.0).some ∙ ap (λ (l : List ℕ). get_or st.args.c.now 0 0 ∷ l) (sym at_tail.tail.ensures))
-          (effect-open (state_in st.args.axes st.args.tables.now st.args.lengths.now) (get_or st.args.c.now 0 0) _ at-if2.if2.true) }
+          (effect-open (state_in st.args.axes st.args.tables.now st.args.lengths.now) (get_or st.args.c.now 0 0) _ at-if2.if2.true),
+    )
 
 set-numbers-requires : tie.Need-set_numbers-requires
 set-numbers-requires c κs = search rules
@@ -108,13 +114,16 @@ returns-3 c =
     let at-if2 = at-set-numbers.before in let at-if1 = at-if2.before in let at_tail = at-if1.before in let st = at_tail.before.before.before.before.before.before.before in
     let e : all (λ (m : ℕ). leb m 3) (take (set_numbers (get_or st.args.c.now 0 0)) at_tail.tail.result.now) ≡ false = ap
     (λ (k : ℕ). all (λ (m : ℕ). leb m 3) (take k at_tail.tail.result.now)) (sym at-set-numbers.set-numbers.ensures) ∙ sym at-numbers-fit.numbers_fit.ensures ∙ not-true _
-    at-if3.if3.true in record { told = command-bad st.args.axes st.args.tables.now st.args.lengths.now st.args.c.now _ st.args.out.now _ (get_or st.args.c.now 0 0) _
+    at-if3.if3.true in (
+      command-bad st.args.axes st.args.tables.now st.args.lengths.now st.args.c.now _ st.args.out.now _ (get_or st.args.c.now 0 0) _
           (split-first st.args.c.now (begun st.args.axes st.args.c.now st.requires.0).some ∙ ap (λ (l : List ℕ). get_or st.args.c.now 0 0 ∷ l) (sym at_tail.tail.ensures))
-          at-if1.if1.false at-if2.if2.false e c.says-then-not-numbers_fit.ensures at-refused-line.refused-line.ensures; kept = none-command
+          at-if1.if1.false at-if2.if2.false e c.says-then-not-numbers_fit.ensures at-refused-line.refused-line.ensures,
+      none-command
           (memory st.args.tables.now st.args.lengths.now st.args.res.now) (state_in st.args.axes st.args.tables.now st.args.lengths.now) st.args.c.now
           (get_or st.args.c.now 0 0) _
           (split-first st.args.c.now (begun st.args.axes st.args.c.now st.requires.0).some ∙ ap (λ (l : List ℕ). get_or st.args.c.now 0 0 ∷ l) (sym at_tail.tail.ensures))
-          (effect-bad (state_in st.args.axes st.args.tables.now st.args.lengths.now) (get_or st.args.c.now 0 0) _ e) }
+          (effect-bad (state_in st.args.axes st.args.tables.now st.args.lengths.now) (get_or st.args.c.now 0 0) _ e),
+    )
 
 perform-requires : tie.Need-perform-requires
 perform-requires c κs =
@@ -145,12 +154,15 @@ returns-4 c =
     let st = at_tail.before.before.before.before.before.before.before in
     let e : all (λ (m : ℕ). leb m 3) (take (set_numbers (get_or st.args.c.now 0 0)) at_tail.tail.result.now) ≡ true = ap
     (λ (k : ℕ). all (λ (m : ℕ). leb m 3) (take k at_tail.tail.result.now)) (sym at-set-numbers.set-numbers.ensures) ∙ sym at-numbers-fit.numbers_fit.ensures ∙ not-false _
-    at-if3.if3.false in record { told = command-good st.args.axes st.args.tables.now st.args.lengths.now st.args.c.now _ st.args.out.now _ (get_or st.args.c.now 0 0) _
+    at-if3.if3.false in (
+      command-good st.args.axes st.args.tables.now st.args.lengths.now st.args.c.now _ st.args.out.now _ (get_or st.args.c.now 0 0) _
           (split-first st.args.c.now (begun st.args.axes st.args.c.now st.requires.0).some ∙ ap (λ (l : List ℕ). get_or st.args.c.now 0 0 ∷ l) (sym at_tail.tail.ensures))
-          at-if1.if1.false at-if2.if2.false e at-perform.perform.ensures.0; kept = good-command (memory st.args.tables.now st.args.lengths.now st.args.res.now)
+          at-if1.if1.false at-if2.if2.false e at-perform.perform.ensures.0,
+      good-command (memory st.args.tables.now st.args.lengths.now st.args.res.now)
           (state_in st.args.axes st.args.tables.now st.args.lengths.now) st.args.c.now (get_or st.args.c.now 0 0) _
           (split-first st.args.c.now (begun st.args.axes st.args.c.now st.requires.0).some ∙ ap (λ (l : List ℕ). get_or st.args.c.now 0 0 ∷ l) (sym at_tail.tail.ensures)) e
-          at-perform.perform.ensures.1 }
+          at-perform.perform.ensures.1,
+    )
 
 pub command_spec : {M : Type 1} → statement M
 command_spec =

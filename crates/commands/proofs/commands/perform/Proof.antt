@@ -41,11 +41,14 @@ same-length-3 c = search rules
 returns : tie.Need-returns-then-b-eq69
 returns c =
     let at_table = c.before.before.before.before in let at_byte = at_table.before.before.before in let at-if1 = at_byte.before in
-    let st = at-if1.before.before.before.before.before.before in record { told = list-told st.args.axes st.args.tables.now st.args.lengths.now st.args.b st.args.s.now at_byte.byte.result _ at_byte.byte.ensures.0
-          (number-good _ 0 st.args.s.now st.requires.operands.good (numbers-one st.args.b)) at_table.table-set.ensures at-if1.if1.true c.before.before.list.ensures; kept = list-kept
+    let st = at-if1.before.before.before.before.before.before in (
+      list-told st.args.axes st.args.tables.now st.args.lengths.now st.args.b st.args.s.now at_byte.byte.result _ at_byte.byte.ensures.0
+          (number-good _ 0 st.args.s.now st.requires.operands.good (numbers-one st.args.b)) at_table.table-set.ensures at-if1.if1.true c.before.before.list.ensures,
+      list-kept
           (memory st.args.tables.now st.args.lengths.now st.args.res.now) _ (get_or st.args.s.now 0 0)
           (decode st.args.axes (set_at (state_in st.args.axes st.args.tables.now st.args.lengths.now) (get_or st.args.s.now 0 0)))
-          (performs-list (state_in st.args.axes st.args.tables.now st.args.lengths.now) _ st.args.s.now at-if1.if1.true) }
+          (performs-list (state_in st.args.axes st.args.tables.now st.args.lengths.now) _ st.args.s.now at-if1.if1.true),
+    )
 
 print-requires : tie.Need-print-requires
 print-requires c κs = (c.before.before.before.before.before.before.before.before.before.before.requires, ne_eqb _ _ c.before.before.before.before.if-b-eq69.false)
@@ -71,8 +74,11 @@ returns-2 c =
     let st2 = at-if1.before.before.before.before.before.before in
     let st = (state_in st2.args.axes st2.args.tables.now st2.args.lengths.now) in
     let b = st2.args.b in
-    let s = st2.args.s.now in record { told = told-by c.says.ensures refl refl (sym (performs-quiet st b s (λ (e : Effect). listing_of e ≡ Nothing) refl (λ m a. refl) at-if1.if1.false))
-          (writes-same {j = 512} (omega arith) (sym (shown-quiet st b s _ at-if1.if1.false)) at-print.print.ensures.0).wrote; kept = at-print.print.ensures.1 }
+    let s = st2.args.s.now in (
+      told-by c.says.ensures refl refl (sym (performs-quiet st b s (λ (e : Effect). listing_of e ≡ Nothing) refl (λ m a. refl) at-if1.if1.false))
+          (writes-same {j = 512} (omega arith) (sym (shown-quiet st b s _ at-if1.if1.false)) at-print.print.ensures.0).wrote,
+      at-print.print.ensures.1,
+    )
 
 pub perform_spec : {M : Type 1} → statement M
 perform_spec =

@@ -18,7 +18,7 @@ table-requires : tie.Need-table-set-requires
 table-requires c κs =
     let st = c.before.before.before.before.before.before.before.before.before in
     let g = number-good _ 0 st.args.s.now st.requires.0.operands.good (numbers-one st.args.b) in
-    let e = c.byte.ensures.is in
+    let e = c.byte.ensures.0 in
     (st.requires.0.usable.fitted, omega arith)
 
 member-requires : tie.Need-member-requires
@@ -40,7 +40,10 @@ same-length-3 c = search rules
 returns : tie.Need-returns-then-b-eq70
 returns c =
     let at_table = c.before.before.before.before in let at_byte = at_table.before in let at-if1 = at_byte.before.before.before in
-    let st = at-if1.before.before.before.before.before.before in record { told = writes-same (omega arith) (member-text st.args.axes st.args.tables.now st.args.lengths.now st.args.b st.args.s.now at_byte.byte.result _ at_byte.byte.ensures.is (number-good _ 0 st.args.s.now st.requires.0.operands.good (numbers-one st.args.b)) at_table.table-set.ensures at-if1.if1.true) c.before.before.member.ensures; kept = none_kept (memory st.args.tables.now st.args.lengths.now st.args.res.now) _ (member-effect (state_in st.args.axes st.args.tables.now st.args.lengths.now) _ st.args.s.now at-if1.if1.true) }
+    let st = at-if1.before.before.before.before.before.before in (
+      writes-same (omega arith) (member-text st.args.axes st.args.tables.now st.args.lengths.now st.args.b st.args.s.now at_byte.byte.result _ at_byte.byte.ensures.0 (number-good _ 0 st.args.s.now st.requires.0.operands.good (numbers-one st.args.b)) at_table.table-set.ensures at-if1.if1.true) c.before.before.member.ensures,
+      none_kept (memory st.args.tables.now st.args.lengths.now st.args.res.now) _ (member-effect (state_in st.args.axes st.args.tables.now st.args.lengths.now) _ st.args.s.now at-if1.if1.true),
+    )
 
 byte-requires-2 : tie.Need-byte-requires-then-b-eq71
 byte-requires-2 c κs =
@@ -53,7 +56,7 @@ table-requires-2 : tie.Need-table-set-requires-then-b-eq71
 table-requires-2 c κs =
     let st = c.before.before.before.before.before.before.before.before.before.before in
     let g = number-good _ 0 st.args.s.now st.requires.0.operands.good (numbers-one st.args.b) in
-    let e = c.byte-then-b-eq71.ensures.is in
+    let e = c.byte-then-b-eq71.ensures.0 in
     (st.requires.0.usable.fitted, omega arith)
 
 search-requires : tie.Need-search-requires
@@ -75,7 +78,10 @@ same-length-6 c = search rules
 returns-2 : tie.Need-returns-then-b-eq71
 returns-2 c =
     let at-table2 = c.before.before.before.before in let at-byte2 = at-table2.before in let at-if2 = at-byte2.before.before.before in
-    let st = at-if2.before.before.before.before.before.before.before in record { told = writes-same (omega arith) (search-text st.args.axes st.args.tables.now st.args.lengths.now st.args.b st.args.s.now at-byte2.byte2.result _ at-byte2.byte2.ensures.0 (number-good _ 0 st.args.s.now st.requires.0.operands.good (numbers-one st.args.b)) at-table2.table2.ensures at-if2.if2.true) c.before.before.search.ensures; kept = none_kept (memory st.args.tables.now st.args.lengths.now st.args.res.now) _ (search-effect (state_in st.args.axes st.args.tables.now st.args.lengths.now) _ st.args.s.now at-if2.if2.true) }
+    let st = at-if2.before.before.before.before.before.before.before in (
+      writes-same (omega arith) (search-text st.args.axes st.args.tables.now st.args.lengths.now st.args.b st.args.s.now at-byte2.byte2.result _ at-byte2.byte2.ensures.0 (number-good _ 0 st.args.s.now st.requires.0.operands.good (numbers-one st.args.b)) at-table2.table2.ensures at-if2.if2.true) c.before.before.search.ensures,
+      none_kept (memory st.args.tables.now st.args.lengths.now st.args.res.now) _ (search-effect (state_in st.args.axes st.args.tables.now st.args.lengths.now) _ st.args.s.now at-if2.if2.true),
+    )
 
 assign-requires : tie.Need-assign-requires
 assign-requires c κs =
@@ -103,12 +109,15 @@ same-length-10 c = search rules
 returns-3 : tie.Need-returns
 returns-3 c =
     let at-assign = c.before.before.before.before.before.before.before.before in let at-if2 = at-assign.before.before.before.before.before in let at-if1 = at-if2.before in
-    let st = at-if1.before.before.before.before.before.before in record { told = writes-same (omega arith)
+    let st = at-if1.before.before.before.before.before.before in (
+      writes-same (omega arith)
           (assign-text (state_in st.args.axes st.args.tables.now st.args.lengths.now) _ st.args.s.now
           (assignment-left st.args.b st.requires.0.known st.requires.0.later.0 st.requires.0.later.1 (eqb-false _ _ st.requires.1) at-if1.if1.false at-if2.if2.false))
-          at-assign.assign.ensures.0; kept = assign-kept (state_in st.args.axes st.args.tables.now st.args.lengths.now) _ st.args.s.now
+          at-assign.assign.ensures.0,
+      assign-kept (state_in st.args.axes st.args.tables.now st.args.lengths.now) _ st.args.s.now
           (assignment-left st.args.b st.requires.0.known st.requires.0.later.0 st.requires.0.later.1 (eqb-false _ _ st.requires.1) at-if1.if1.false at-if2.if2.false)
-          (memory st.args.tables.now st.args.lengths.now st.args.res.now) at-assign.assign.ensures.1 }
+          (memory st.args.tables.now st.args.lengths.now st.args.res.now) at-assign.assign.ensures.1,
+    )
 
 pub print_spec : {M : Type 1} → statement M
 print_spec =

@@ -33,7 +33,7 @@ table-requires : tie.Need-table-first-requires
 table-requires c κs =
     let st = c.before.before.before.before.before.before in
     let g = number-good _ 1 st.args.s.now st.requires.1.good (two-numbers _ st.requires.2 c.before.if-b-eq64.false) in
-    let e = c.byte.ensures.is in
+    let e = c.byte.ensures.0 in
     (st.requires.0, omega arith)
 
 complement-requires : tie.Need-complement-requires
@@ -62,7 +62,7 @@ table-requires-2 : tie.Need-table-second-requires
 table-requires-2 c κs =
     let at-if1 = c.before.before.before.before in let st = at-if1.before.before.before.before.before in
     let g = number-good _ 2 st.args.s.now st.requires.1.good (three-numbers _ st.requires.2 at-if1.if1.false c.before.if-b-eq68.false) in
-    let e = c.byte-2.ensures.is in
+    let e = c.byte-2.ensures.0 in
     (st.requires.0, omega arith)
 
 union-requires : tie.Need-union-requires

@@ -12,7 +12,7 @@ cast-result : tie.Need-overflow_cast-result
 cast-result c = omega (arith, c.shared_slice_known-1.given c.before.args.i)
 
 returns : tie.Need-returns
-returns c = record { is = refl; small = omega (arith, c.shared_slice_known-1.given c.before.args.i) }
+returns c = (refl, omega (arith, c.shared_slice_known-1.given c.before.args.i))
 
 pub byte_spec : {M : Type 1} → statement M
 byte_spec = tie.close (tie.spec shared-slice-read-result cast-result returns)

@@ -215,8 +215,11 @@ returns-5 : tie.Need-returns
 returns-5 c =
     let x = c.before.before in let f = x.before.before in let o = f.before in let v = o.before in let k = start v.before in let a = (begun k).args in
     let s = set_from a.set.now 0 in let box = take a.n (box_of a.t3 a.highs) in let n = v.width-v.result in let ys : List ℕ = x.ended.new.1.1.1.1.1.1.0 in
-    let e : Ended a.limit (chosen f) (members_in s box) n x.ended.result ys = subst (λ (j : ℕ). Ended a.limit (chosen f) (members_in s box) j x.ended.result ys) (sym (part o)) x.ended.ensures in record { is = ended-answer s box (some a.axis) a.limit (chosen f) n (same f) _ (told o) _ _ e; table = ap (λ (l : List ℕ). ys ++ l) (ap (drop n) (cleared k).clear.ensures ∙ zeros-drop (size k) n)
-          ∙ ended-table s box (some a.axis) a.limit (chosen f) n (same f) _ (told o) (size k) (enough o) _ _ e }
+    let e : Ended a.limit (chosen f) (members_in s box) n x.ended.result ys = subst (λ (j : ℕ). Ended a.limit (chosen f) (members_in s box) j x.ended.result ys) (sym (part o)) x.ended.ensures in (
+      ended-answer s box (some a.axis) a.limit (chosen f) n (same f) _ (told o) _ _ e,
+      ap (λ (l : List ℕ). ys ++ l) (ap (drop n) (cleared k).clear.ensures ∙ zeros-drop (size k) n)
+          ∙ ended-table s box (some a.axis) a.limit (chosen f) n (same f) _ (told o) (size k) (enough o) _ _ e,
+    )
 
 pub counts_spec : {M : Type 1} → statement M
 counts_spec =

@@ -20,7 +20,7 @@ same_length c = search rules
 returns : tie.Need-returns
 returns c =
     let l = c.before.before in let b = l.before.before.before in let a = (begun b).args in
-    walk-all a.s.now a.n a.low a.high a.limit _ _ b.begin-all.ensures a.c a.each.now _ _ l.level.ensures.is
+    walk-all a.s.now a.n a.low a.high a.limit _ _ b.begin-all.ensures a.c a.each.now _ _ l.level.ensures.0
 
 pub walked_spec : {M : Type 1} → statement M
 walked_spec = tie.close (tie.spec begin-requires level-requires same_length returns)

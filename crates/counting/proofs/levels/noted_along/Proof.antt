@@ -58,7 +58,7 @@ value-at-requires : tie.Need-value_at-v-requires invariant-loop decreases-loop
 value-at-requires c κs = let a = (st c).requires.2 in (a.axis, far c, a.size)
 
 value-is : (y : tie.After-value_at-v invariant-loop decreases-loop) → to_z w64 (of_z w64 y.value_at-v.result) ≡ here y.before
-value-is y = result_is w64 y.value_at-v.result y.value_at-v.type-inv ∙ y.value_at-v.ensures
+value-is y = result_is w64 y.value_at-v.result y.value_at-v.type_inv ∙ y.value_at-v.ensures
 
 raise-requires : tie.Need-raise-requires invariant-loop decreases-loop
 raise-requires c κs =

@@ -138,12 +138,15 @@ start-requires : tie.Need-start-h-requires invariant-loop decreases-loop
 start-requires c κs =
     let j = c.before.before.before.before.before.before.before in
     let b = j.before.begin-s in
-    let p = (entered j).requires in record { valid = record {
+    let p = (entered j).requires in (
+      record {
         divs = let e = b.ensures.divs in let z = j.before.before.before.before.join-j.ensures.few in omega arith;
         cons = let e = b.ensures.cons in let z = p.0.cons in omega arith;
         divisions = simp length-map at b.type-inv.1.1.0.1.1.0.1.0.1;
         constraints = simp length-map at b.type-inv.1.1.0.1.1.1.0.1.0.1;
-      }; beginning = record { high = p.1.high; long = p.1.long; wide = p.1.wide; many = p.2.many; many' = refl } }
+      },
+      record { high = p.1.high; long = p.1.long; wide = p.1.wide; many = p.2.many; many' = refl },
+    )
 
 loop-holds : tie.Need-loop-k-init invariant-loop decreases-loop
 loop-holds c =
@@ -195,7 +198,7 @@ kept-requires : tie.Need-kept-x-requires invariant-loop decreases-loop
 kept-requires c κs =
     let r = ruled c in
     let e = (turning r).extending in
-    record { growing = caught-growing (caught (in-turn r)) e.divs e.cons; opposed = (opposed e.n _ r.joining_rule-r.result (turning r).settled e.new, spare-long c) }
+    (caught-growing (caught (in-turn r)) e.divs e.cons, (opposed e.n _ r.joining_rule-r.result (turning r).settled e.new, spare-long c))
 
 kept-alone-requires : tie.Need-kept_alone-x-requires invariant-loop decreases-loop
 kept-alone-requires c κs =

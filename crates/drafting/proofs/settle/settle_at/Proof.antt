@@ -25,7 +25,7 @@ start c = c.before.before.before.before.before
 tested : (c : tie.After-is_zero) → let s = start c in c.is_zero.result ≡ is_zero (get_or (cells s.args.waiting.now) (s.args.v + 2) (pos 0))
 tested c =
     let b = c.before.before in
-    c.is_zero.ensures ∙ zero_is b.Cell-at.result.neg (size b.Cell-at.result.magnitude) ∙ ap is_zero b.Cell-at.ensures.0
+    c.is_zero.ensures ∙ zero_is b.cell_at-b.result.neg (size b.cell_at-b.result.magnitude) ∙ ap is_zero b.cell_at-b.ensures.0
 
 -- what waits is a row
 inside : (c : tie.Else-is_zero) → let s = start c.before in get_or s.args.place.now s.args.v 0 < length s.args.t.now

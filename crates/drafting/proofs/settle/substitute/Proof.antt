@@ -21,11 +21,11 @@ abbrev first : tie.After-combine-h → tie.After-combine-g
 first c = c.before.before.before
 
 parts : (c : tie.After-clear) → let s = start c in let n = c.before.before.before in
-    K.Parts s.args.v (cells s.args.r.now) (sketch_of s.args.row.now s.args.waiting.now) (value_of (copied c).before.before.before.Cell-at.result) (value_of n.negate-c.result) (value_of c.before.before.zero-z.result) (cells (copied c).wipe.new.0) (cells c.clear.new.0)
+    K.Parts s.args.v (cells s.args.r.now) (sketch_of s.args.row.now s.args.waiting.now) (value_of (copied c).before.before.before.cell_at-m.result) (value_of n.negate-c.result) (value_of c.before.before.zero-z.result) (cells (copied c).wipe.new.0) (cells c.clear.new.0)
 parts c =
     let z = c.before.before in let n = z.before in
     record {
-      divisor_is = (copied c).before.before.before.Cell-at.ensures.0;
+      divisor_is = (copied c).before.before.before.cell_at-m.ensures.0;
       row_is = (copied c).wipe.ensures.is;
       by = n.negate-c.ensures.0 ∙ ap neg_ℤ n.before.cell_at-b.ensures.0;
       none = z.zero-z.ensures.0;

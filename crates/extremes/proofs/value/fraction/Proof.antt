@@ -23,7 +23,7 @@ gcd-requires c κs = search rules
 quotient-requires : tie.Need-quotient-numerator-requires
 quotient-requires c κs =
     let p = (constant c).before.requires in
-    let x = (constant c).Cell-at in
+    let x = (constant c).cell_at-c in
     let d = (denominator c).cell_at-d in
     (x.ensures.1, divisor-positive x.result d.result _ _ d.ensures.0 p.1 c.gcd-g.ensures)
 
@@ -32,14 +32,14 @@ quotient-requires-2 c κs =
     let g = c.before in
     let p = (constant g).before.requires in
     let d = (denominator g).cell_at-d in
-    (d.ensures.1, divisor-positive (constant g).Cell-at.result d.result _ _ d.ensures.0 p.1 g.gcd-g.ensures)
+    (d.ensures.1, divisor-positive (constant g).cell_at-c.result d.result _ _ d.ensures.0 p.1 g.gcd-g.ensures)
 
 returns : tie.Need-returns
 returns c =
     let q = c.before in
     let x = q.before in
     let g = x.before in
-    fraction-is _ (constant g).Cell-at.result (denominator g).cell_at-d.result g.gcd-g.result (constant g).Cell-at.ensures.0 (denominator g).cell_at-d.ensures.0 g.gcd-g.ensures x.quotient-numerator.result q.quotient-q.result x.quotient-numerator.ensures.0 q.quotient-q.ensures.0
+    fraction-is _ (constant g).cell_at-c.result (denominator g).cell_at-d.result g.gcd-g.result (constant g).cell_at-c.ensures.0 (denominator g).cell_at-d.ensures.0 g.gcd-g.ensures x.quotient-numerator.result q.quotient-q.result x.quotient-numerator.ensures.0 q.quotient-q.ensures.0
 
 pub fraction_spec : {M : Type 1} → statement M
 fraction_spec =

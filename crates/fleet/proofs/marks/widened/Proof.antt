@@ -50,7 +50,7 @@ loop-again c =
     let w = c.before in let l = w.before in let m = l.before in let v = m.loop-i.invariant in let t = l.loop-i-test.true in
     let xs = m.before.args.points.now in let i = m.loop-i.i in
     let z = to_z_of_z {w = w32} {z = get_or xs i (pos 0)} (record { sfits = w.wide-arg-1.given }) in
-    let e = result_is w64 c.wide-z.result c.wide-z.type-inv ∙ c.wide-z.ensures ∙ z in
+    let e = result_is w64 c.wide-z.result c.wide-z.type_inv ∙ c.wide-z.ensures ∙ z in
     (omega arith, length-set m.loop-i.r i _ ∙ v.1, widened-next xs m.loop-i.r i _ t (inside l) v.2 e)
 
 returns : tie.Need-returns invariant-loop decreases-loop

@@ -24,7 +24,7 @@ returns c =
     (c.before.count-c.ensures
     ∙ ap₂ (λ (l h : List ℤ). counted_is (count_bytes st.args.n st.args.set.now l h none st.args.limit))
     (search coordinates depth 12) (search coordinates depth 12))
-    (result_is w64 _ c.count_number.type-inv ∙ c.count_number.ensures)
+    (result_is w64 _ c.count_number.type_inv ∙ c.count_number.ensures)
 
 pub pitsets_count_spec : {M : Type 1} → statement M
 pitsets_count_spec = tie.close (tie.spec count-requires count-number-requires returns)

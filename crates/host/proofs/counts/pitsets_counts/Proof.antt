@@ -27,12 +27,12 @@ returns c =
     record {
       answer =
           count-hosted (counts_bytes st.args.n size st.args.set.now _ _ st.args.axis st.args.limit) d.counts-c.result
-          (d.counts-c.ensures.is
+          (d.counts-c.ensures.0
           ∙ ap₂ (λ (l h : List ℤ). counted_is (counts_bytes st.args.n size st.args.set.now l h st.args.axis st.args.limit))
           (search coordinates depth 12) (search coordinates depth 12))
-          (result_is w64 _ c.count_number.type-inv ∙ c.count_number.ensures);
+          (result_is w64 _ c.count_number.type_inv ∙ c.count_number.ensures);
       counts =
-          d.counts-c.ensures.table
+          d.counts-c.ensures.1
           ∙ ap₂ (λ (l h : List ℤ). table_is size (counts_bytes st.args.n size st.args.set.now l h st.args.axis st.args.limit))
           (search coordinates depth 12) (search coordinates depth 12);
     }

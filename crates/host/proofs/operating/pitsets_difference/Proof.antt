@@ -25,7 +25,7 @@ same_length c = search rules
 returns : tie.Need-returns
 returns c =
     let u = c.before.before.before.difference in let s = c.before.before.before.before.before.before.before.before.args in
-    hosted (difference_bytes s.n (length s.out.now) s.a.now s.b.now) u.result u.ensures _ (result_is w64 _ c.length_number.type-inv ∙ c.length_number.ensures)
+    hosted (difference_bytes s.n (length s.out.now) s.a.now s.b.now) u.result u.ensures _ (result_is w64 _ c.length_number.type_inv ∙ c.length_number.ensures)
 
 pub pitsets_difference_spec : {M : Type 1} → statement M
 pitsets_difference_spec = tie.close (tie.spec difference-requires length-number-requires same_length returns)

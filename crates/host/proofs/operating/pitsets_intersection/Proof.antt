@@ -25,7 +25,7 @@ same_length c = search rules
 returns : tie.Need-returns
 returns c =
     let u = c.before.before.before.intersection in let s = c.before.before.before.before.before.before.before.before.args in
-    hosted (intersection_bytes s.n (length s.out.now) s.a.now s.b.now) u.result u.ensures _ (result_is w64 _ c.length_number.type-inv ∙ c.length_number.ensures)
+    hosted (intersection_bytes s.n (length s.out.now) s.a.now s.b.now) u.result u.ensures _ (result_is w64 _ c.length_number.type_inv ∙ c.length_number.ensures)
 
 pub pitsets_intersection_spec : {M : Type 1} → statement M
 pitsets_intersection_spec = tie.close (tie.spec intersection-requires length-number-requires same_length returns)

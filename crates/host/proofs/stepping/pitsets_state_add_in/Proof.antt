@@ -34,7 +34,7 @@ returns c =
     state-hosted
     (d.add.ensures
     ∙ ap (λ (z : ℤ). add_step (rule_by a.equality z a.axes.now a.divisions.now) (memory a.rows.now a.place.now a.kinds.now a.heads.now)) (to_z_of_z st.ranges.constant))
-    (result_is w64 _ c.said_number.type-inv ∙ c.said_number.ensures)
+    (result_is w64 _ c.said_number.type_inv ∙ c.said_number.ensures)
 
 pub pitsets_state_add_in_spec : {M : Type 1} → statement M
 pitsets_state_add_in_spec =

@@ -25,7 +25,7 @@ same-length-4 : tie.Need-shape_of-heads
 same-length-4 c = search rules
 
 returns : tie.Need-returns
-returns c = state-hosted c.before.before.before.before.before.before.before.before.mark.ensures (result_is w64 _ c.said_number.type-inv ∙ c.said_number.ensures)
+returns c = state-hosted c.before.before.before.before.before.before.before.before.mark.ensures (result_is w64 _ c.said_number.type_inv ∙ c.said_number.ensures)
 
 pub pitsets_state_mark_in_spec : {M : Type 1} → statement M
 pitsets_state_mark_in_spec =

@@ -22,7 +22,7 @@ extent-number-requires c κs = search rules
 returns : tie.Need-returns
 returns c =
     let m = c.before in let x = m.before in let st = x.before.before.before.before in let a = st.args in
-    valued_as (result_is w64 _ c.extent_number.type-inv)
+    valued_as (result_is w64 _ c.extent_number.type_inv)
     (x.extent-x.ensures
     ∙ ap (λ (z : ℤ). extreme_bytes (aim_of a.greatest) a.n a.set.now a.k (expression_by z a.axes.now a.divisions.now)) (to_z_of_z st.ranges.constant))
     (record { number = c.extent_number.ensures; value = m.value_words.ensures })

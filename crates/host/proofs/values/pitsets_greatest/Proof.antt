@@ -15,7 +15,7 @@ extreme-requires c κs = search rules
 returns : tie.Need-returns
 returns c =
     let st = c.before.before.before in let a = st.args in
-    valued_as (result_is w64 _ c.extreme.type-inv)
+    valued_as (result_is w64 _ c.extreme.type_inv)
     (ap (λ (z : ℤ). extreme_bytes (negsuc 0) a.n a.set.now a.k (expression_by z a.axes.now a.divisions.now)) (to_z_of_z st.ranges.constant))
     c.extreme.ensures
 

@@ -15,8 +15,8 @@ unsigned-of-requires : tie.Need-unsigned_of-requires
 unsigned-of-requires c κs = let f = c.before.before.ranges.z in (rw (to_z_of_z (cast-unsigned-of c), to_z_of_z f) f.sfits, omega arith)
 
 -- the bits are those of z
-bits : (c : tie.After-unsigned_of) → c.Unsigned-of.result ≡ unsigned 2 c.before.before.before.args.z
-bits c = c.Unsigned-of.ensures 2 refl ∙ ap (unsigned 2) (to_z_of_z (cast-unsigned-of c.before) ∙ to_z_of_z c.before.before.before.ranges.z)
+bits : (c : tie.After-unsigned_of) → c.unsigned_of.result ≡ unsigned 2 c.before.before.before.args.z
+bits c = c.unsigned_of.ensures 2 refl ∙ ap (unsigned 2) (to_z_of_z (cast-unsigned-of c.before) ∙ to_z_of_z c.before.before.before.ranges.z)
 
 put-u16-requires : tie.Need-put_u16-requires
 put-u16-requires c κs =

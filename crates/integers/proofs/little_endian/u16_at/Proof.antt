@@ -31,7 +31,7 @@ returns : tie.Need-returns
 returns c =
     let s = c.before.before.before.before.before in let t = s.args.t.now in let p = s.args.p in
     let low = value-next 1 p t (omega arith) in let high = value-next 0 (p + 1) t (omega arith) in
-    record { is = omega arith; small = omega arith }
+    (omega arith, omega arith)
 
 pub u16_at_spec : {M : Type 1} → statement M
 u16_at_spec =

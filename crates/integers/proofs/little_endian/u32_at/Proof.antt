@@ -21,7 +21,7 @@ add-result : tie.Need-overflow_add-result
 add-result c = search rules
 
 returns : tie.Need-returns
-returns c = let s = c.before.before.before in let e = value-parts 2 2 s.args.p s.args.t.now (omega arith) in record { is = omega arith; small = omega arith }
+returns c = let s = c.before.before.before in let e = value-parts 2 2 s.args.p s.args.t.now (omega arith) in (omega arith, omega arith)
 
 pub u32_at_spec : {M : Type 1} → statement M
 u32_at_spec =

@@ -92,14 +92,14 @@ returns c =
     let xs = st.args.t1 in
     let l : length xs ≡ 8 = search rules in
     let g : 0 + 8 ≡ length xs = omega arith in
-    let e1 = result_is w16 c.before.before.before.before.before.before.before.before.before.before.before.before.before.before.minus.result c.before.before.before.before.before.before.before.before.before.before.before.before.before.before.minus.type-inv ∙ c.before.before.before.before.before.before.before.before.before.before.before.before.before.before.minus.ensures ∙ ap neg_ℤ (result_is w16 (get_or xs 0 (pos 0)) c.before.before.before.before.before.before.before.before.before.before.before.before.before.before.before.minus-arg-1.given) in
-    let e2 = result_is w16 c.before.before.before.before.before.before.before.before.before.before.before.before.minus-2.result c.before.before.before.before.before.before.before.before.before.before.before.before.minus-2.type-inv ∙ c.before.before.before.before.before.before.before.before.before.before.before.before.minus-2.ensures ∙ ap neg_ℤ (result_is w16 (get_or xs 1 (pos 0)) c.before.before.before.before.before.before.before.before.before.before.before.before.before.minus-arg-2-1.given) in
-    let e3 = result_is w16 c.before.before.before.before.before.before.before.before.before.before.minus-3.result c.before.before.before.before.before.before.before.before.before.before.minus-3.type-inv ∙ c.before.before.before.before.before.before.before.before.before.before.minus-3.ensures ∙ ap neg_ℤ (result_is w16 (get_or xs 2 (pos 0)) c.before.before.before.before.before.before.before.before.before.before.before.minus-arg-3-1.given) in
-    let e4 = result_is w16 c.before.before.before.before.before.before.before.before.minus-4.result c.before.before.before.before.before.before.before.before.minus-4.type-inv ∙ c.before.before.before.before.before.before.before.before.minus-4.ensures ∙ ap neg_ℤ (result_is w16 (get_or xs 3 (pos 0)) c.before.before.before.before.before.before.before.before.before.minus-arg-4-1.given) in
-    let e5 = result_is w16 c.before.before.before.before.before.before.minus-5.result c.before.before.before.before.before.before.minus-5.type-inv ∙ c.before.before.before.before.before.before.minus-5.ensures ∙ ap neg_ℤ (result_is w16 (get_or xs 4 (pos 0)) c.before.before.before.before.before.before.before.minus-arg-5-1.given) in
-    let e6 = result_is w16 c.before.before.before.before.minus-6.result c.before.before.before.before.minus-6.type-inv ∙ c.before.before.before.before.minus-6.ensures ∙ ap neg_ℤ (result_is w16 (get_or xs 5 (pos 0)) c.before.before.before.before.before.minus-arg-6-1.given) in
-    let e7 = result_is w16 c.before.before.minus-7.result c.before.before.minus-7.type-inv ∙ c.before.before.minus-7.ensures ∙ ap neg_ℤ (result_is w16 (get_or xs 6 (pos 0)) c.before.before.before.minus-arg-7-1.given) in
-    let e8 = result_is w16 c.minus-8.result c.minus-8.type-inv ∙ c.minus-8.ensures ∙ ap neg_ℤ (result_is w16 (get_or xs 7 (pos 0)) c.before.minus-arg-8-1.given) in
+    let e1 = result_is w16 c.before.before.before.before.before.before.before.before.before.before.before.before.before.before.minus.result c.before.before.before.before.before.before.before.before.before.before.before.before.before.before.minus.type_inv ∙ c.before.before.before.before.before.before.before.before.before.before.before.before.before.before.minus.ensures ∙ ap neg_ℤ (result_is w16 (get_or xs 0 (pos 0)) c.before.before.before.before.before.before.before.before.before.before.before.before.before.before.before.minus-arg-1.given) in
+    let e2 = result_is w16 c.before.before.before.before.before.before.before.before.before.before.before.before.minus-2.result c.before.before.before.before.before.before.before.before.before.before.before.before.minus-2.type_inv ∙ c.before.before.before.before.before.before.before.before.before.before.before.before.minus-2.ensures ∙ ap neg_ℤ (result_is w16 (get_or xs 1 (pos 0)) c.before.before.before.before.before.before.before.before.before.before.before.before.before.minus-arg-2-1.given) in
+    let e3 = result_is w16 c.before.before.before.before.before.before.before.before.before.before.minus-3.result c.before.before.before.before.before.before.before.before.before.before.minus-3.type_inv ∙ c.before.before.before.before.before.before.before.before.before.before.minus-3.ensures ∙ ap neg_ℤ (result_is w16 (get_or xs 2 (pos 0)) c.before.before.before.before.before.before.before.before.before.before.before.minus-arg-3-1.given) in
+    let e4 = result_is w16 c.before.before.before.before.before.before.before.before.minus-4.result c.before.before.before.before.before.before.before.before.minus-4.type_inv ∙ c.before.before.before.before.before.before.before.before.minus-4.ensures ∙ ap neg_ℤ (result_is w16 (get_or xs 3 (pos 0)) c.before.before.before.before.before.before.before.before.before.minus-arg-4-1.given) in
+    let e5 = result_is w16 c.before.before.before.before.before.before.minus-5.result c.before.before.before.before.before.before.minus-5.type_inv ∙ c.before.before.before.before.before.before.minus-5.ensures ∙ ap neg_ℤ (result_is w16 (get_or xs 4 (pos 0)) c.before.before.before.before.before.before.before.minus-arg-5-1.given) in
+    let e6 = result_is w16 c.before.before.before.before.minus-6.result c.before.before.before.before.minus-6.type_inv ∙ c.before.before.before.before.minus-6.ensures ∙ ap neg_ℤ (result_is w16 (get_or xs 5 (pos 0)) c.before.before.before.before.before.minus-arg-6-1.given) in
+    let e7 = result_is w16 c.before.before.minus-7.result c.before.before.minus-7.type_inv ∙ c.before.before.minus-7.ensures ∙ ap neg_ℤ (result_is w16 (get_or xs 6 (pos 0)) c.before.before.before.minus-arg-7-1.given) in
+    let e8 = result_is w16 c.minus-8.result c.minus-8.type_inv ∙ c.minus-8.ensures ∙ ap neg_ℤ (result_is w16 (get_or xs 7 (pos 0)) c.before.minus-arg-8-1.given) in
     (λ i. e1 i ∷ e2 i ∷ e3 i ∷ e4 i ∷ e5 i ∷ e6 i ∷ e7 i ∷ e8 i ∷ []) ∙ gets-map neg_ℤ (pos 0) 8 0 xs g
 
 pub negated_spec : {M : Type 1} → statement M

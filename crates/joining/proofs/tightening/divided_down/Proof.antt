@@ -39,7 +39,7 @@ floor-div-requires c κs = let s = c.before.before.before.before.before in subst
 
 value-is : (c : tie.After-floor_div) → to_z w64 (of_z w64 c.floor_div.result) ≡ floor_div c.before.before.before.before.before.before.args.c.constant c.before.before.before.before.before.before.args.g
 value-is c =
-    result_is w64 _ c.floor_div.type-inv ∙ c.floor_div.ensures
+    result_is w64 _ c.floor_div.type_inv ∙ c.floor_div.ensures
     ∙ ap₂ (λ (z : ℤ) (d : ℤ). floor_div z (nat_abs d)) (to_z_of_z (cast-floor-div c.before) ∙ to_z_of_z (constant-fits c.before)) (divisor_is c.before)
 
 cast-t13 : tie.Need-overflow_cast-result

@@ -30,7 +30,7 @@ floor-div-requires c κs = subst (λ (z : ℤ). pos 0 <ℤ z) (sym (divisor_is c
 value-is : (c : tie.After-floor_div) → to_z w64 (mir.Val.of_z w64 c.floor_div.result) ≡ floor_div c.before.args.x c.before.args.g
 value-is c =
     let s = c.before in
-    result_is w64 _ c.floor_div.type-inv ∙ c.floor_div.ensures
+    result_is w64 _ c.floor_div.type_inv ∙ c.floor_div.ensures
     ∙ ap₂ (λ (z : ℤ) (d : ℤ). floor_div z (nat_abs d)) (to_z_of_z (cast-floor-div s) ∙ to_z_of_z s.ranges.x) (divisor_is s)
 
 cast-result : tie.Need-overflow_cast-result

@@ -53,7 +53,7 @@ loop-again c =
     let f = down_by lo.before.args.g in
     let i = lo.loop-i.i in
     let l : length xs ≡ 8 = search rules in
-    let v = result_is w16 _ c.quotient.type-inv ∙ c.quotient.ensures ∙ ap f (result_is w16 (get_or lo.loop-i.r i (pos 0)) c.before.x-1.given) ∙ each_at f i _ in
+    let v = result_is w16 _ c.quotient.type_inv ∙ c.quotient.ensures ∙ ap f (result_is w16 (get_or lo.loop-i.r i (pos 0)) c.before.x-1.given) ∙ each_at f i _ in
     (omega arith, up_to-more (pos 0) (each f) i xs lo.loop-i.r _ (omega arith) lo.loop-i.invariant.1 v)
 
 returns : tie.Need-returns invariant-loop decreases-loop

@@ -34,7 +34,7 @@ number-requires c κs =
     let in-loop = c.before.before.before in
     let l = wrote-length in-loop.loop.invariant.1.wrote in
     let s = in-loop.loop.invariant.1.short in
-    let e = c.u16_at.ensures.small in
+    let e = c.u16_at.ensures.1 in
     (omega arith, omega arith, omega arith)
 
 add-i : tie.Need-overflow_add-i invariant-loop decreases-loop

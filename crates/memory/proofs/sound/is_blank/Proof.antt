@@ -25,8 +25,8 @@ decreases-loop r n i₀ i = 18 - i
 -- the test of the turn's number
 zero : (c : tie.After-is_zero invariant-loop decreases-loop) → let a = c.before.before in let i = a.before in is_zero (get_or (cells i.before.before.args.r.now) i.before.loop-i.i (pos 0)) ≡ c.is_zero.result
 zero c =
-    let a = c.before.before in let x = a.Cell-at.result in
-    ap is_zero (sym a.Cell-at.ensures.0) ∙ sym (zero_is x.neg (size x.magnitude)) ∙ sym c.is_zero.ensures
+    let a = c.before.before in let x = a.cell_at-x.result in
+    ap is_zero (sym a.cell_at-x.ensures.0) ∙ sym (zero_is x.neg (size x.magnitude)) ∙ sym c.is_zero.ensures
 
 loop-holds : tie.Need-loop-i-init invariant-loop decreases-loop
 loop-holds c = refl

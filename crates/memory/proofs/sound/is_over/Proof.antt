@@ -21,7 +21,7 @@ is-negative-requires c κs = search rules
 returns : tie.Need-returns
 returns c =
     let n = c.before in let a = n.before in
-    c.is_negative.ensures ∙ ap (λ (z : ℤ). lt_z z (pos 0)) n.negate-x.ensures.0 ∙ neg-lt (value_of a.Cell-at.result) ∙ ap (lt_z (pos 0)) a.Cell-at.ensures.0
+    c.is_negative.ensures ∙ ap (λ (z : ℤ). lt_z z (pos 0)) n.negate-x.ensures.0 ∙ neg-lt (value_of a.cell_at-d.result) ∙ ap (lt_z (pos 0)) a.cell_at-d.ensures.0
 
 pub is_over_spec : {M : Type 1} → statement M
 is_over_spec = tie.close (tie.spec cell-at-requires negate-requires is-negative-requires returns)

@@ -12,7 +12,7 @@ same_length : tie.Need-shape_of-out
 same_length c = search rules
 
 returns : tie.Need-returns
-returns c = rw c.before.before.before.before.basic.ensures.bytes at c.before.before.copy_bytes.ensures
+returns c = rw c.before.before.before.before.basic.ensures.0 at c.before.before.copy_bytes.ensures
 
 pub probe_part_spec : {M : Type 1} → statement M
 probe_part_spec = tie.close (tie.spec basic-requires copy-bytes-requires same_length returns)

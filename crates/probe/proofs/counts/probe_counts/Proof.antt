@@ -22,12 +22,12 @@ returns c =
     record {
       answer =
           count-probed (counts_bytes st.args.n size st.args.set.now _ _ st.args.axis st.args.limit) d.counts-r.result
-          (d.counts-r.ensures.is
+          (d.counts-r.ensures.0
           ∙ ap₂ (λ (l h : List ℤ). counted_is (counts_bytes st.args.n size st.args.set.now l h st.args.axis st.args.limit))
           (search coordinates depth 12) (search coordinates depth 12))
           c.count_number.ensures;
       counts =
-          d.counts-r.ensures.table
+          d.counts-r.ensures.1
           ∙ ap₂ (λ (l h : List ℤ). table_is size (counts_bytes st.args.n size st.args.set.now l h st.args.axis st.args.limit))
           (search coordinates depth 12) (search coordinates depth 12);
     }

@@ -15,7 +15,7 @@ coordinate-requires c κs = search rules
 returns : tie.Need-returns
 returns c =
     let m = c.before.before in let st = m.before.before in let f = st.ranges in
-    result_is w64 _ c.coordinate.type-inv ∙ c.coordinate.ensures
+    result_is w64 _ c.coordinate.type_inv ∙ c.coordinate.ensures
     ∙ ap (λ (a : FirstPoint). get_or a.point st.args.i (pos 0))
     (m.first_point-r.ensures
     ∙ ap₂ (λ (l h : List ℤ). answer_of (search_bytes st.args.n st.args.set.now l h st.args.limit))

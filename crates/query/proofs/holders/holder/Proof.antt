@@ -17,7 +17,7 @@ basic-requires c κs = search rules
 returns : tie.Need-returns-then-s
 returns c =
     let i = c.before in let s = i.before in let st = s.before.before.before in
-    ap₂ (λ (p : ℕ × ℕ) (l : List ℕ). (p, l)) c.basic.ensures.place c.basic.ensures.bytes
+    ap₂ (λ (p : ℕ × ℕ) (l : List ℕ). (p, l)) c.basic.ensures.1 c.basic.ensures.0
     ∙ ap (λ (x : Bool). handed st.args.n st.args.a st.args.b (record { table = cond x second first; number = s.seated-s.result.number })) (sym i.if-s.true)
     ∙ ap (handed st.args.n st.args.a st.args.b) s.seated-s.ensures
 
@@ -27,7 +27,7 @@ basic-requires-2 c κs = search rules
 returns-2 : tie.Need-returns
 returns-2 c =
     let i = c.before in let s = i.before in let st = s.before.before.before in
-    ap₂ (λ (p : ℕ × ℕ) (l : List ℕ). (p, l)) c.basic-2.ensures.place c.basic-2.ensures.bytes
+    ap₂ (λ (p : ℕ × ℕ) (l : List ℕ). (p, l)) c.basic-2.ensures.1 c.basic-2.ensures.0
     ∙ ap (λ (x : Bool). handed st.args.n st.args.a st.args.b (record { table = cond x second first; number = s.seated-s.result.number })) (sym i.if-s.false)
     ∙ ap (handed st.args.n st.args.a st.args.b) s.seated-s.ensures
 

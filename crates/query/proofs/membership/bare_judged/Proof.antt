@@ -30,12 +30,12 @@ one-judged-requires c κs =
     (m.loop-r.invariant.tail, ap (λ (x : Bool). x || is_numbered (get_or st.args.s.now m.loop-r.at 0)) (sym t.bare_at.ensures ∙ c.loop-r-test.true), st.requires.1, st.requires.2)
 
 loop-less : tie.Need-loop-r-smaller invariant-loop decreases-loop
-loop-less c = let p = c.one_judged-r.ensures.past in let i = c.one_judged-r.ensures.judged.tail.here.inside in omega arith
+loop-less c = let p = c.one_judged-r.ensures.0 in let i = c.one_judged-r.ensures.1.tail.here.inside in omega arith
 
 loop-again : tie.Need-loop-r-preserved invariant-loop decreases-loop
 loop-again c =
     let m = c.before.before.before in let st = m.before.before in
-    judging-then st.args.s.now st.args.start (M.holds (pos 1) st.args.x.now st.args.q.now) st.args.so _ _ _ _ m.loop-r.invariant c.one_judged-r.ensures.judged
+    judging-then st.args.s.now st.args.start (M.holds (pos 1) st.args.x.now st.args.q.now) st.args.so _ _ _ _ m.loop-r.invariant c.one_judged-r.ensures.1
 
 returns : tie.Need-returns invariant-loop decreases-loop
 returns c = c.before.before.loop-r.invariant

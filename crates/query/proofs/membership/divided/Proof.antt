@@ -51,7 +51,7 @@ body-requires c κs = (here c.before).whole
 quotient-at-requires : tie.Need-quotient_at-v-requires invariant-loop decreases-loop
 quotient-at-requires c κs =
     let e = c.before in let h = here e.before in let p = (st e.before).pre.1 in
-    (subst (λ (t : List ℕ). division_body ≤ length t) (sym c.body-t.ensures) h.body, p.axes, p.point, subst (λ (d : ℕ). 0 < d) (sym e.head-e.ensures.is) h.divisor, e.head-e.ensures.size)
+    (subst (λ (t : List ℕ). division_body ≤ length t) (sym c.body-t.ensures) h.body, p.axes, p.point, subst (λ (d : ℕ). 0 < d) (sym e.head-e.ensures.0) h.divisor, e.head-e.ensures.1)
 
 mul-v : tie.Need-offset_bounds-q-d invariant-loop decreases-loop
 mul-v c = search rules
@@ -73,10 +73,10 @@ loop-less c = let h = (here c.before.before.before.before).whole in let r = h.ro
 loop-again : tie.Need-loop-e-preserved invariant-loop decreases-loop
 loop-again c =
     let v = c.before in let b = v.before in let e = b.before in let t = e.before in let a = (st t).args in let l = (m t).loop in
-    let k = result_is w64 v.quotient_at-v.result v.quotient_at-v.type-inv in
+    let k = result_is w64 v.quotient_at-v.result v.quotient_at-v.type_inv in
     subst (λ (p : ℕ). Dividing a.s.now a.start a.x.now p (l.d + 1) (set l.q l.d (to_z w64 (of_z w64 v.quotient_at-v.result)))) (sym c.next-at.ensures)
     (dividing-next a.s.now a.start a.x.now l.at l.d l.q l.inv (code t) _
-    (k ∙ v.quotient_at-v.ensures.is ∙ ap₂ (λ (d : ℕ) (t : List ℕ). quotient a.x.now (read_division d t)) e.head-e.ensures.is b.body-t.ensures) (subst (Within 549755813888) (sym k) v.quotient_at-v.ensures.size))
+    (k ∙ v.quotient_at-v.ensures.0 ∙ ap₂ (λ (d : ℕ) (t : List ℕ). quotient a.x.now (read_division d t)) e.head-e.ensures.0 b.body-t.ensures) (subst (Within 549755813888) (sym k) v.quotient_at-v.ensures.1))
 
 same_length : tie.Need-shape_of-q invariant-loop decreases-loop
 same_length c = let m = c.before.before in let st = m.before.before in let l = m.loop-e.invariant.places in let p = st.requires.2 in l ∙ sym p

@@ -29,16 +29,16 @@ one-judged-requires c κs =
     (m.loop-t.invariant.tail, sym t.constraint_at.ensures ∙ c.loop-t-test.true, st.requires.1, st.requires.2)
 
 bare-judged-requires : tie.Need-bare_judged-r-requires invariant-loop decreases-loop
-bare-judged-requires c κs = let st = c.before.before.before.before.before in (c.one_judged-t.ensures.judged.tail, st.requires.1, st.requires.2)
+bare-judged-requires c κs = let st = c.before.before.before.before.before in (c.one_judged-t.ensures.1.tail, st.requires.1, st.requires.2)
 
 loop-less : tie.Need-loop-t-smaller invariant-loop decreases-loop
-loop-less c = let p = c.before.one_judged-t.ensures.past in let r = c.bare_judged-r.ensures.past in let i = c.bare_judged-r.ensures.tail.here.inside in omega arith
+loop-less c = let p = c.before.one_judged-t.ensures.0 in let r = c.bare_judged-r.ensures.past in let i = c.bare_judged-r.ensures.tail.here.inside in omega arith
 
 loop-again : tie.Need-loop-t-preserved invariant-loop decreases-loop
 loop-again c =
     let o = c.before in let m = o.before.before.before in let st = m.before.before in
     let s = st.args.s.now in let ok = M.holds (pos 1) st.args.x.now st.args.q.now in
-    judging-then s st.args.start ok true _ _ _ _ (judging-then s st.args.start ok true _ _ _ _ m.loop-t.invariant o.one_judged-t.ensures.judged) c.bare_judged-r.ensures
+    judging-then s st.args.start ok true _ _ _ _ (judging-then s st.args.start ok true _ _ _ _ m.loop-t.invariant o.one_judged-t.ensures.1) c.bare_judged-r.ensures
 
 returns : tie.Need-returns invariant-loop decreases-loop
 returns c =

@@ -37,9 +37,12 @@ next-requires c κs = (here c.before.before.before.before).whole
 
 returns : tie.Need-returns
 returns c =
-    let v = c.before in let b = v.before in let e = b.before in let st = e.before.before in let a = st.args in let w = (here st).whole.known in record { past = omega (arith, c.next-next.ensures); judged = subst (λ (p : ℕ). Judging a.s.now a.at (ok st) a.so p v.still-holds.result) (sym c.next-next.ensures)
+    let v = c.before in let b = v.before in let e = b.before in let st = e.before.before in let a = st.args in let w = (here st).whole.known in (
+      omega (arith, c.next-next.ensures),
+      subst (λ (p : ℕ). Judging a.s.now a.at (ok st) a.so p v.still-holds.result) (sym c.next-next.ensures)
           (judging-next a.s.now a.at (ok st) st.requires.0 st.requires.1 a.so v.still-holds.result
-          (v.still-holds.ensures ∙ ap₂ (λ (b : ℕ) (u : List ℕ). a.so && ok st (read_constraint (kind_of b) u)) e.code-b.ensures b.body-t.ensures)) }
+          (v.still-holds.ensures ∙ ap₂ (λ (b : ℕ) (u : List ℕ). a.so && ok st (read_constraint (kind_of b) u)) e.code-b.ensures b.body-t.ensures)),
+    )
 
 pub one_judged_spec : {M : Type 1} → statement M
 one_judged_spec = tie.close (tie.spec code-requires body-requires still-requires next-requires returns)

@@ -61,14 +61,14 @@ returns : tie.Need-returns
 returns c =
     let st = c.before.before.before.before.before.before.before.before.before.before.before.before.before.before.before.before.args.t1 in
     let h : length st ≡ 8 = search rules in
-    let e1 = result_is w64 c.before.before.before.before.before.before.before.before.before.before.before.before.before.before.wide.result c.before.before.before.before.before.before.before.before.before.before.before.before.before.before.wide.type-inv ∙ c.before.before.before.before.before.before.before.before.before.before.before.before.before.before.wide.ensures ∙ to_z_of_z {w = w32} {z = get_or st 0 (pos 0)} (record { sfits = c.before.before.before.before.before.before.before.before.before.before.before.before.before.before.before.wide-arg-1.given }) in
-    let e2 = result_is w64 c.before.before.before.before.before.before.before.before.before.before.before.before.wide-2.result c.before.before.before.before.before.before.before.before.before.before.before.before.wide-2.type-inv ∙ c.before.before.before.before.before.before.before.before.before.before.before.before.wide-2.ensures ∙ to_z_of_z {w = w32} {z = get_or st 1 (pos 0)} (record { sfits = c.before.before.before.before.before.before.before.before.before.before.before.before.before.wide-arg-2-1.given }) in
-    let e3 = result_is w64 c.before.before.before.before.before.before.before.before.before.before.wide-3.result c.before.before.before.before.before.before.before.before.before.before.wide-3.type-inv ∙ c.before.before.before.before.before.before.before.before.before.before.wide-3.ensures ∙ to_z_of_z {w = w32} {z = get_or st 2 (pos 0)} (record { sfits = c.before.before.before.before.before.before.before.before.before.before.before.wide-arg-3-1.given }) in
-    let e4 = result_is w64 c.before.before.before.before.before.before.before.before.wide-4.result c.before.before.before.before.before.before.before.before.wide-4.type-inv ∙ c.before.before.before.before.before.before.before.before.wide-4.ensures ∙ to_z_of_z {w = w32} {z = get_or st 3 (pos 0)} (record { sfits = c.before.before.before.before.before.before.before.before.before.wide-arg-4-1.given }) in
-    let e5 = result_is w64 c.before.before.before.before.before.before.wide-5.result c.before.before.before.before.before.before.wide-5.type-inv ∙ c.before.before.before.before.before.before.wide-5.ensures ∙ to_z_of_z {w = w32} {z = get_or st 4 (pos 0)} (record { sfits = c.before.before.before.before.before.before.before.wide-arg-5-1.given }) in
-    let e6 = result_is w64 c.before.before.before.before.wide-6.result c.before.before.before.before.wide-6.type-inv ∙ c.before.before.before.before.wide-6.ensures ∙ to_z_of_z {w = w32} {z = get_or st 5 (pos 0)} (record { sfits = c.before.before.before.before.before.wide-arg-6-1.given }) in
-    let e7 = result_is w64 c.before.before.wide-7.result c.before.before.wide-7.type-inv ∙ c.before.before.wide-7.ensures ∙ to_z_of_z {w = w32} {z = get_or st 6 (pos 0)} (record { sfits = c.before.before.before.wide-arg-7-1.given }) in
-    let e8 = result_is w64 c.wide-8.result c.wide-8.type-inv ∙ c.wide-8.ensures ∙ to_z_of_z {w = w32} {z = get_or st 7 (pos 0)} (record { sfits = c.before.wide-arg-8-1.given }) in
+    let e1 = result_is w64 c.before.before.before.before.before.before.before.before.before.before.before.before.before.before.wide.result c.before.before.before.before.before.before.before.before.before.before.before.before.before.before.wide.type_inv ∙ c.before.before.before.before.before.before.before.before.before.before.before.before.before.before.wide.ensures ∙ to_z_of_z {w = w32} {z = get_or st 0 (pos 0)} (record { sfits = c.before.before.before.before.before.before.before.before.before.before.before.before.before.before.before.wide-arg-1.given }) in
+    let e2 = result_is w64 c.before.before.before.before.before.before.before.before.before.before.before.before.wide-2.result c.before.before.before.before.before.before.before.before.before.before.before.before.wide-2.type_inv ∙ c.before.before.before.before.before.before.before.before.before.before.before.before.wide-2.ensures ∙ to_z_of_z {w = w32} {z = get_or st 1 (pos 0)} (record { sfits = c.before.before.before.before.before.before.before.before.before.before.before.before.before.wide-arg-2-1.given }) in
+    let e3 = result_is w64 c.before.before.before.before.before.before.before.before.before.before.wide-3.result c.before.before.before.before.before.before.before.before.before.before.wide-3.type_inv ∙ c.before.before.before.before.before.before.before.before.before.before.wide-3.ensures ∙ to_z_of_z {w = w32} {z = get_or st 2 (pos 0)} (record { sfits = c.before.before.before.before.before.before.before.before.before.before.before.wide-arg-3-1.given }) in
+    let e4 = result_is w64 c.before.before.before.before.before.before.before.before.wide-4.result c.before.before.before.before.before.before.before.before.wide-4.type_inv ∙ c.before.before.before.before.before.before.before.before.wide-4.ensures ∙ to_z_of_z {w = w32} {z = get_or st 3 (pos 0)} (record { sfits = c.before.before.before.before.before.before.before.before.before.wide-arg-4-1.given }) in
+    let e5 = result_is w64 c.before.before.before.before.before.before.wide-5.result c.before.before.before.before.before.before.wide-5.type_inv ∙ c.before.before.before.before.before.before.wide-5.ensures ∙ to_z_of_z {w = w32} {z = get_or st 4 (pos 0)} (record { sfits = c.before.before.before.before.before.before.before.wide-arg-5-1.given }) in
+    let e6 = result_is w64 c.before.before.before.before.wide-6.result c.before.before.before.before.wide-6.type_inv ∙ c.before.before.before.before.wide-6.ensures ∙ to_z_of_z {w = w32} {z = get_or st 5 (pos 0)} (record { sfits = c.before.before.before.before.before.wide-arg-6-1.given }) in
+    let e7 = result_is w64 c.before.before.wide-7.result c.before.before.wide-7.type_inv ∙ c.before.before.wide-7.ensures ∙ to_z_of_z {w = w32} {z = get_or st 6 (pos 0)} (record { sfits = c.before.before.before.wide-arg-7-1.given }) in
+    let e8 = result_is w64 c.wide-8.result c.wide-8.type_inv ∙ c.wide-8.ensures ∙ to_z_of_z {w = w32} {z = get_or st 7 (pos 0)} (record { sfits = c.before.wide-arg-8-1.given }) in
     (ap₂ ◌∷◌ e1 (ap₂ ◌∷◌ e2 (ap₂ ◌∷◌ e3 (ap₂ ◌∷◌ e4 (ap₂ ◌∷◌ e5 (ap₂ ◌∷◌ e6 (ap₂ ◌∷◌ e7 (ap (λ (z : ℤ). z ∷ []) e8))))))) ∙ eight_is st h, refl)
 
 pub widened_spec : {M : Type 1} → statement M

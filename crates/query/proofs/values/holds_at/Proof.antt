@@ -23,13 +23,13 @@ is-equality-requires c κs = search rules
 returns : tie.Need-returns-then-is_equality
 returns c =
     let q = c.before in let v = q.before in let st = v.before.before in
-    zero_bits w64 v.value_at-v.result (record { sfits = v.value_at-v.type-inv }) ∙ ap is_zero (v.value_at-v.ensures equality)
+    zero_bits w64 v.value_at-v.result (record { sfits = v.value_at-v.type_inv }) ∙ ap is_zero (v.value_at-v.ensures equality)
     ∙ ap (λ (k : Kind). meets k (value (pos 1) st.args.x.now st.args.q.now (read_constraint k st.args.t.now))) (sym (kind-equality st.args.b (sym q.is_equality.ensures ∙ c.if-is_equality.true)))
 
 returns-2 : tie.Need-returns
 returns-2 c =
     let q = c.before in let v = q.before in let st = v.before.before in
-    nonneg-bits (to_z w64 (of_z w64 v.value_at-v.result)) ∙ ap non_neg (result_is w64 v.value_at-v.result v.value_at-v.type-inv ∙ v.value_at-v.ensures inequality)
+    nonneg-bits (to_z w64 (of_z w64 v.value_at-v.result)) ∙ ap non_neg (result_is w64 v.value_at-v.result v.value_at-v.type_inv ∙ v.value_at-v.ensures inequality)
     ∙ ap (λ (k : Kind). meets k (value (pos 1) st.args.x.now st.args.q.now (read_constraint k st.args.t.now))) (sym (kind-inequality st.args.b (sym q.is_equality.ensures ∙ c.if-is_equality.false)))
 
 pub holds_at_spec : {M : Type 1} → statement M

@@ -56,7 +56,7 @@ i16-at-requires-8 : tie.Need-i16_at-requires-8
 i16-at-requires-8 c κs = search rules
 
 returns : tie.Need-returns
-returns c = let e0 = result_is w16 c.before.before.before.before.before.before.before.i16_at.result c.before.before.before.before.before.before.before.i16_at.type-inv ∙ c.before.before.before.before.before.before.before.i16_at.ensures in let e1 = result_is w16 c.before.before.before.before.before.before.i16_at-2.result c.before.before.before.before.before.before.i16_at-2.type-inv ∙ c.before.before.before.before.before.before.i16_at-2.ensures in let e2 = result_is w16 c.before.before.before.before.before.i16_at-3.result c.before.before.before.before.before.i16_at-3.type-inv ∙ c.before.before.before.before.before.i16_at-3.ensures in let e3 = result_is w16 c.before.before.before.before.i16_at-4.result c.before.before.before.before.i16_at-4.type-inv ∙ c.before.before.before.before.i16_at-4.ensures in let e4 = result_is w16 c.before.before.before.i16_at-5.result c.before.before.before.i16_at-5.type-inv ∙ c.before.before.before.i16_at-5.ensures in let e5 = result_is w16 c.before.before.i16_at-6.result c.before.before.i16_at-6.type-inv ∙ c.before.before.i16_at-6.ensures in let e6 = result_is w16 c.before.i16_at-7.result c.before.i16_at-7.type-inv ∙ c.before.i16_at-7.ensures in let e7 = result_is w16 c.i16_at-8.result c.i16_at-8.type-inv ∙ c.i16_at-8.ensures in let st = c.before.before.before.before.before.before.before.before.before in (λ i. e0 i ∷ e1 i ∷ e2 i ∷ e3 i ∷ e4 i ∷ e5 i ∷ e6 i ∷ e7 i ∷ []) ∙ eight st.args.t.now st.args.p (λ q. signed 2 (value_of (take 2 (drop q st.args.t.now)))) (λ q. refl)
+returns c = let e0 = result_is w16 c.before.before.before.before.before.before.before.i16_at.result c.before.before.before.before.before.before.before.i16_at.type_inv ∙ c.before.before.before.before.before.before.before.i16_at.ensures in let e1 = result_is w16 c.before.before.before.before.before.before.i16_at-2.result c.before.before.before.before.before.before.i16_at-2.type_inv ∙ c.before.before.before.before.before.before.i16_at-2.ensures in let e2 = result_is w16 c.before.before.before.before.before.i16_at-3.result c.before.before.before.before.before.i16_at-3.type_inv ∙ c.before.before.before.before.before.i16_at-3.ensures in let e3 = result_is w16 c.before.before.before.before.i16_at-4.result c.before.before.before.before.i16_at-4.type_inv ∙ c.before.before.before.before.i16_at-4.ensures in let e4 = result_is w16 c.before.before.before.i16_at-5.result c.before.before.before.i16_at-5.type_inv ∙ c.before.before.before.i16_at-5.ensures in let e5 = result_is w16 c.before.before.i16_at-6.result c.before.before.i16_at-6.type_inv ∙ c.before.before.i16_at-6.ensures in let e6 = result_is w16 c.before.i16_at-7.result c.before.i16_at-7.type_inv ∙ c.before.i16_at-7.ensures in let e7 = result_is w16 c.i16_at-8.result c.i16_at-8.type_inv ∙ c.i16_at-8.ensures in let st = c.before.before.before.before.before.before.before.before.before in (λ i. e0 i ∷ e1 i ∷ e2 i ∷ e3 i ∷ e4 i ∷ e5 i ∷ e6 i ∷ e7 i ∷ []) ∙ eight st.args.t.now st.args.p (λ q. signed 2 (value_of (take 2 (drop q st.args.t.now)))) (λ q. refl)
 
 pub coefficients_spec : {M : Type 1} → statement M
 coefficients_spec =

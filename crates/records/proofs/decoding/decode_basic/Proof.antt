@@ -65,7 +65,7 @@ body-requires : tie.Need-body-t-requires invariant-loop decreases-loop invariant
 body-requires c κs = (here c.before).whole
 
 read-division-requires : tie.Need-read_division-requires invariant-loop decreases-loop invariant-loop2 decreases-loop2
-read-division-requires c κs = (subst (λ (t : List ℕ). division_body ≤ length t) (sym c.body-t.ensures) (here c.before.before).body, c.before.head-e.ensures.size)
+read-division-requires c κs = (subst (λ (t : List ℕ). division_body ≤ length t) (sym c.body-t.ensures) (here c.before.before).body, c.before.head-e.ensures.1)
 
 mul-ds : tie.Need-offset_bounds-ds-d invariant-loop decreases-loop invariant-loop2 decreases-loop2
 mul-ds c = let f = few c.before.before.before in omega arith
@@ -86,7 +86,7 @@ loop-again : tie.Need-loop-e-preserved invariant-loop decreases-loop invariant-l
 loop-again c =
     let v = c.before in let b = v.before in let e = b.before in let t = e.before in let l = (m t).loop in let first = (start (m t)).args.start in
     let f = few t in let n = l.inv.2 in let h : l.d < length l.ds = omega arith in
-    let w = stored division_of l.ds l.d v.read_division.result (division_at (s t) l.at) h (v.read_division.ensures ∙ ap₂ read_division e.head-e.ensures.is b.body-t.ensures) in (
+    let w = stored division_of l.ds l.d v.read_division.result (division_at (s t) l.at) h (v.read_division.ensures ∙ ap₂ read_division e.head-e.ensures.0 b.body-t.ensures) in (
       subst₂ (λ (p : ℕ) (X : List S.Division). Filling (s t) first p X []) (sym c.next-at.ensures) (sym w) (fill-division (s t) first l.at (D t) [] l.inv.0 (code t)),
       ap (λ (j : ℕ). j + 1) l.inv.1 ∙ sym (one_more (D t) (division_at (s t) l.at)) ∙ ap length (sym w),
       length-set l.ds l.d v.read_division.result ∙ n,

@@ -30,7 +30,7 @@ is-equality-requires : tie.Need-is_equality-requires
 is-equality-requires c κs = search rules
 
 returns : tie.Need-returns
-returns q = let c = q.before in let a = c.before in let s = a.before in let e = result_is w32 s.i32_at-c.result s.i32_at-c.type-inv ∙ s.i32_at-c.ensures in let g = s.before.before.args in let k = ap kind_is q.is_equality.ensures ∙ kind-is g.b in λ i. record { kind = k i; number = g.m; constant = e i; axes = a.coefficients-a.ensures i; divisions = c.coefficients-e.ensures i }
+returns q = let c = q.before in let a = c.before in let s = a.before in let e = result_is w32 s.i32_at-c.result s.i32_at-c.type_inv ∙ s.i32_at-c.ensures in let g = s.before.before.args in let k = ap kind_is q.is_equality.ensures ∙ kind-is g.b in λ i. record { kind = k i; number = g.m; constant = e i; axes = a.coefficients-a.ensures i; divisions = c.coefficients-e.ensures i }
 
 pub read_constraint_spec : {M : Type 1} → statement M
 read_constraint_spec =

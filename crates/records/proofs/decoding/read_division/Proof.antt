@@ -16,7 +16,7 @@ cast-t5 : tie.Need-overflow_cast-result
 cast-t5 c = search rules
 
 returns : tie.Need-returns
-returns c = let s = c.before in let d = s.before.before.args.d in let e = result_is w32 s.i32_at-c.result s.i32_at-c.type-inv ∙ s.i32_at-c.ensures in λ i. record { divisor = d; constant = e i; axes = c.coefficients-a.ensures i }
+returns c = let s = c.before in let d = s.before.before.args.d in let e = result_is w32 s.i32_at-c.result s.i32_at-c.type_inv ∙ s.i32_at-c.ensures in λ i. record { divisor = d; constant = e i; axes = c.coefficients-a.ensures i }
 
 pub read_division_spec : {M : Type 1} → statement M
 read_division_spec =

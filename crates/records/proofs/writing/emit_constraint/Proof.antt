@@ -62,7 +62,7 @@ returns-2 : tie.Need-returns
 returns-2 c =
     let w = c.before.before in let b = w.before.before.before.before in let s = st b in
     let q = w.copy_bytes.ensures.ends in let f = fits b in let l = ap length (front b) in
-    record { bytes = subst (λ (l : List ℕ). Emitted l s.args.out.now s.args.at w.copy_bytes.result w.copy_bytes.new.1.0) (front b) w.copy_bytes.ensures; size = omega arith }
+    (subst (λ (l : List ℕ). Emitted l s.args.out.now s.args.at w.copy_bytes.result w.copy_bytes.new.1.0) (front b) w.copy_bytes.ensures, omega arith)
 
 pub emit_constraint_spec : {M : Type 1} → statement M
 emit_constraint_spec =

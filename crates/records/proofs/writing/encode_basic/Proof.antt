@@ -64,8 +64,8 @@ loop-again c = let w = c.before.before in let m = w.before.before.before.before 
     let n = divisions-known st in let h = st.requires.divs in let l : i < length st.args.t1.divisions = omega arith in (
       omega arith,
       w.emit_division-p.auto.0 ∙ v.1,
-      let e = w.emit_division-p.ensures.size in omega arith,
-      emitted-next division_bytes st.args.t1.divisions _ i [] _ l refl v.3 w.emit_division-p.ensures.bytes,
+      let e = w.emit_division-p.ensures.1 in omega arith,
+      emitted-next division_bytes st.args.t1.divisions _ i [] _ l refl v.3 w.emit_division-p.ensures.0,
     )
 
 loop2-holds : tie.Need-loop-j-init invariant-loop decreases-loop invariant-loop2 decreases-loop2
@@ -92,8 +92,8 @@ loop2-again c = let w = c.before.before in let m = w.before.before.before.before
     let n = constraints-known st in let h = st.requires.cons in let l : j < length st.args.t1.constraints = omega arith in (
       omega arith,
       w.emit_constraint-p.auto.0 ∙ v.1,
-      let e = w.emit_constraint-p.ensures.size in omega arith,
-      emitted-next constraint_bytes st.args.t1.constraints _ j [] _ l refl v.3 w.emit_constraint-p.ensures.bytes,
+      let e = w.emit_constraint-p.ensures.1 in omega arith,
+      emitted-next constraint_bytes st.args.t1.constraints _ j [] _ l refl v.3 w.emit_constraint-p.ensures.0,
     )
 
 same_length : tie.Need-shape_of-out invariant-loop decreases-loop invariant-loop2 decreases-loop2

@@ -60,7 +60,7 @@ returns : tie.Need-returns invariant-loop decreases-loop
 returns c = let m = c.before in let st = m.before.before in
     let a = st.args.t3 in let i = m.loop-i.i in
     let l : length a ≤ i = search rules in
-    record { bytes = subst (λ (x : List ℤ). Emitted (concat_map (signed_bytes 2) x) st.args.out.now st.args.at m.loop-i.p m.loop-i.out) (take_all i a l) m.loop-i.invariant.3; size = omega arith }
+    (subst (λ (x : List ℤ). Emitted (concat_map (signed_bytes 2) x) st.args.out.now st.args.at m.loop-i.p m.loop-i.out) (take_all i a l) m.loop-i.invariant.3, omega arith)
 
 pub put_coefficients_spec : {M : Type 1} → statement M
 put_coefficients_spec =

@@ -25,9 +25,12 @@ same_length c = search rules
 returns : tie.Need-returns-then-number-eq0
 returns c =
     let p = c.before.before in let y = p.before in let t = y.before.before in let a = t.before.before.args in
-    let e = p.put_8.ensures.ends in record { bytes = subst (λ (l : List ℕ). Emitted l a.out.now a.at p.put_8.result p.put_8.new.0)
+    let e = p.put_8.ensures.ends in (
+      subst (λ (l : List ℕ). Emitted l a.out.now a.at p.put_8.result p.put_8.new.0)
           (ap (λ (v : ℕ). v ∷ []) y.command.ensures ∙ sym (ap (λ (m : ℕ). cond (eqb m 0) (opcode (kind_is a.equality) ∷ []) (numbered_opcode (kind_is a.equality) ∷ bytes_of 2 m)) t.if-number-eq0.true))
-          p.put_8.ensures; size = omega arith }
+          p.put_8.ensures,
+      omega arith,
+    )
 
 numbered-command-requires : tie.Need-numbered_command-requires
 numbered-command-requires c κs = search rules
@@ -44,10 +47,13 @@ same-length-2 c = search rules
 returns-2 : tie.Need-returns
 returns-2 c =
     let q = c.before.before in let p = q.before.before.before.before in let y = p.before in let t = y.before.before in let a = t.before.before.args in
-    let e = p.put_8-p.ensures.ends in let f = q.put_16.ensures.ends in record { bytes = subst (λ (l : List ℕ). Emitted l a.out.now a.at q.put_16.result q.put_16.new.0)
+    let e = p.put_8-p.ensures.ends in let f = q.put_16.ensures.ends in (
+      subst (λ (l : List ℕ). Emitted l a.out.now a.at q.put_16.result q.put_16.new.0)
           (ap (λ (v : ℕ). v ∷ bytes_of 2 a.number) y.numbered_command.ensures
           ∙ sym (ap (λ (x : Bool). cond x (opcode (kind_is a.equality) ∷ []) (numbered_opcode (kind_is a.equality) ∷ bytes_of 2 a.number)) (ne_eqb a.number 0 t.if-number-eq0.false)))
-          (emitted-more p.put_8-p.ensures q.put_16.ensures); size = omega arith }
+          (emitted-more p.put_8-p.ensures q.put_16.ensures),
+      omega arith,
+    )
 
 pub put_head_spec : {M : Type 1} → statement M
 put_head_spec =

@@ -34,7 +34,7 @@ end-at-requires c κs =
 
 extreme-requires : tie.Need-extreme-high-requires
 extreme-requires c κs =
-    let x = c.before.before in let st = x.before.before in (after x, ends-mono (omega arith) (ends-back st.requires.1), back-within (omega arith) (within-mono (omega arith) c.end_at-g.ensures.size))
+    let x = c.before.before in let st = x.before.before in (after x, ends-mono (omega arith) (ends-back st.requires.1), back-within (omega arith) (within-mono (omega arith) c.end_at-g.ensures.1))
 
 magnitude-requires : tie.Need-magnitude-short-requires
 magnitude-requires c κs = search rules
@@ -60,7 +60,7 @@ end-at-requires-2 c κs =
 
 extreme-requires-2 : tie.Need-extreme-low-requires
 extreme-requires-2 c κs =
-    let x = c.before.before.before.before.before.before in let st = x.before.before in (after x, ends-mono (omega arith) st.requires.1, back-within (omega arith) (within-mono (omega arith) c.end_at-f.ensures.size))
+    let x = c.before.before.before.before.before.before in let st = x.before.before in (after x, ends-mono (omega arith) st.requires.1, back-within (omega arith) (within-mono (omega arith) c.end_at-f.ensures.1))
 
 magnitude-requires-2 : tie.Need-magnitude-short-requires-2
 magnitude-requires-2 c κs = search rules

@@ -32,7 +32,7 @@ end-at-requires c κs =
 
 extreme-requires : tie.Need-extreme-low-requires
 extreme-requires c κs =
-    let x = c.before.before in let st = x.before.before in (after x, ends-mono (omega arith) st.requires.1, back-within (omega arith) (within-mono (omega arith) c.end_at-f.ensures.size))
+    let x = c.before.before in let st = x.before.before in (after x, ends-mono (omega arith) st.requires.1, back-within (omega arith) (within-mono (omega arith) c.end_at-f.ensures.1))
 
 magnitude-requires : tie.Need-magnitude-short-requires
 magnitude-requires c κs = search rules
@@ -40,7 +40,7 @@ magnitude-requires c κs = search rules
 add-short : tie.Need-overflow_add-short
 add-short c =
     let e = c.before in let f = e.before in let st = f.before.before.before.before in let q = st.requires.1 in
-    let w = back-within (omega arith) (e.extreme-low.ensures.size most_quotient most_quotient (back-within (omega arith) f.end_at-f.ensures.size) q.lows q.highs) in
+    let w = back-within (omega arith) (e.extreme-low.ensures.1 most_quotient most_quotient (back-within (omega arith) f.end_at-f.ensures.1) q.lows q.highs) in
     omega (arith, c.magnitude-short.ensures, w.size)
 
 -- the constraint's place, from the guess on

@@ -54,13 +54,13 @@ raised-requires c κs =
     let h = reach-most a.k a.low.now a.most p.1.lows p.3 in let g = (guessed c).keeps.ensures.1 in (f, k, p.1.lows, omega arith)
 
 array-share-prefix-w : tie.Need-slice_bounds-w-end
-array-share-prefix-w c = let f = (st c.before).pre.1.few in let l = c.raised-w.ensures.places in omega arith
+array-share-prefix-w c = let f = (st c.before).pre.1.few in let l = c.raised-w.ensures.1 in omega arith
 
 slice-aggregate-can-hold : tie.Need-slice_bounds-can_hold-end
-slice-aggregate-can-hold c = let x = c.before in let f = (st x.before).pre.1.few in omega (arith, length-take (length (st x.before).args.low.now) x.raised-w.result, x.raised-w.ensures.places)
+slice-aggregate-can-hold c = let x = c.before in let f = (st x.before).pre.1.few in omega (arith, length-take (length (st x.before).args.low.now) x.raised-w.result, x.raised-w.ensures.1)
 
 lows-are : (x : tie.After-raised-w) → let a = (st x.before).args in take (length a.low.now) x.raised-w.result ≡ widened a.k (m x.before - 1) a.low.now
-lows-are x = x.raised-w.ensures.is
+lows-are x = x.raised-w.ensures.0
 
 can-hold-requires : tie.Need-can_hold-requires
 can-hold-requires c κs =

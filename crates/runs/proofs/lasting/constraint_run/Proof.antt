@@ -28,7 +28,7 @@ guess-requires c κs =
     let g1 = c.before in let st = g1.before.before.before in let a = st.args in let p = st.requires in (
       row_loose a.s.now (length a.low.now) a.r.now p.1.few p.0.row,
       p.2,
-      record { axis = axis st; from_size = back-within (omega arith) g1.gap-from.ensures.size; to_size = back-within (omega arith) c.gap-to.ensures.size },
+      record { axis = axis st; from_size = back-within (omega arith) g1.gap-from.ensures.1; to_size = back-within (omega arith) c.gap-to.ensures.1 },
       p.3,
       p.5,
     )
@@ -43,7 +43,7 @@ lasts-requires c κs =
 
 returns-3 : tie.Need-returns-then-lasts
 returns-3 c =
-    let x = c.before in let g = x.before.before in record { is = x.lasts.ensures c.if-lasts.true; size = g.guess-m.ensures }
+    let x = c.before in let g = x.before.before in (x.lasts.ensures c.if-lasts.true, g.guess-m.ensures)
 
 returns-4 : tie.Need-returns
 returns-4 c = search rules

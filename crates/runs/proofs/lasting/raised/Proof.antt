@@ -79,7 +79,10 @@ array-set-from-w-2 c = let p = c.before.before.before.before.requires in let a =
 
 returns : tie.Need-returns invariant-loop decreases-loop
 returns c =
-    let m = c.before.before in let st = m.before.before in let e = to_z_of_z (add-w c) ∙ sum_is c in record { is = copying-end st.args.high.now m.loop-i.w m.loop-i.i m.loop-i.invariant st.requires.0 c.before.loop-i-test.false st.args.k st.requires.1 _ ∙ ap (set st.args.high.now st.args.k) e; places = length-set m.loop-i.w st.args.k _ ∙ m.loop-i.invariant.places }
+    let m = c.before.before in let st = m.before.before in let e = to_z_of_z (add-w c) ∙ sum_is c in (
+      copying-end st.args.high.now m.loop-i.w m.loop-i.i m.loop-i.invariant st.requires.0 c.before.loop-i-test.false st.args.k st.requires.1 _ ∙ ap (set st.args.high.now st.args.k) e,
+      length-set m.loop-i.w st.args.k _ ∙ m.loop-i.invariant.places,
+    )
 
 pub raised_spec : {M : Type 1} → statement M
 raised_spec =

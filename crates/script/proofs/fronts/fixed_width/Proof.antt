@@ -4,39 +4,40 @@ use Rattle.script.proofs.fronts.fixed_width.Statement.{statement}
 use Rattle.script.proofs.fronts.fixed_width.Tie as tie
 
 returns : tie.Need-returns-then-b-eq0
-returns c = record { is = rw c.if-b-eq0.true; small = omega arith }
+returns c = (rw c.if-b-eq0.true, omega arith)
 
 returns-2 : tie.Need-returns-then-b-eq16
-returns-2 c = record { is = rw c.if-b-eq16.true; small = omega arith }
+returns-2 c = (rw c.if-b-eq16.true, omega arith)
 
 returns-3 : tie.Need-returns-then-b-eq68
-returns-3 c = record { is = rw c.if-b-eq68.true; small = omega arith }
+returns-3 c = (rw c.if-b-eq68.true, omega arith)
 
 returns-4 : tie.Need-returns-then-b-eq69
-returns-4 c = record { is = rw c.if-b-eq69.true; small = omega arith }
+returns-4 c = (rw c.if-b-eq69.true, omega arith)
 
 returns-5 : tie.Need-returns-then-b-eq70
-returns-5 c = record { is = rw c.if-b-eq70.true; small = omega arith }
+returns-5 c = (rw c.if-b-eq70.true, omega arith)
 
 returns-6 : tie.Need-returns-then-b-eq71
-returns-6 c = record { is = rw c.if-b-eq71.true; small = omega arith }
+returns-6 c = (rw c.if-b-eq71.true, omega arith)
 
 returns-7 : tie.Need-returns-then-b-eq64
-returns-7 c = record { is = rw c.if-b-eq64.true; small = omega arith }
+returns-7 c = (rw c.if-b-eq64.true, omega arith)
 
 returns-8 : tie.Need-returns-then-b-eq65
-returns-8 c = record { is = rw c.if-b-eq65.true; small = omega arith }
+returns-8 c = (rw c.if-b-eq65.true, omega arith)
 
 returns-9 : tie.Need-returns-then-b-eq66
-returns-9 c = record { is = rw c.if-b-eq66.true; small = omega arith }
+returns-9 c = (rw c.if-b-eq66.true, omega arith)
 
 returns-10 : tie.Need-returns-then-b-eq67
-returns-10 c = record { is = rw c.if-b-eq67.true; small = omega arith }
+returns-10 c = (rw c.if-b-eq67.true, omega arith)
 
 returns-11 : tie.Need-returns
 returns-11 c =
     let at-if7 = c.before.before.before in let at-if6 = at-if7.before in let at-if5 = at-if6.before in let at-if4 = at-if5.before in let at-if3 = at-if4.before in
-    let at-if2 = at-if3.before in let at-if1 = at-if2.before in record { is = simp (
+    let at-if2 = at-if3.before in let at-if1 = at-if2.before in (
+      simp (
         ne_eqb _ _ at-if1.if1.false,
         ne_eqb _ _ at-if2.if2.false,
         ne_eqb _ _ at-if3.if3.false,
@@ -48,7 +49,9 @@ returns-11 c =
         ne_eqb _ _ c.before.before.if-b-eq65.false,
         ne_eqb _ _ c.before.if-b-eq66.false,
         ne_eqb _ _ c.if-b-eq67.false,
-      ); small = omega arith }
+      ),
+      omega arith,
+    )
 
 pub fixed_width_spec : {M : Type 1} → statement M
 fixed_width_spec =

@@ -23,7 +23,7 @@ fixed-width-requires c κs = search rules
 returns-2 : tie.Need-returns-then-w-eq0
 returns-2 c =
     let at-if1 = c.before.before.before in let st = at-if1.before.before in
-    sym (front-unknown st.args.axes st.args.ended st.args.s.now c.before.fixed_width-w.result at-if1.if1.false c.before.fixed_width-w.ensures.is c.if-w-eq0.true)
+    sym (front-unknown st.args.axes st.args.ended st.args.s.now c.before.fixed_width-w.result at-if1.if1.false c.before.fixed_width-w.ensures.0 c.if-w-eq0.true)
 
 in-place-requires : tie.Need-in_place-requires
 in-place-requires c κs = search rules
@@ -48,7 +48,7 @@ returns-4 c =
     (sym at-in-place.in_place.ensures ∙ not-false _ c.before.before.if-not-in_place.false-raw) (omega arith))
 
 load-length-requires : tie.Need-load_length-requires
-load-length-requires c κs = λ e. load-there _ c.before.before.before.before.fixed_width-w.result _ c.before.before.before.before.fixed_width-w.ensures.is c.if-s-w.false e
+load-length-requires c κs = λ e. load-there _ c.before.before.before.before.fixed_width-w.result _ c.before.before.before.before.fixed_width-w.ensures.0 c.if-s-w.false e
 
 add-l : tie.Need-overflow_add-l
 add-l c = search rules
@@ -61,7 +61,7 @@ returns-5 c =
     let at-if3 = c.before.before.before.before in let at-in-place = at-if3.before in let at-if2 = at-in-place.before in let at-fixed-width = at-if2.before in
     let at-if1 = at-fixed-width.before.before in let st = at-if1.before.before in
     let l = width_of st.args.s.now at-fixed-width.fixed-width.result c.before.before.load_length.result at-if1.if1.false at-fixed-width.fixed-width.ensures.0
-    c.before.before.load_length.ensures.is in
+    c.before.before.load_length.ensures.0 in
     c.cut_off-then-s-l.ensures ∙ sym
     (front_cut st.args.axes st.args.ended st.args.s.now at-fixed-width.fixed-width.result at-if1.if1.false at-fixed-width.fixed-width.ensures.0 at-if2.if2.false
     (sym at-in-place.in_place.ensures ∙ not-false _ at-if3.if3.false) (omega arith))
@@ -71,7 +71,7 @@ returns-6 c =
     let at-if3 = c.before.before.before in let at-in-place = at-if3.before in let at-if2 = at-in-place.before in let at-fixed-width = at-if2.before in
     let at-if1 = at-fixed-width.before.before in let st = at-if1.before.before in
     let l = width_of st.args.s.now at-fixed-width.fixed-width.result c.before.load_length.result at-if1.if1.false at-fixed-width.fixed-width.ensures.0
-    c.before.load_length.ensures.is in
+    c.before.load_length.ensures.0 in
     ap Whole l ∙ sym
     (front-whole st.args.axes st.args.ended st.args.s.now at-fixed-width.fixed-width.result at-if1.if1.false at-fixed-width.fixed-width.ensures.0 at-if2.if2.false
     (sym at-in-place.in_place.ensures ∙ not-false _ at-if3.if3.false) (omega arith))

@@ -78,7 +78,7 @@ returns-2 : tie.Need-returns-then-is_division
 returns-2 c =
     let h = c.before.before.before in let y = h.before.before in let d = y.before in let e = d.before.before in let o = e.before in let a = (st o).args in
     writes-same (omega arith)
-    (ap₂ (λ (m : ℕ) (t : List ℕ). T.division_line a.axes (read_division m t)) h.head.ensures.is d.before.body-t.ensures
+    (ap₂ (λ (m : ℕ) (t : List ℕ). T.division_line a.axes (read_division m t)) h.head.ensures.0 d.before.body-t.ensures
     ∙ line-division a.axes a.c (b o) (drop (at o + 1) (s o)) (sym (opening o) ∙ e.if-is_opening.false) (sym (division d) ∙ y.if-is_division.true))
     c.before.before.division_line.ensures
 

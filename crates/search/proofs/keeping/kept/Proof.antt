@@ -48,11 +48,14 @@ same_length c = let y = c.before in length-set (m y).loop.rows (m y).loop.b _ �
 
 returns : tie.Need-returns-then-m-gt1 invariant-loop decreases-loop
 returns c =
-    let y = c.before in let a = (st y).args in let e = y.row_keeps-m.ensures in let n = y.row_keeps-m.result in let h = (lp y).loop-test.true in record { is = record {
+    let y = c.before in let a = (st y).args in let e = y.row_keeps-m.ensures in let n = y.row_keeps-m.result in let h = (lp y).loop-test.true in (
+      record {
         some = e.some;
         few = e.few;
         is = λ l. rows-any a.s.now (length a.low.now) (m y).loop.rows (m y).loop.invariant.0 (box_of (widened a.k (n - 1) a.low.now) a.high.now) (m y).loop.b h (e.is l);
-      }; rows = rows-set a.s.now (length a.low.now) (m y).loop.rows (m y).loop.invariant.0 (m y).loop.b _ h e.row e.place }
+      },
+      rows-set a.s.now (length a.low.now) (m y).loop.rows (m y).loop.invariant.0 (m y).loop.b _ h e.row e.place,
+    )
 
 add-b : tie.Need-overflow_add-b invariant-loop decreases-loop
 add-b c = let y = c.before in let f = (m y).loop.invariant.0.few in let h = (lp y).loop-test.true in omega arith
@@ -69,7 +72,7 @@ same-length-2 : tie.Need-shape_of-rows invariant-loop decreases-loop
 same-length-2 c = c.before.loop-b.invariant.1
 
 returns-2 : tie.Need-returns invariant-loop decreases-loop
-returns-2 c = let m = c.before in let h = m.before.before.requires.4 in record { is = record { some = omega arith; few = omega arith; is = λ l. absurd (omega arith) }; rows = m.loop-b.invariant.0 }
+returns-2 c = let m = c.before in let h = m.before.before.requires.4 in (record { some = omega arith; few = omega arith; is = λ l. absurd (omega arith) }, m.loop-b.invariant.0)
 
 pub kept_spec : {M : Type 1} → statement M
 kept_spec = tie.close (tie.spec invariant-loop decreases-loop loop-holds array-read-o mul-row-keeps index-1-row-keeps row-keeps-requires same_length returns add-b loop-less loop-again same-length-2 returns-2)

@@ -34,7 +34,7 @@ one st =
     }
 
 returns : tie.Need-returns-then-not-ask
-returns c = let st = c.before.before in record { is = one st; rows = st.requires.1 }
+returns c = let st = c.before.before in (one st, st.requires.1)
 
 span-of-requires : tie.Need-span_of-span-requires
 span-of-requires c κs =
@@ -65,7 +65,7 @@ sub-fewer : tie.Need-overflow_sub-span
 sub-fewer c = let e = span-is c in let h = (st c).requires.2 in omega arith
 
 add-fewer : tie.Need-overflow_add-span
-add-fewer c = let o = c.Span-of.ensures.1 in omega arith
+add-fewer c = let o = c.span_of-span.ensures.1 in omega arith
 
 sub-fewer-2 : tie.Need-overflow_sub-limit
 sub-fewer-2 c = let h = (st c).requires.3 in omega arith
@@ -168,14 +168,17 @@ kept-in-requires c κs =
 
 returns-2 : tie.Need-returns
 returns-2 c =
-    let v = c.before.before.before.before in let y = z v in let e = c.kept_in.ensures.is in let m = c.kept_in.result in let h = on-side (f v) in let r = in-limit (f v) in let q = e.few in record { is = record {
+    let v = c.before.before.before.before in let y = z v in let e = c.kept_in.ensures.0 in let m = c.kept_in.result in let h = on-side (f v) in let r = in-limit (f v) in let q = e.few in (
+      record {
         some = e.some;
         inside = omega arith;
         room = omega arith;
         passed = λ j o. by (λ (x : Bool). passes_at (s y) (p y) (i y + j) ≡ true) (ltb 1 m)
             (λ x. value_passes (s y) (p y).n (p y).k (p y).low (p y).high (g y) (i y) (st y).pre.2 m (lows v) (highs v) (lows-are v) (highs-are v) (e.is (ltb-true 1 m x)) j o)
             (λ x. let l = ltb-false 1 m x in let w : i y ≡ i y + j = omega arith in subst (λ (w : ℕ). passes_at (s y) (p y) w ≡ true) w (st y).pre.4);
-      }; rows = subst (λ (j : ℕ). Rowed (s y) j (p y).count c.kept_in.new.1.1.1.1.1.1.0) (sym (lows-length v)) c.kept_in.ensures.rows }
+      },
+      subst (λ (j : ℕ). Rowed (s y) j (p y).count c.kept_in.new.1.1.1.1.1.1.0) (sym (lows-length v)) c.kept_in.ensures.1,
+    )
 
 pub lasting_spec : {M : Type 1} → statement M
 lasting_spec =

@@ -40,7 +40,7 @@ span-of-requires c κs =
 loop-holds : tie.Need-loop-i-init invariant-loop decreases-loop
 loop-holds c =
     let st = c.before.before.before.before.before.before in
-    let w = st.requires.0.within in (c.Span-of.ensures.0, omega arith, omega arith, omega arith, λ j h. absurd (omega arith), st.requires.1, λ z. refl, λ z. refl)
+    let w = st.requires.0.within in (c.span_of-span.ensures.0, omega arith, omega arith, omega arith, λ j h. absurd (omega arith), st.requires.1, λ z. refl, λ z. refl)
 
 -- at a value: the start, the loop, and what is known there
 module _ (c : tie.In-loop-i invariant-loop decreases-loop) where
@@ -76,7 +76,7 @@ add-if1 : tie.Need-overflow_add-tested invariant-loop decreases-loop
 add-if1 c = let w = (m c).loop.invariant.3 in let l = (st c).requires.0.fits in omega arith
 
 returns : tie.Need-returns-then-tested-t invariant-loop decreases-loop
-returns c = let lp = c.before in let v = (m lp).loop.invariant in let h = here lp in let e = v.1 in record { is = exhausted (m lp).loop.t v.4 (omega arith) c.if-tested-t.true (m lp).loop.i; rows = v.5 }
+returns c = let lp = c.before in let v = (m lp).loop.invariant in let h = here lp in let e = v.1 in (exhausted (m lp).loop.t v.4 (omega arith) c.if-tested-t.true (m lp).loop.i, v.5)
 
 value-at-requires : tie.Need-value_at-v-requires invariant-loop decreases-loop
 value-at-requires c κs = let lp = c.before in (axis-of (g lp), far lp, (g lp).low_size)
@@ -204,8 +204,11 @@ passed-requires c κs = axis-of (g (l c.before.before))
 
 returns-2 : tie.Need-returns-then-o invariant-loop decreases-loop
 returns-2 c =
-    let th = c.before.before in let o = th.before in let lp = l o in let a = (st lp).args in let v = (m lp).loop.inv in record { is = climbed-passing (s lp) (p lp) a.from (m lp).loop.t v.4 (m lp).loop.i v.1 a.tested (here lp) (room (y o).before) (tested-is o ∙ th.if-o.true) (lows (y o)) (highs (y o)) (lows-are (y o)) (highs-are (y o))
-          o.Opened-in.result.live o.Opened-in.ensures.0.still c.passed.result c.passed.ensures; rows = rowed o }
+    let th = c.before.before in let o = th.before in let lp = l o in let a = (st lp).args in let v = (m lp).loop.inv in (
+      climbed-passing (s lp) (p lp) a.from (m lp).loop.t v.4 (m lp).loop.i v.1 a.tested (here lp) (room (y o).before) (tested-is o ∙ th.if-o.true) (lows (y o)) (highs (y o)) (lows-are (y o)) (highs-are (y o))
+          o.opened_in-o.result.live o.opened_in-o.ensures.0.still c.passed.result c.passed.ensures,
+      rowed o,
+    )
 
 cast_t : tie.Need-overflow_cast-t invariant-loop decreases-loop
 cast_t c = let o = c.before in let h = run_room o in let k = (st (l o)).pre.0.fits in omega arith
@@ -217,25 +220,25 @@ add-i : tie.Need-overflow_add-i-in-loop-i invariant-loop decreases-loop
 add-i c = let o = c.before in let h = run_inside o in let e = (m (l o)).loop.inv.0 in let z = (m (l o)).before.Span-of.ensures.1 in omega arith
 
 loop-less : tie.Need-loop-i-smaller invariant-loop decreases-loop
-loop-less c = let o = c.before in let h = (l o).loop-test.true in let q = o.Opened-in.ensures.0.some in omega arith
+loop-less c = let o = c.before in let h = (l o).loop-test.true in let q = o.opened_in-o.ensures.0.some in omega arith
 
 loop-again : tie.Need-loop-i-preserved invariant-loop decreases-loop
 loop-again c =
-    let o = c.before in let lp = l o in let a = (st lp).args in let v = (m lp).loop.inv in let n = o.Opened-in.result.run in
+    let o = c.before in let lp = l o in let a = (st lp).args in let v = (m lp).loop.inv in let n = o.opened_in-o.result.run in
     let e = v.0 in let q = v.1 in let h = run_inside o in let r = run_room o in (
       v.0,
       omega arith,
       omega arith,
       omega arith,
       failed-more (s lp) (p lp) a.from (m lp).loop.t v.4 (m lp).loop.i v.1 n
-          (value-fails (s lp) (p lp).n (p lp).k (p lp).low (p lp).high (g lp) (m lp).loop.i (here lp) n (lows (y o)) (highs (y o)) (lows-are (y o)) (highs-are (y o)) (o.Opened-in.ensures.0.far c.if-o.false)),
+          (value-fails (s lp) (p lp).n (p lp).k (p lp).low (p lp).high (g lp) (m lp).loop.i (here lp) n (lows (y o)) (highs (y o)) (lows-are (y o)) (highs-are (y o)) (o.opened_in-o.ensures.0.far c.if-o.false)),
       rowed o,
       λ z. set-set (m lp).loop.low (p lp).k _ z ∙ v.6 z,
       λ z. set-set (m lp).loop.high (p lp).k _ z ∙ v.7 z,
     )
 
 returns-3 : tie.Need-returns invariant-loop decreases-loop
-returns-3 c = let m = c.before in let v = m.loop-i.invariant in let e = v.0 in let i = v.1 in let h = v.2 in let q = c.loop-i-test.false in record { is = past m.loop-i.t v.4 (omega arith) v.3 m.loop-i.i; rows = v.5 }
+returns-3 c = let m = c.before in let v = m.loop-i.invariant in let e = v.0 in let i = v.1 in let h = v.2 in let q = c.loop-i-test.false in (past m.loop-i.t v.4 (omega arith) v.3 m.loop-i.i, v.5)
 
 pub climb_spec : {M : Type 1} → statement M
 climb_spec =

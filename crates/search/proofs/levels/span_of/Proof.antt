@@ -50,7 +50,7 @@ cast-result : tie.Need-overflow_cast-result
 cast-result c = cast-nat w64 _ (nat_abs (diff c.before.before)) (to_z_of_z (sub-result c) ∙ back c ∙ sym (nat_abs-nonneg (nonneg c))) (let s = (size c).size in omega arith)
 
 returns : tie.Need-returns
-returns c = let e = ap nat_abs (to_z_of_z (sub-result c) ∙ back c) in record { is = e; size = let s = (size c).size in omega (arith, e) }
+returns c = let e = ap nat_abs (to_z_of_z (sub-result c) ∙ back c) in (e, let s = (size c).size in omega (arith, e))
 
 pub span_of_spec : {M : Type 1} → statement M
 span_of_spec =

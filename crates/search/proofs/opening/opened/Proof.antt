@@ -64,7 +64,7 @@ loop-again : tie.Need-loop-b-preserved invariant-loop decreases-loop
 loop-again c =
     let y = c.before.before in let lp = turn c in let m = lp.before in let st = m.before.before in let a = st.args in let e = y.row_run-m.ensures in
     opens-next a.s.now (length a.low.now) (box_of a.low.now a.high.now) (wide_box a.k a.low.now a.high.now) a.rows.now m.loop-b.rows m.loop-b.kept m.loop-b.any a.most m.loop-b.run m.loop-b.b m.loop-b.inv
-    lp.loop-b-test.taken _ e.row e.place y.row_run-m.result e.run.is e.run.few e.run.far _ c.before.either-any.ensures c.shortened-run.result c.shortened-run.ensures.size.0 c.shortened-run.ensures.size.1 c.shortened-run.ensures.is
+    lp.loop-b-test.taken _ e.row e.place y.row_run-m.result e.run.is e.run.few e.run.far _ c.before.either-any.ensures c.shortened-run.result c.shortened-run.ensures.1.0 c.shortened-run.ensures.1.1 c.shortened-run.ensures.0
 
 same_length : tie.Need-shape_of-rows invariant-loop decreases-loop
 same_length c = c.before.loop-b.invariant.same
@@ -72,7 +72,7 @@ same_length c = c.before.loop-b.invariant.same
 returns : tie.Need-returns invariant-loop decreases-loop
 returns c =
     let m = c.before in let st = m.before.before in let a = st.args in
-    record { is = opens-end a.s.now (length a.low.now) (box_of a.low.now a.high.now) (wide_box a.k a.low.now a.high.now) a.rows.now m.loop-b.rows m.loop-b.auto m.loop-b.any a.most m.loop-b.run m.loop-b.b m.loop-b.invariant c.loop-b-test.false; rows = m.loop-b.invariant.right }
+    (opens-end a.s.now (length a.low.now) (box_of a.low.now a.high.now) (wide_box a.k a.low.now a.high.now) a.rows.now m.loop-b.rows m.loop-b.auto m.loop-b.any a.most m.loop-b.run m.loop-b.b m.loop-b.invariant c.loop-b-test.false, m.loop-b.invariant.right)
 
 pub opened_spec : {M : Type 1} → statement M
 opened_spec = tie.close (tie.spec invariant-loop decreases-loop loop-holds array-read-o mul-row-run index-1-row-run row-run-requires array-write-kept either-requires shortened-requires add-b loop-less loop-again same_length returns)

@@ -28,7 +28,7 @@ returns c =
     let k : length ys ≡ length (take n r) = o.opened.auto.1.1.1.1.1.0 in let i = st.requires.0.inside in
     let l : length ys ≡ n = omega (arith, length-take n r) in
     let e : take n (ys ++ drop n r) ≡ ys = ap (λ (j : ℕ). take j (ys ++ drop n r)) (sym l) ∙ take-append_seam ys (drop n r) in
-    record { is = o.opened.ensures.is; rows = record { inside = omega (arith, length_front r ys n k); used = subst (Rows st.args.s.now (length st.args.low.now)) (sym e) o.opened.ensures.rows } }
+    (o.opened.ensures.0, record { inside = omega (arith, length_front r ys n k); used = subst (Rows st.args.s.now (length st.args.low.now)) (sym e) o.opened.ensures.1 })
 
 pub opened_in_spec : {M : Type 1} → statement M
 opened_in_spec = tie.close (tie.spec slice-relend-prefix-opened slice-aggregate-opened opened-requires same_length returns)

@@ -13,7 +13,7 @@ use Rattle.sharing.proofs.history.make.Reads as make-reads
 use Rattle.simplex.proofs.choose.choose_at.Reads as choose-at-reads
 
 begun : (c : tie.Start) → let a = c.args in Going a.n a.t.now a.place.now a.kinds.now a.past.now a.columns.now a.start a.t.now a.place.now a.past.now a.columns.now a.start
-begun c = let a = c.args in going_start a.n a.t.now a.place.now a.kinds.now a.past.now a.columns.now a.start c.requires.fine c.requires.past_len.0.0 c.requires.past_len.0.1 c.requires.past_len.1.0
+begun c = let a = c.args in going_start a.n a.t.now a.place.now a.kinds.now a.past.now a.columns.now a.start c.requires.0 c.requires.1.0.0 c.requires.1.0.1 c.requires.1.1.0
 
 pivots : (c : tie.In-Pivot-2) → let a = c.before.before.before.before.before.before.before.before.args in move_of a.t.now a.place.now a.kinds.now (200 - a.start) ≡ Pivot c.m-in-Pivot-1.given.0.0 c.m-in-Pivot-1.given.0.1.0
 pivots c = sym c.before.before.choose_at-m.ensures ∙ c.m-in-Pivot-1.given.1

@@ -19,7 +19,7 @@ abbrev decreases-loop : tie.decreases-loop-x
 decreases-loop t₀ n place₀ kinds past₀ columns₀ start rows made₀ t place past columns made = 200 - made
 
 loop-holds : tie.Need-loop-x-init invariant-loop decreases-loop
-loop-holds c = let a = c.before.before.before.args in going_start a.n a.t.now a.place.now a.kinds.now a.past.now a.columns.now a.start c.before.before.before.requires.fine c.before.before.before.requires.past_len.0.0 c.before.before.before.requires.past_len.0.1 c.before.before.before.requires.past_len.1
+loop-holds c = let a = c.before.before.before.args in going_start a.n a.t.now a.place.now a.kinds.now a.past.now a.columns.now a.start c.before.before.before.requires.0 c.before.before.before.requires.1.0.0 c.before.before.before.requires.1.0.1 c.before.before.before.requires.1.1
 
 sub-choose : tie.Need-overflow_sub-made invariant-loop decreases-loop
 sub-choose c = c.before.before.loop.invariant.most

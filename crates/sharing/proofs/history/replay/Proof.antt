@@ -17,13 +17,13 @@ abbrev decreases-loop : tie.decreases-loop-k
 decreases-loop r₀ n past columns made k₀ r k = made - k
 
 loop-holds : tie.Need-loop-k-init invariant-loop decreases-loop
-loop-holds c = replay-start _ _ _ _ _ c.before.requires.whole
+loop-holds c = replay-start _ _ _ _ _ c.before.requires.0
 
 mul-pass : tie.Need-offset_bounds-past-k invariant-loop decreases-loop
 mul-pass c = search rules
 
 shared-slice-element-pass : tie.Need-bounds-past-k invariant-loop decreases-loop
-shared-slice-element-pass c = let h = c.before.loop-k-test.true in let p = c.before.before.before.before.requires.made_in_bounds.0.0 in omega arith
+shared-slice-element-pass c = let h = c.before.loop-k-test.true in let p = c.before.before.before.before.requires.1.0.0 in omega arith
 
 mul-pass-2 : tie.Need-offset_bounds-columns-k invariant-loop decreases-loop
 mul-pass-2 c = search rules

@@ -43,7 +43,7 @@ slice-relend-prefix-go-on : tie.Need-slice_bounds-go_on-end
 slice-relend-prefix-go-on c = search rules
 
 slice-aggregate-go-on : tie.Need-slice_bounds-go_on-end-2
-slice-aggregate-go-on c = sym (rows-count c.before.before.before.before.before.before.before.before.before.before.before.before.before.before.before.args.b c.before.before.before.before.before.before.before.before.before.before.before.before.before.before.before.requires.valid c.before.before.before.before.before.before.before.before.before.before.before.before.before.before.before.args.rows.now c.before.before.fill_bounds.new.1.1.0 c.before.before.before.before.before.before.before.before.before.before.before.before.before.before.before.args.place.now c.before.before.before.before.before.before.before.before.before.name_variables.new.1.1.0 c.before.before.before.before.before.before.before.before.before.before.before.before.before.before.before.args.kinds.now c.before.before.before.before.before.before.before.before.before.name_variables.new.1.1.1.0 c.before.before.before.before.before.before.before.before.before.name_variables.ensures c.before.before.fill_bounds.ensures c.before.before.before.before.before.before.before.before.before.before.before.before.before.before.before.requires.beginning.high c.before.before.before.before.before.before.before.before.before.before.before.before.before.before.before.requires.beginning.long c.before.before.before.before.before.before.before.before.before.before.before.before.before.before.before.requires.beginning.wide)
+slice-aggregate-go-on c = sym (rows-count c.before.before.before.before.before.before.before.before.before.before.before.before.before.before.before.args.b c.before.before.before.before.before.before.before.before.before.before.before.before.before.before.before.requires.0 c.before.before.before.before.before.before.before.before.before.before.before.before.before.before.before.args.rows.now c.before.before.fill_bounds.new.1.1.0 c.before.before.before.before.before.before.before.before.before.before.before.before.before.before.before.args.place.now c.before.before.before.before.before.before.before.before.before.name_variables.new.1.1.0 c.before.before.before.before.before.before.before.before.before.before.before.before.before.before.before.args.kinds.now c.before.before.before.before.before.before.before.before.before.name_variables.new.1.1.1.0 c.before.before.before.before.before.before.before.before.before.name_variables.ensures c.before.before.fill_bounds.ensures c.before.before.before.before.before.before.before.before.before.before.before.before.before.before.before.requires.1.high c.before.before.before.before.before.before.before.before.before.before.before.before.before.before.before.requires.1.long c.before.before.before.before.before.before.before.before.before.before.before.before.before.before.before.requires.1.wide)
 
 add-go-on : tie.Need-overflow_add-k
 add-go-on c = search rules
@@ -52,7 +52,7 @@ slice-relend-prefix-go-on-2 : tie.Need-slice_bounds-go_on-end-3
 slice-relend-prefix-go-on-2 c = search rules
 
 slice-aggregate-go-on-2 : tie.Need-slice_bounds-go_on-end-4
-slice-aggregate-go-on-2 c = sym (place-count c.before.before.before.before.before.before.before.before.before.before.before.before.before.before.before.before.args.b c.before.before.before.before.before.before.before.before.before.before.before.before.before.before.before.before.requires.valid c.before.before.before.before.before.before.before.before.before.before.before.before.before.before.before.before.args.rows.now c.before.before.before.fill_bounds.new.1.1.0 c.before.before.before.before.before.before.before.before.before.before.before.before.before.before.before.before.args.place.now c.before.before.before.before.before.before.before.before.before.before.name_variables.new.1.1.0 c.before.before.before.before.before.before.before.before.before.before.before.before.before.before.before.before.args.kinds.now c.before.before.before.before.before.before.before.before.before.before.name_variables.new.1.1.1.0 c.before.before.before.before.before.before.before.before.before.before.name_variables.ensures c.before.before.before.fill_bounds.ensures c.before.before.before.before.before.before.before.before.before.before.before.before.before.before.before.before.requires.beginning.high c.before.before.before.before.before.before.before.before.before.before.before.before.before.before.before.before.requires.beginning.long c.before.before.before.before.before.before.before.before.before.before.before.before.before.before.before.before.requires.beginning.wide)
+slice-aggregate-go-on-2 c = sym (place-count c.before.before.before.before.before.before.before.before.before.before.before.before.before.before.before.before.args.b c.before.before.before.before.before.before.before.before.before.before.before.before.before.before.before.before.requires.0 c.before.before.before.before.before.before.before.before.before.before.before.before.before.before.before.before.args.rows.now c.before.before.before.fill_bounds.new.1.1.0 c.before.before.before.before.before.before.before.before.before.before.before.before.before.before.before.before.args.place.now c.before.before.before.before.before.before.before.before.before.before.name_variables.new.1.1.0 c.before.before.before.before.before.before.before.before.before.before.before.before.before.before.before.before.args.kinds.now c.before.before.before.before.before.before.before.before.before.before.name_variables.new.1.1.1.0 c.before.before.before.before.before.before.before.before.before.before.name_variables.ensures c.before.before.before.fill_bounds.ensures c.before.before.before.before.before.before.before.before.before.before.before.before.before.before.before.before.requires.1.high c.before.before.before.before.before.before.before.before.before.before.before.before.before.before.before.before.requires.1.long c.before.before.before.before.before.before.before.before.before.before.before.before.before.before.before.before.requires.1.wide)
 
 slice-reshare-prefix-go-on : tie.Need-slice_bounds-go_on-end-5
 slice-reshare-prefix-go-on c = search rules

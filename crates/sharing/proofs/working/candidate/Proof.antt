@@ -32,8 +32,8 @@ add-replay c = search rules
 replay-requires : tie.Need-replay-requires
 replay-requires c κs =
     let st = c.before.before.before.before.before.before in
-    let g = st.requires.growing.stands in
-    (subst (Whole (st.args.k + 10)) (sym c.before.constraint_row.ensures) (row-whole st.args.k g.few (constraint_of st.args.c)), (fits-past st.requires.growing.stands, g.kept))
+    let g = st.requires.0.stands in
+    (subst (Whole (st.args.k + 10)) (sym c.before.constraint_row.ensures) (row-whole st.args.k g.few (constraint_of st.args.c)), (fits-past st.requires.0.stands, g.kept))
 
 returns : tie.Need-returns-then-not-replay
 returns c =
@@ -42,7 +42,7 @@ returns c =
     let js = take st.args.h.pivots st.args.columns.now in
     let c₀ = constraint_of st.args.c in
     let e : through qs js (start_row st.args.k c₀) ≡ false = sym (ap (through qs js) c.before.before.before.constraint_row.ensures) ∙ sym c.before.replay.ensures.all ∙ not-true _ c.if-not-replay.true-raw in
-    record { tried = λ cs g. sym (wide-any g st.requires.growing.less c₀ e) }
+    record { tried = λ cs g. sym (wide-any g st.requires.0.less c₀ e) }
 
 enum_told : tie.Need-enum_told-1
 enum_told c = search rules
@@ -69,7 +69,7 @@ finish-requires c κs =
     let r = p1.replay.new.0 in
     let is : r ≡ brought qs js (start_row st.args.k c₀) = p1.replay.ensures.row ∙ ap (brought qs js) c.before.before.before.before.before.before.constraint_row.ensures in
     let p : st.args.h.verdict ≡ Point = search rules in
-    record { calm = calm-now st.requires.growing.stands st.requires.growing.less c₀ p r is; spare_len = st.requires.equality_value.1 }
+    (calm-now st.requires.0.stands st.requires.0.less c₀ p r is, st.requires.1.1)
 
 enum-told-2 : tie.Need-enum_told-in-Dropped
 enum-told-2 c = search rules
@@ -98,8 +98,8 @@ returns-2 c =
     record {
       tried = λ cs g.
           c.before.finish.ensures
-          ∙ ap (λ b. (onward (200 - st.args.h.pivots) st.args.h.rows (8 + st.args.k + st.args.h.rows) (Rattle.simplex.specs.Table.kind_number (mathlib.Core.Option.some (Rattle.model.specs.Values.kind_is b))) r st.args.rows.now st.args.place.now st.args.kinds.now).verdict) (sym st.requires.equality_value.0)
-          ∙ sym (ap (λ (y : Traced). y.verdict) (onward-is g st.requires.growing.less c₀ p r is e));
+          ∙ ap (λ b. (onward (200 - st.args.h.pivots) st.args.h.rows (8 + st.args.k + st.args.h.rows) (Rattle.simplex.specs.Table.kind_number (mathlib.Core.Option.some (Rattle.model.specs.Values.kind_is b))) r st.args.rows.now st.args.place.now st.args.kinds.now).verdict) (sym st.requires.1.0)
+          ∙ sym (ap (λ (y : Traced). y.verdict) (onward-is g st.requires.0.less c₀ p r is e));
     }
 
 returns-3 : tie.Need-returns-in-Dropped
@@ -110,7 +110,7 @@ returns-3 c =
     let c₀ = constraint_of st.args.c in
     let e : through qs js (start_row st.args.k c₀) ≡ true = sym (ap (through qs js) c.before.before.before.before.before.constraint_row.ensures) ∙ sym c.before.before.before.replay.ensures.all ∙ not-false _ c.before.before.if-not-replay.false-raw in
     let p : st.args.h.verdict ≡ Dropped = search rules in
-    record { tried = λ cs g. sym ((ended-now g st.requires.growing.less c₀ (λ z. let q = sym p ∙ z in let w : ◌≡◌ {A = ℕ} 0 1 = cc in omega arith) e (λ z. clash-dropped (sym p ∙ z))).0 ∙ p) }
+    record { tried = λ cs g. sym ((ended-now g st.requires.0.less c₀ (λ z. let q = sym p ∙ z in let w : ◌≡◌ {A = ℕ} 0 1 = cc in omega arith) e (λ z. clash-dropped (sym p ∙ z))).0 ∙ p) }
 
 returns-4 : tie.Need-returns-in-Long
 returns-4 c =
@@ -120,14 +120,14 @@ returns-4 c =
     let c₀ = constraint_of st.args.c in
     let e : through qs js (start_row st.args.k c₀) ≡ true = sym (ap (through qs js) c.before.before.before.before.before.constraint_row.ensures) ∙ sym c.before.before.before.replay.ensures.all ∙ not-false _ c.before.before.if-not-replay.false-raw in
     let p : st.args.h.verdict ≡ Long = search rules in
-    record { tried = λ cs g. sym ((ended-now g st.requires.growing.less c₀ (λ z. let q = sym p ∙ z in let w : ◌≡◌ {A = ℕ} 0 1 = cc in omega arith) e (λ z. clash-long (sym p ∙ z))).0 ∙ p) }
+    record { tried = λ cs g. sym ((ended-now g st.requires.0.less c₀ (λ z. let q = sym p ∙ z in let w : ◌≡◌ {A = ℕ} 0 1 = cc in omega arith) e (λ z. clash-long (sym p ∙ z))).0 ∙ p) }
 
 returns-5 : tie.Need-returns-in-Wide
 returns-5 c =
     let st = c.before.before.before.before.before.before.before.before.before.before in
     let c₀ = constraint_of st.args.c in
     let p : st.args.h.verdict ≡ Wide = search rules in
-    record { tried = λ cs g. sym (wide-stays g st.requires.growing.less c₀ p) }
+    record { tried = λ cs g. sym (wide-stays g st.requires.0.less c₀ p) }
 
 pub candidate_spec : {M : Type 1} → statement M
 candidate_spec =

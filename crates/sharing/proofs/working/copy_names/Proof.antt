@@ -28,13 +28,13 @@ mul-seats-2 : tie.Need-offset_bounds-seats-k invariant-loop decreases-loop
 mul-seats-2 c = search rules
 
 slice-write-seats : tie.Need-bounds-seats-k invariant-loop decreases-loop
-slice-write-seats c = let h = c.before.loop-k-test.true in let e = c.before.before.loop-k.invariant.1 in let p = c.before.before.before.requires.n_in_bounds.0 in omega arith
+slice-write-seats c = let h = c.before.loop-k-test.true in let e = c.before.before.loop-k.invariant.1 in let p = c.before.before.before.requires.0.0 in omega arith
 
 shared-slice-read-sorts : tie.Need-bounds-kinds-k invariant-loop decreases-loop
 shared-slice-read-sorts c = let h = c.before.before.loop-k-test.true in let p = c.before.before.before.before.requires in omega (arith, p.1.1)
 
 slice-write-sorts : tie.Need-bounds-sorts-k invariant-loop decreases-loop
-slice-write-sorts c = let h = c.before.before.loop-k-test.true in let e = c.before.before.before.loop-k.invariant.2 in let p = c.before.before.before.before.requires.n_in_bounds_2.0 in omega arith
+slice-write-sorts c = let h = c.before.before.loop-k-test.true in let e = c.before.before.before.loop-k.invariant.2 in let p = c.before.before.before.before.requires.1.0 in omega arith
 
 add-k : tie.Need-overflow_add-k invariant-loop decreases-loop
 add-k c = search rules

@@ -76,7 +76,7 @@ append-requires c κs =
     let is : r ≡ brought qs js (start_row st.args.k c₀) = p1.replay.ensures.row ∙ ap (brought qs js) c.before.before.before.before.before.before.before.before.before.before.before.before.constraint-row.ensures in
     let p : st.args.h.verdict ≡ Point = search rules in
     let g = st.requires.stands in
-    record { calm = calm-now st.requires.stands st.requires.less c₀ p r is; made_le_most_pivots = (g.most, g.many, g.many') }
+    (calm-now st.requires.stands st.requires.less c₀ p r is, (g.most, g.many, g.many'))
 
 enum-told-2 : tie.Need-enum_told-in-Dropped
 enum-told-2 c = search rules

@@ -62,7 +62,7 @@ sub-j c =
 narrow-requires : tie.Need-narrow-requires
 narrow-requires c κs =
     let f = c.before.before.before.before.before.before.before.before.requires.0 in
-    record { j_bound = omega (arith, f.near c.before.before.before.helping-w.result c.before.before.if-count-w.false); by_index = f.line }
+    (omega (arith, f.near c.before.before.before.helping-w.result c.before.before.if-count-w.false), f.line)
 
 returns-3 : tie.Need-returns-then-narrow
 returns-3 c =

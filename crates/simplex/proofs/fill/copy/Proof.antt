@@ -31,7 +31,7 @@ array-copy-out-x : tie.Need-bounds-a-i invariant-loop decreases-loop
 array-copy-out-x c = search rules
 
 times-requires : tie.Need-times-requires invariant-loop decreases-loop
-times-requires c κs = let s = c.before.before.before in simp (to_z-of_z s.ranges.s) s.requires.n_bound.1.1
+times-requires c κs = let s = c.before.before.before in simp (to_z-of_z s.ranges.s) s.requires.1.1.1
 
 add-t10 : tie.Need-overflow_add-base invariant-loop decreases-loop
 add-t10 c = search rules
@@ -40,7 +40,7 @@ mul-t15 : tie.Need-offset_bounds-r-base invariant-loop decreases-loop
 mul-t15 c = search rules
 
 element-set-from-r : tie.Need-bounds-r-base invariant-loop decreases-loop
-element-set-from-r c = let h = c.before.before.before.before.requires.n_bound.0 in omega arith
+element-set-from-r c = let h = c.before.before.before.before.requires.1.0 in omega arith
 
 add-i : tie.Need-overflow_add-i invariant-loop decreases-loop
 add-i c = search rules
@@ -53,11 +53,11 @@ loop-again c =
     let s = c.before.before.before.before in
     let l = c.before.before.before.loop-i in
     let x = to_z-of_z {w = w16} {z = get_or s.args.t4 l.i (pos 0)} (record { sfits = c.before.x-1.given }) in
-    let h = s.requires.r_len in
-    let b = s.requires.n_bound.0 in (
+    let h = s.requires.0 in
+    let b = s.requires.1.0 in (
       omega arith,
       copied_more s.args.base _ l.i s.args.t4 s.args.r.now l.r _ (omega arith)
-          (to_z-of_z (record { sfits = c.times.type-inv }) ∙ c.times.ensures ∙ ap (λ z. to_z w64 (of_z w64 s.args.s) *ℤ z) x) l.invariant.1,
+          (to_z-of_z (record { sfits = c.times.type_inv }) ∙ c.times.ensures ∙ ap (λ z. to_z w64 (of_z w64 s.args.s) *ℤ z) x) l.invariant.1,
     )
 
 returns : tie.Need-returns invariant-loop decreases-loop

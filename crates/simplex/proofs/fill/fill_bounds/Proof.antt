@@ -36,12 +36,12 @@ mul-lower-row-2 c = search rules
 index-1-lower-row : tie.Need-bounds-rows-i invariant-loop decreases-loop
 index-1-lower-row c =
     let l = c.before.before.loop-i.invariant.1.long in
-    let h = c.before.before.before.requires.ds_len.1 in
+    let h = c.before.before.before.requires.1.1 in
     let t = c.before.loop-i-test.true in
     omega arith
 
 lower-row-requires : tie.Need-lower_row-requires invariant-loop decreases-loop
-lower-row-requires c κs = record { i_lt_k = c.before.before.loop-i-test.true; k_le_most_divisions = c.before.before.before.before.requires.k_le_most_divisions }
+lower-row-requires c κs = (c.before.before.loop-i-test.true, c.before.before.before.before.requires.0)
 
 mul-upper-row : tie.Need-overflow_mul-i-in-loop-i invariant-loop decreases-loop
 mul-upper-row c = search rules
@@ -55,12 +55,12 @@ mul-upper-row-2 c = search rules
 index-1-upper-row : tie.Need-bounds-rows-i-in-loop-i invariant-loop decreases-loop
 index-1-upper-row c =
     let l = c.before.before.before.before.loop-i.invariant.1.long in
-    let h = c.before.before.before.before.before.requires.ds_len.1 in
+    let h = c.before.before.before.before.before.requires.1.1 in
     let t = c.before.before.before.loop-i-test.true in
     rw length-set (omega arith)
 
 upper-row-requires : tie.Need-upper_row-requires invariant-loop decreases-loop
-upper-row-requires c κs = record { i_lt_k = c.before.before.before.before.loop-i-test.true; k_le_most_divisions = c.before.before.before.before.before.before.requires.k_le_most_divisions }
+upper-row-requires c κs = (c.before.before.before.before.loop-i-test.true, c.before.before.before.before.before.before.requires.0)
 
 add-i : tie.Need-overflow_add-i-in-loop-i invariant-loop decreases-loop
 add-i c = search rules
@@ -73,9 +73,9 @@ loop-again c =
     let s = c.before.before.before.before.before.before.before in
     let l = c.before.before.before.before.before.before.loop-i in
     let t = c.before.before.before.before.before.loop-i-test.true in
-    let n = s.requires.ds_len.0 in
-    let d = s.requires.k_le_most_divisions in
-    let h = s.requires.ds_len.1 in
+    let n = s.requires.1.0 in
+    let d = s.requires.0 in
+    let h = s.requires.1.1 in
     (omega arith, bounded-more s.args.t1 s.args.k l.i _ s.args.rows.now l.rows _ _ (omega arith) (omega arith) c.before.before.lower_row.ensures c.upper_row.ensures l.invariant.1)
 
 same_length : tie.Need-shape_of-rows invariant-loop decreases-loop

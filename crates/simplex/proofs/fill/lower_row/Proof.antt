@@ -41,8 +41,8 @@ returns c =
     let z : to_z w64 (of_z w64 w.result) ≡ s.args.e.constant =
     to_z-of_z (record { sfits = w.type-inv }) ∙ w.ensures ∙ to_z-of_z {w = w32} {z = s.args.e.constant} (record { sfits = c.before.before.before.before.before.struct_told-1.given.1.0.1 }) in
     let l = c.before.row_of.new.0 in
-    ap (set l (s.args.i + 2)) (to_z-of_z (record { sfits = c.opposite.type-inv }) ∙ c.opposite.ensures)
-    ∙ lower-is s.args.k s.args.i s.args.e.divisor s.args.e.constant s.args.e.axes l s.requires.k_le_most_divisions s.requires.i_lt_k (subst (λ z. Started s.args.k z (pos 1) s.args.e.axes l) z c.before.row_of.ensures)
+    ap (set l (s.args.i + 2)) (to_z-of_z (record { sfits = c.opposite.type_inv }) ∙ c.opposite.ensures)
+    ∙ lower-is s.args.k s.args.i s.args.e.divisor s.args.e.constant s.args.e.axes l s.requires.1 s.requires.0 (subst (λ z. Started s.args.k z (pos 1) s.args.e.axes l) z c.before.row_of.ensures)
 
 pub lower_row_spec : {M : Type 1} → statement M
 lower_row_spec =

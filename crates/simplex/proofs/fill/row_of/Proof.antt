@@ -21,12 +21,12 @@ add-copy : tie.Need-overflow_add-k
 add-copy c = search rules
 
 copy-requires : tie.Need-copy-requires
-copy-requires c κs = let s = c.before.before in (refl, (omega arith, (omega arith, simp (to_z-of_z s.ranges.s) s.requires.within)))
+copy-requires c κs = let s = c.before.before in (refl, (omega arith, (omega arith, simp (to_z-of_z s.ranges.s) s.requires.1)))
 
 returns : tie.Need-returns
 returns c =
     let s = c.before.before.before in
-    started s.args.k s.args.z s.args.s s.args.a c.copy.new.0 s.requires.k_le_most_divisions
+    started s.args.k s.args.z s.args.s s.args.a c.copy.new.0 s.requires.0
     (subst₂ (λ x z. Copied (s.args.k + 2) x 8 s.args.a (fresh z) c.copy.new.0) (to_z-of_z s.ranges.s) (to_z-of_z s.ranges.z) c.copy.ensures)
 
 pub row_of_spec : {M : Type 1} → statement M

@@ -43,8 +43,8 @@ returns c =
     to_z-of_z (record { sfits = w.type-inv }) ∙ w.ensures
     ∙ ap (λ z. pos d -ℤ pos 1 -ℤ z) (to_z-of_z {w = w32} {z = s.args.e.constant} (record { sfits = c.before.before.before.before.before.struct_told-1.given.1.0.1 })) in
     let l = c.before.row_of.new.0 in
-    ap (set l (s.args.i + 2)) (to_z-of_z (record { sfits = c.unsigned.type-inv }) ∙ c.unsigned.ensures)
-    ∙ upper_is s.args.k s.args.i d s.args.e.constant s.args.e.axes l s.requires.k_le_most_divisions s.requires.i_lt_k (subst (λ z. Started s.args.k z (negsuc 0) s.args.e.axes l) z c.before.row_of.ensures)
+    ap (set l (s.args.i + 2)) (to_z-of_z (record { sfits = c.unsigned.type_inv }) ∙ c.unsigned.ensures)
+    ∙ upper_is s.args.k s.args.i d s.args.e.constant s.args.e.axes l s.requires.1 s.requires.0 (subst (λ z. Started s.args.k z (negsuc 0) s.args.e.axes l) z c.before.row_of.ensures)
 
 pub upper_row_spec : {M : Type 1} → statement M
 upper_row_spec =

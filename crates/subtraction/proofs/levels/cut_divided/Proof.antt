@@ -55,7 +55,7 @@ returns-2 c =
     let e = asked k.before in
     let s = start e in
     let t = e.before.tight_set-t in
-    divided-cut s.pre.0 s.pre.4 t.result t.ensures e.if-none.left k.Cut-all.ensures
+    divided-cut s.pre.0 s.pre.4 t.result t.ensures e.if-none.left k.cut_all.ensures
 
 pub cut_divided_spec : {M : Type 1} → statement M
 cut_divided_spec =

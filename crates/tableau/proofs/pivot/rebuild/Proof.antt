@@ -39,9 +39,9 @@ replace-requires c κs =
     let s = c.before.before.before in
     let z = get_or s.args.r.now (s.args.j + 2) (pos 0) in
     let f : z ≡ pos 0 → ⊥ = λ h. c.before.if-b-eq0.false (ap (of_z w64) h) in
-    let d = s.requires.fit.1 in
-    let r = s.requires.fit.0 in
-    rw (to_z-of_z s.ranges.m) (s.requires.j_bound, (r.line, (d.line, (r.small f, (d.small, (d.none, (d.near, (d.over, r.dens f))))))))
+    let d = s.requires.1.1 in
+    let r = s.requires.1.0 in
+    rw (to_z-of_z s.ranges.m) (s.requires.0, (r.line, (d.line, (r.small f, (d.small, (d.none, (d.near, (d.over, r.dens f))))))))
 
 returns-2 : tie.Need-returns
 unfolding rebuild_of

@@ -75,13 +75,13 @@ loop-again c =
     let b = to_z w64 (of_z w64 s.args.b) in
     let x = to_z-of_z {w = w64} {z = get_or l.r l.i (pos 0)} (record { sfits = c.before.before.before.x-1.given }) in
     let y = to_z-of_z {w = w64} {z = get_or q l.i (pos 0)} (record { sfits = c.before.before.y-1.given }) in
-    let z = to_z-of_z (record { sfits = c.before.determinant-z.type-inv }) ∙ c.before.determinant-z.ensures ∙ ap₂ (λ x y. x *ℤ m -ℤ b *ℤ y) x y in
+    let z = to_z-of_z (record { sfits = c.before.determinant-z.type_inv }) ∙ c.before.determinant-z.ensures ∙ ap₂ (λ x y. x *ℤ m -ℤ b *ℤ y) x y in
     let e : get_or l.r l.i (pos 0) ≡ get_or r l.i (pos 0) = ap (λ t. get_or t l.i (pos 0)) l.invariant.1 ∙ up_to-next _ l.i r (pos 0) in
-    let f = s.requires.line in (
+    let f = s.requires.0 in (
       omega arith,
       up_to-more (pos 0) (mul_sub m b q) l.i r l.r _ (omega (arith, f.fit, f.long)) l.invariant.1 z,
       ap (λ g. divisor_from g (drop (l.i + 1) (combine_rows m b r q))) c.divisor_with-g.ensures
-          ∙ divisor-more s.args.n m b r q f s.requires.line_2.0 l.i l.g _ (omega arith) (z ∙ ap (λ x. x *ℤ m -ℤ b *ℤ get_or q l.i (pos 0)) e)
+          ∙ divisor-more s.args.n m b r q f s.requires.1.0 l.i l.g _ (omega arith) (z ∙ ap (λ x. x *ℤ m -ℤ b *ℤ get_or q l.i (pos 0)) e)
           ∙ l.invariant.2,
     )
 
@@ -93,8 +93,8 @@ returns c =
     let b = to_z w64 (of_z w64 s.args.b) in
     let r = s.args.r.now in
     let q = s.args.q.now in
-    let h = s.requires.line in
-    let k = s.requires.line_2.0 in
+    let h = s.requires.0 in
+    let k = s.requires.1.0 in
     let e : l.r ≡ combine_rows m b r q = l.invariant.1 ∙ up_to-combine m b s.args.n l.i r q h k (omega arith) (omega (arith, h.fit)) in (
       e ∙ ap₂ (λ m b. combine_rows m b r q) (to_z-of_z s.ranges.m) (to_z-of_z s.ranges.b),
       divisor-all s.args.n m b r q h k l.i l.g (omega arith) l.invariant.2 ∙ ap divisor (sym e),

@@ -35,7 +35,7 @@ element-copy-out-x : tie.Need-bounds-r-i invariant-loop decreases-loop
 element-copy-out-x c = search rules
 
 quotient-requires : tie.Need-quotient-requires invariant-loop decreases-loop
-quotient-requires c κs = simp (to_z-of_z c.before.before.before.ranges.d) c.before.before.before.requires.pos_bound
+quotient-requires c κs = simp (to_z-of_z c.before.before.before.ranges.d) c.before.before.before.requires.1
 
 mul-t7 : tie.Need-offset_bounds-r-i-in-loop-i invariant-loop decreases-loop
 mul-t7 c = search rules
@@ -55,18 +55,18 @@ loop-again c =
     let s = c.before.before.before.before in
     let l = c.before.before.before.loop-i in
     let x = to_z-of_z {w = w64} {z = get_or l.r l.i (pos 0)} (record { sfits = c.before.x-1.given }) in
-    let f = s.requires.line in (
+    let f = s.requires.0 in (
       omega arith,
       up_to-more (pos 0) (each (by (to_z w64 (of_z w64 s.args.d)))) l.i s.args.r.now l.r _ (omega (arith, f.fit, f.long)) l.invariant.1
-          (to_z-of_z (record { sfits = c.quotient.type-inv }) ∙ c.quotient.ensures ∙ ap (λ z. quot_z z (to_z w64 (of_z w64 s.args.d))) x),
+          (to_z-of_z (record { sfits = c.quotient.type_inv }) ∙ c.quotient.ensures ∙ ap (λ z. quot_z z (to_z w64 (of_z w64 s.args.d))) x),
     )
 
 returns : tie.Need-returns invariant-loop decreases-loop
 unfolding by
 returns c =
     let s = c.before.before in
-    let f = s.requires.line in
-    let z = quot-zero (to_z w64 (of_z w64 s.args.d)) (simp (to_z-of_z s.ranges.d) s.requires.pos_bound) in
+    let f = s.requires.0 in
+    let z = quot-zero (to_z w64 (of_z w64 s.args.d)) (simp (to_z-of_z s.ranges.d) s.requires.1) in
     let l = c.before.loop-i in
     l.invariant.1
     ∙ up_to-line (by (to_z w64 (of_z w64 s.args.d))) s.args.n l.i s.args.r.now z f (omega arith) (omega (arith, f.fit))

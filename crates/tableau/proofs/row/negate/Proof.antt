@@ -34,7 +34,7 @@ sub-r c =
     let l = c.before.before.loop-i in
     let z = get_or s.args.r.now l.i (pos 0) in
     let e : get_or l.r l.i (pos 0) ≡ z = ap (λ t. get_or t l.i (pos 0)) l.invariant.1 ∙ up_to-next _ l.i s.args.r.now (pos 0) in
-    let h = s.requires.small l.i in
+    let h = s.requires.1 l.i in
     rw (e, back (wider h)) (fits (within-minus (wider h)))
 
 mul-t6 : tie.Need-offset_bounds-r-i-in-loop-i invariant-loop decreases-loop
@@ -56,8 +56,8 @@ loop-again c =
     let l = c.before.before.loop-i in
     let z = get_or s.args.r.now l.i (pos 0) in
     let e : get_or l.r l.i (pos 0) ≡ z = ap (λ t. get_or t l.i (pos 0)) l.invariant.1 ∙ up_to-next _ l.i s.args.r.now (pos 0) in
-    let h = s.requires.small l.i in
-    let f = s.requires.line in
+    let h = s.requires.1 l.i in
+    let f = s.requires.0 in
     (omega arith, up_to-more (pos 0) (each minus) l.i s.args.r.now l.r _ (omega (arith, f.fit, f.long)) l.invariant.1 (rw (e, back (wider h), back (within-minus (wider h)))))
 
 returns : tie.Need-returns invariant-loop decreases-loop
@@ -65,7 +65,7 @@ unfolding minus
 returns c =
     let s = c.before.before in
     let l = c.before.loop-i in
-    l.invariant.1 ∙ up_to-line minus s.args.n l.i s.args.r.now refl s.requires.line (omega arith) (omega (arith, s.requires.line.fit))
+    l.invariant.1 ∙ up_to-line minus s.args.n l.i s.args.r.now refl s.requires.0 (omega arith) (omega (arith, s.requires.0.fit))
 
 pub negate_spec : {M : Type 1} → statement M
 negate_spec =

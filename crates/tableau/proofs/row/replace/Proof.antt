@@ -105,7 +105,7 @@ returns-2 : tie.Need-returns
 unfolding replace_of
 returns-2 c =
     let s = c.before.before.before.before.before.before.before.before in
-    let h = s.requires.line.1.1.0 (s.args.j + 2) in
+    let h = s.requires.1.1.1.0 (s.args.j + 2) in
     let l = set s.args.r.now (s.args.j + 2) (pos 0) in
     c.reduce_by.ensures
     ∙ ap reduce_of (c.before.before.combine-g.ensures.0 ∙ ap₂ (λ m b. combine_of m b l s.args.q.now) (to_z-of_z s.ranges.m) (minus-back (get_or s.args.r.now (s.args.j + 2) (pos 0)) h))

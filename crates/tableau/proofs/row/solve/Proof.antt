@@ -10,12 +10,12 @@ use Rattle.tableau.proofs.row.reduce.Reads as reduce-reads
 use Rattle.tableau.proofs.row.turn.Reads as turn-reads
 
 turn-requires : tie.Need-turn-requires
-turn-requires c κs = let s = c.before in (omega (arith, s.requires.line.0.fit, s.requires.j_bound), (s.requires.line.0, s.requires.line.1.0))
+turn-requires c κs = let s = c.before in (omega (arith, s.requires.1.0.fit, s.requires.0), (s.requires.1.0, s.requires.1.1.0))
 
 reduce-requires : tie.Need-reduce-requires
 reduce-requires c κs =
     let s = c.before.before.before in
-    let h = turn-sound s.args.n s.args.r.now s.args.j s.requires.j_bound s.requires.line.0 s.requires.line.1.0 s.requires.line.1.1 in
+    let h = turn-sound s.args.n s.args.r.now s.args.j s.requires.0 s.requires.1.0 s.requires.1.1.0 s.requires.1.1.1 in
     rw c.before.turn.ensures (h.line, (λ k. wider (h.small k), h.den))
 
 returns : tie.Need-returns

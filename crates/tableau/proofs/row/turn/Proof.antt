@@ -32,8 +32,8 @@ sub-r c =
     let j = s.args.j in
     let a = get_or r (j + 2) (pos 0) in
     let d = get_or r 0 (pos 0) in
-    let ha = s.requires.line.1 (j + 2) in
-    let hd = s.requires.line.1 0 in
+    let ha = s.requires.1.1 (j + 2) in
+    let hd = s.requires.1.1 0 in
     rw (back (wider ha)) (fits (within-minus (wider ha)))
 
 element-set-from-r : tie.Need-bounds-r-0-then-a-lt0
@@ -46,8 +46,8 @@ sub-r-2 c =
     let j = s.args.j in
     let a = get_or r (j + 2) (pos 0) in
     let d = get_or r 0 (pos 0) in
-    let ha = s.requires.line.1 (j + 2) in
-    let hd = s.requires.line.1 0 in
+    let ha = s.requires.1.1 (j + 2) in
+    let hd = s.requires.1.1 0 in
     rw (back (wider hd)) (fits (within-minus (wider hd)))
 
 add-t17 : tie.Need-overflow_add-j
@@ -82,8 +82,8 @@ returns c =
     let j = s.args.j in
     let a = get_or r (j + 2) (pos 0) in
     let d = get_or r 0 (pos 0) in
-    let ha = s.requires.line.1 (j + 2) in
-    let hd = s.requires.line.1 0 in
+    let ha = s.requires.1.1 (j + 2) in
+    let hd = s.requires.1.1 0 in
     let t : lt_z a (pos 0) ≡ true = simp (back (wider ha)) at c.if-a-lt0.true in
     rw (back (wider ha), back (wider hd), back (within-minus (wider ha)), back (within-minus (wider hd)))
     (sym (ap (λ b. turn_by b r j) t))
@@ -96,8 +96,8 @@ returns-2 c =
     let j = s.args.j in
     let a = get_or r (j + 2) (pos 0) in
     let d = get_or r 0 (pos 0) in
-    let ha = s.requires.line.1 (j + 2) in
-    let hd = s.requires.line.1 0 in
+    let ha = s.requires.1.1 (j + 2) in
+    let hd = s.requires.1.1 0 in
     let t : lt_z a (pos 0) ≡ false = simp (back (wider ha)) at c.before.before.if-a-lt0.false in
     rw (back (wider ha), back (wider hd), c.negate.ensures) (sym (ap (λ b. turn_by b r j) t))
 

@@ -24,7 +24,7 @@ column-helps-requires : tie.Need-column_helps-requires invariant-loop decreases-
 column-helps-requires c κs =
     let s = c.before.before.before.before in
     let v = c.before.loop-v.v in
-    (c.loop-v-test.true, (omega (arith, s.requires.kinds_len), s.requires.by_index v c.loop-v-test.true))
+    (c.loop-v-test.true, (omega (arith, s.requires.0), s.requires.1 v c.loop-v-test.true))
 
 returns : tie.Need-returns-then-column_helps invariant-loop decreases-loop
 unfolding helping_of

@@ -30,7 +30,7 @@ shared-slice-element-row-narrow : tie.Need-bounds-t-k invariant-loop decreases-l
 shared-slice-element-row-narrow c = c.loop-k-test.true
 
 row-narrow-requires : tie.Need-row_narrow-requires invariant-loop decreases-loop
-row-narrow-requires c κs = record { j_bound = c.before.before.before.requires.0; line = c.before.before.before.requires.1 c.before.before.loop.k c.before.loop-test.true }
+row-narrow-requires c κs = (c.before.before.before.requires.0, c.before.before.before.requires.1 c.before.before.loop.k c.before.loop-test.true)
 
 returns : tie.Need-returns-then-not-row_narrow invariant-loop decreases-loop
 returns c =

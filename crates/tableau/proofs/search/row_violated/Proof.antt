@@ -25,7 +25,7 @@ mul-x : tie.Need-offset_bounds-t-i
 mul-x c = search rules
 
 index-1-x : tie.Need-bounds-t-i
-index-1-x c = c.before.before.before.before.requires.v_in_bounds_2.1 c.if-i-lt64.true
+index-1-x c = c.before.before.before.before.requires.1.1 c.if-i-lt64.true
 
 index-2-x : tie.Need-bounds-t-1
 index-2-x c = search rules

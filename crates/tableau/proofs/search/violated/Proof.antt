@@ -24,7 +24,7 @@ row-violated-requires : tie.Need-row_violated-requires invariant-loop decreases-
 row-violated-requires c κs =
     let s = c.before.before.before.before in
     let v = c.before.loop-v.v in
-    (c.loop-v-test.true, (omega (arith, s.requires.kinds_len), s.requires.by_index v c.loop-v-test.true))
+    (c.loop-v-test.true, (omega (arith, s.requires.0), s.requires.1 v c.loop-v-test.true))
 
 returns : tie.Need-returns-then-row_violated invariant-loop decreases-loop
 unfolding violated_of

@@ -19,7 +19,7 @@ returns-2 : tie.Need-returns-then-qh-ne0
 returns-2 c = (once _, omega arith)
 
 sub-if3 : tie.Need-overflow_sub-ph
-sub-if3 c = omega (arith, c.before.before.before.product-p.type-inv)
+sub-if3 c = omega (arith, c.before.before.before.product-p.type_inv)
 
 returns-3 : tie.Need-returns-then-ph-ql
 returns-3 c = (once _, omega arith)

@@ -21,7 +21,7 @@ is-below-requires : tie.Need-is_below-s-requires
 is-below-requires c κs = search rules
 
 word : (c : tie.After-magnitude-l) → c.magnitude-l.result < 18446744073709551616
-word c = omega (arith, c.magnitude-l.type-inv)
+word c = omega (arith, c.magnitude-l.type_inv)
 
 returns : tie.Need-returns
 returns c =

@@ -43,7 +43,7 @@ loop-again c =
     let x = c.before in let i = x.before in let l = i.before.loop-i in let s = i.before.before in
     let r = cells s.args.r.now in
     let e : size c.divisor_with-g.result ≡ gcd (nat_abs (get_or r l.i (pos 0))) (size l.g) =
-    c.divisor_with-g.ensures ∙ ap (λ (z : ℤ). gcd (nat_abs z) (size l.g)) x.Cell-at.ensures.0 in
+    c.divisor_with-g.ensures ∙ ap (λ (z : ℤ). gcd (nat_abs z) (size l.g)) x.cell_at-x.ensures.0 in
     let h : l.i < length r = omega (arith, i.loop-i-test.true, s.requires.1.fit, s.requires.1.long) in
     (omega arith, ap (λ (g : ℕ). R.divisor_from g (drop (l.i + 1) r)) e ∙ L.divisor-step r l.i (size l.g) h ∙ l.invariant.1)
 

@@ -33,7 +33,7 @@ cell-at-requires : tie.Need-cell_at-x-requires invariant-loop decreases-loop
 cell-at-requires c κs = let s = c.before.before.before in (c.before.before.loop.invariant.1, omega (arith, c.before.loop-test.true, s.requires.1.fit))
 
 quotient-requires : tie.Need-quotient-z-requires invariant-loop decreases-loop
-quotient-requires c κs = (c.Cell-at.ensures.1, c.before.before.before.before.requires.2)
+quotient-requires c κs = (c.cell_at-x.ensures.1, c.before.before.before.before.requires.2)
 
 set-cell-requires : tie.Need-set_cell-requires invariant-loop decreases-loop
 set-cell-requires c κs =
@@ -55,7 +55,7 @@ loop-again c =
       omega arith,
       c.set_cell.ensures.sheet,
       c.set_cell.ensures.is
-          ∙ L.up_to-more (pos 0) (L.each (by (pos (size s.args.d)))) l.i r (cells l.r) _ h l.invariant.2 (d.quotient-z.ensures.0 ∙ ap (λ (z : ℤ). quot_z z (pos (size s.args.d))) x.Cell-at.ensures.0),
+          ∙ L.up_to-more (pos 0) (L.each (by (pos (size s.args.d)))) l.i r (cells l.r) _ h l.invariant.2 (d.quotient-z.ensures.0 ∙ ap (λ (z : ℤ). quot_z z (pos (size s.args.d))) x.cell_at-x.ensures.0),
     )
 
 returns : tie.Need-returns invariant-loop decreases-loop

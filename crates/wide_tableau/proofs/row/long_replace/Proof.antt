@@ -27,7 +27,7 @@ start c = c.before.before.before.before.before.before.before
 
 -- minus the entry
 other : (c : tie.After-negate-c) → let s = c.before.before.before in value_of c.negate-c.result ≡ pos 0 -ℤ R.entry (cells s.args.r.now) s.args.j
-other c = let s = c.before.before.before in c.negate-c.ensures.0 ∙ ap neg_ℤ c.before.Cell-at.ensures.0 ∙ sym (L.minus_is (R.entry (cells s.args.r.now) s.args.j))
+other c = let s = c.before.before.before in c.negate-c.ensures.0 ∙ ap neg_ℤ c.before.cell_at-b.ensures.0 ∙ sym (L.minus_is (R.entry (cells s.args.r.now) s.args.j))
 
 -- the row before it is reduced
 full : (c : tie.After-combine-g) → let s = start c in let r = cells s.args.r.now in

@@ -57,8 +57,8 @@ loop-again : tie.Need-loop-i-preserved invariant-loop decreases-loop
 loop-again c =
     let e = c.before in let x = e.before.before in let i = turn c in let l = i.before.loop-i in let s = i.before.before.before in let h = i.loop-i-test.taken in (
       omega arith,
-      narrowing-next (cells s.args.r.now) l.s l.i l.inv.1 (in-row i) (subst (Within (bound 64)) x.Cell-at.ensures.0 (e.before.is_narrow.ensures (not-false _ e.if-not-is_narrow.false-raw))) _
-          (result_is w64 c.narrow.result c.narrow.type-inv ∙ c.narrow.ensures ∙ x.Cell-at.ensures.0),
+      narrowing-next (cells s.args.r.now) l.s l.i l.inv.1 (in-row i) (subst (Within (bound 64)) x.cell_at-x.ensures.0 (e.before.is_narrow.ensures (not-false _ e.if-not-is_narrow.false-raw))) _
+          (result_is w64 c.narrow.result c.narrow.type_inv ∙ c.narrow.ensures ∙ x.cell_at-x.ensures.0),
     )
 
 returns-2 : tie.Need-returns invariant-loop decreases-loop

@@ -37,7 +37,7 @@ negate-requires c κs = search rules
 set-cell-requires : tie.Need-set_cell-requires invariant-loop decreases-loop
 set-cell-requires c κs =
     let d = c.before in let i = d.before.before.before in let s = i.before.before in
-    (i.before.loop.invariant.1, omega (arith, i.loop-test.true, s.requires.1.fit), lt_of_le_of_lt (le_of_eq d.negate-z.ensures.1) d.before.Cell-at.ensures.1)
+    (i.before.loop.invariant.1, omega (arith, i.loop-test.true, s.requires.1.fit), lt_of_le_of_lt (le_of_eq d.negate-z.ensures.1) d.before.cell_at-x.ensures.1)
 
 add-i : tie.Need-overflow_add-i invariant-loop decreases-loop
 add-i c = search rules
@@ -53,7 +53,7 @@ loop-again c =
     let h : l.i < length r = omega (arith, i.loop-test.true, s.requires.1.fit, s.requires.1.long) in (
       omega arith,
       c.set_cell.ensures.sheet,
-      c.set_cell.ensures.is ∙ L.up_to-more (pos 0) (L.each minus) l.i r (cells l.r) _ h l.invariant.2 (d.negate-z.ensures.0 ∙ ap neg_ℤ x.Cell-at.ensures.0 ∙ sym (L.minus_is (get_or (cells l.r) l.i (pos 0)))),
+      c.set_cell.ensures.is ∙ L.up_to-more (pos 0) (L.each minus) l.i r (cells l.r) _ h l.invariant.2 (d.negate-z.ensures.0 ∙ ap neg_ℤ x.cell_at-x.ensures.0 ∙ sym (L.minus_is (get_or (cells l.r) l.i (pos 0)))),
     )
 
 returns : tie.Need-returns invariant-loop decreases-loop

@@ -47,7 +47,7 @@ unfolding R.helps_at
 returns-2 c =
     let y = c.before in let x = y.before in let e = x.before in let s = e.before.before.before.before.before in let r = cells s.args.r.now in
     let i = get_or s.args.place.now s.args.v 0 in let k = get_or s.args.kinds.now s.args.v 0 in
-    c.is_helping.ensures ∙ ap₂ (R.helps_by k) x.Cell-at.ensures.0 y.cell_at-e.ensures.0
+    c.is_helping.ensures ∙ ap₂ (R.helps_by k) x.cell_at-c.ensures.0 y.cell_at-e.ensures.0
     ∙ sym (ap (λ (b : Bool). cond b false (R.helps_by k (get_or r 1 (pos 0)) (get_or r (i - 64 + 2) (pos 0)))) (le-ltb i 64 e.if-i-lt64.false))
 
 pub column_helps_spec : {M : Type 1} → statement M

@@ -19,7 +19,7 @@ use Rattle.wide_tableau.proofs.search.small.Reads as small-reads
 
 -- what the test of the entry tells
 found : (c : tie.After-is_zero) → let s = c.before.before.before in c.is_zero.result ≡ is_zero (R.entry (cells s.args.r.now) s.args.j)
-found c = let a = c.before.before in let b = a.Cell-at.result in c.is_zero.ensures ∙ zero_is b.neg (size b.magnitude) ∙ ap is_zero a.Cell-at.ensures.0
+found c = let a = c.before.before in let b = a.cell_at-e.result in c.is_zero.ensures ∙ zero_is b.neg (size b.magnitude) ∙ ap is_zero a.cell_at-e.ensures.0
 
 add-cell-at : tie.Need-overflow_add-j
 add-cell-at c = search rules

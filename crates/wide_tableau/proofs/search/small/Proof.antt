@@ -29,7 +29,7 @@ inside : (c : tie.In-loop-i invariant-loop decreases-loop) → c.before.loop-i.i
 inside c = let s = c.before.before in omega (arith, c.loop-i-test.true, s.requires.1.fit, s.requires.1.long)
 
 tested : (c : tie.After-is_small invariant-loop decreases-loop) → c.is_small.result ≡ leb (nat_abs (get_or (cells c.before.before.before.before.args.r.now) c.before.before.before.loop-i.i (pos 0))) (bound 128)
-tested c = c.is_small.ensures ∙ ap (λ (z : ℤ). leb (nat_abs z) (bound 128)) c.before.Cell-at.ensures.0
+tested c = c.is_small.ensures ∙ ap (λ (z : ℤ). leb (nat_abs z) (bound 128)) c.before.cell_at-x.ensures.0
 
 loop-holds : tie.Need-loop-i-init invariant-loop decreases-loop
 loop-holds c = (omega arith, refl)
