@@ -184,13 +184,14 @@ class Turner:
 
     def chains(self, text, env):
         env = dict(env)
-        token = re.compile(rf"(?P<let>\blet (?P<var>[\w']+)(?P<type> : [^=\n]*?)? = )|(?P<head>\)|(?<![\w.'-])[A-Za-z_][^\s(){{}}.;,]*)(?P<fields>(?:\.{NAME})*)")
-        out, last, pending = [], 0, None
+        token = re.compile(rf"\blet (?P<var>[\w']+)(?= [:=])|(?P<head>\)|(?<![\w.'-])[A-Za-z_][^\s(){{}}.;,]*)(?P<fields>(?:\.{NAME})*)")
+        out, last, variable = [], 0, None
         for m in token.finditer(text):
-            if m["let"]:
-                pending = (m["var"], m.end())
-                env.pop(m["var"], None)
+            if m["var"]:
+                variable = m["var"]
+                env.pop(variable, None)
                 continue
+            is_bound = variable and re.search(rf"\blet {re.escape(variable)}( :[^=\n]*)? = \Z", text[: m.start()])
             where = None
             if m["head"] == ")":
                 inner = self.inside(text, m.start())
@@ -200,19 +201,22 @@ class Turner:
                 continue
             else:
                 where = env.get(m["head"])
+            fields = re.findall(rf"\.({NAME})", m["fields"])
             if where is None:
                 # a call of a helper that gives a place: let s = start c in
-                if pending and pending[1] == m.start() and m["head"] in self.functions and not m["fields"]:
-                    env[pending[0]] = self.functions[m["head"]]
-                pending = None
-                continue
-            new, end = self.chain(where, re.findall(rf"\.({NAME})", m["fields"]))
-            if pending and pending[1] == m.start() and end is not None:
-                env[pending[0]] = (where[0], end)
-            pending = None
-            out.append(text[last : m.start("fields")])
-            out.append("".join("." + it for it in new))
-            last = m.end("fields")
+                if is_bound and m["head"] in self.functions and not fields:
+                    env[variable] = self.functions[m["head"]]
+                new = [OWN.get(it, it) for it in fields]
+                # port.py took the field of a number that fits for the ranges of a place
+                if new[-1:] == ["ranges"]:
+                    new[-1] = "fits"
+            else:
+                new, end = self.chain(where, fields)
+                if is_bound and end is not None:
+                    env[variable] = (where[0], end)
+            if fields:
+                out += [text[last : m.start("fields")], "".join("." + it for it in new)]
+                last = m.end("fields")
         out.append(text[last:])
         return "".join(out)
 
@@ -247,10 +251,7 @@ class Turner:
             if i < len(fields) and norm(fields[i]) in variables:
                 new.append(variables[norm(fields[i])])
                 i += 1
-            elif i < len(fields):
-                new.append(OWN.get(fields[i], fields[i]))
-                i += 1
-        return new + fields[i:], None
+        return new + [OWN.get(it, it) for it in fields[i:]], None
 
 
 def main():

@@ -60,7 +60,7 @@ loop-holds : tie.Need-loop-i-init invariant-loop decreases-loop
 loop-holds c = (omega arith, moved_none c.before.args.from c.before.args.read.now)
 
 add_read : tie.Need-overflow_add-read invariant-loop decreases-loop
-add_read c = let l = c.before.before.before.well-formed.0.0 in let m = c.before.before.before.requires.1 in omega arith
+add_read c = let l = c.before.before.before.well_formed.0.0 in let m = c.before.before.before.requires.1 in omega arith
 
 slice-read-read : tie.Need-bounds-read-from invariant-loop decreases-loop
 slice-read-read c = let l = c.before.before.loop-i.invariant.1.long in let m = c.before.before.before.before.requires.1 in omega arith

@@ -66,7 +66,7 @@ returns-2 : tie.Need-returns
 returns-2 c =
     let m = read c.before.before.before.before in let p = (start (move m)).requires in let e = (move m).forward-kept.ensures.0 in
     let x : List ℕ = m.more-got.last.0 in let n : ℕ = (move m).forward-kept.result in
-    let k : c.count.result ≤ length (take (length x - n) (drop n x)) = c.count-k.ensures.0.0 in
+    let k : c.count-k.result ≤ length (take (length x - n) (drop n x)) = c.count-k.ensures.0.0 in
     let a : length x ≡ length (start (move m)).args.read.now = m.more-got.kept.0 ∙ (move m).forward-kept.kept.0 in
     record { kept = stays m; more = omega arith; within = omega (arith, length-take (length x - n) (drop n x), length-drop n x); end = λ q. let z = eqb-true c.count-k.result 0 q in omega arith; goes_on = λ q. let z = eqb-false c.count-k.result 0 q in omega arith; turns_left = omega arith }
 

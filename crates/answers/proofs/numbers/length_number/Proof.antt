@@ -17,7 +17,7 @@ use Rattle.answers.proofs.numbers.length_number.Tie as tie
 
 short : (c : tie.In-Length) → c.before.m-1.given.0.0 < 2 ^ 63
 short c =
-    let h : c.before.m.given.0.0 ≤ longest_set = subst (λ (m : Outcome). Short (outcome_is m)) c.before.m-1.given.1 c.before.before.before.requires in omega arith
+    let h : c.before.m-1.given.0.0 ≤ longest_set = subst (λ (m : Outcome). Short (outcome_is m)) c.before.m-1.given.1 c.before.before.before.requires in omega arith
 
 small : (c : tie.In-Refused) → c.before.m-in-Refused-1.given.0.0 < 2 ^ 63
 small c = let h = c.«known-told2».given in omega arith

@@ -36,7 +36,7 @@ unmoved-requires c κs = search rules
 
 -- how far the two ends move
 low-gap : (c : tie.After-gap-to) → let g = c.before.before in let st = g.before.before.before.before in to_z w64 (of_z w64 g.gap.result) ≡ get_or st.args.low.now st.args.j (pos 0) -ℤ get_or st.args.r.now (56 + st.args.j) (pos 0)
-low-gap c = let g = c.before.before in result_is w64 g.gap.result g.gap.type-inv ∙ g.gap.ensures.0
+low-gap c = let g = c.before.before in result_is w64 g.gap.result g.gap.type_inv ∙ g.gap.ensures.0
 
 high-gap : (c : tie.After-gap-to) → let st = c.before.before.before.before.before.before in to_z w64 (of_z w64 c.gap-to.result) ≡ get_or st.args.high.now st.args.j (pos 0) -ℤ get_or st.args.r.now (120 + st.args.j) (pos 0)
 high-gap c = result_is w64 c.gap-to.result c.gap-to.type_inv ∙ c.gap-to.ensures.0

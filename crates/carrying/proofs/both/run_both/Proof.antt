@@ -60,7 +60,7 @@ from : {A : Type 0} (f : ℕ → List (List ℤ) → List ℕ → A) (c : tie.Af
     ≡ f (reached c).left (reached c).rows (reached c).place
 from f c =
     let e = c.run-e.ensures in let b = (kept c).2 in let p = e.pivots_are in
-    let q : 200 - c.run.result.ended.pivots ≡ (reached c).left = omega arith in
+    let q : 200 - c.run-e.result.ended.pivots ≡ (reached c).left = omega arith in
     ap (λ (l : ℕ). f l c.run-e.new.0 c.run-e.new.1.1.0) q ∙ ap₂ (f (reached c).left) e.rows_are e.place_is
 
 run-requires : tie.Need-run-e-requires

@@ -46,7 +46,7 @@ returns-6 : tie.Need-returns
 returns-6 c =
     let a = c.before in let e4 = a.before in let e3 = e4.before in let u = e3.before in let e2 = u.before in let o = e2.before.before in let st = o.before.before in
     let s = st.args.s.now in let at = st.args.at in let k = a.i32_at-k in
-    let f : SFits w32 k.result = record { sfits = k.type-inv } in
+    let f : SFits w32 k.result = record { sfits = k.type_inv } in
     let i = o.if-s-at-lt-DIVISION_WIDTH.false in
     λ e. record {
       inside = omega arith;

@@ -62,7 +62,7 @@ loop-again c =
     let s = st.args.s.now in let p = st.args.p in let r = m.loop-i.r in let i = m.loop-i.i in let inv = m.loop-i.invariant in
     let h = b.loop-i-test.true in
     let z = result_is w16 c.least.result c.least.type_inv in
-    let e : to_z w16 (of_z w16 a.i16-at.result) ≡ number_at s p i = result_is w16 a.i16_at-v.result a.i16_at-v.type_inv ∙ a.i16_at-v.ensures in
+    let e : to_z w16 (of_z w16 a.i16_at-v.result) ≡ number_at s p i = result_is w16 a.i16_at-v.result a.i16_at-v.type_inv ∙ a.i16_at-v.ensures in
     let g = result_is w16 (get_or r i (pos 0)) x.x-1.given in
     let v : ℤ = to_z w16 (of_z w16 c.least.result) in
     let k : v ≤ℤ number_at s p i = subst₂ ◌≤ℤ◌ (sym z) e c.least.ensures.0 in

@@ -39,7 +39,7 @@ loop-again c = let m = c.before.before.before in let k = m.before in let s = k.b
 
 returns-2 : tie.Need-returns invariant-loop decreases-loop
 returns-2 c = let m = c.before in let k = m.before in let s = k.before.args.s.now in
-    let e : m.loop.j ≡ k.before.args.i = omega arith in
+    let e : m.loop-j.j ≡ k.before.args.i = omega arith in
     subst (λ (x : ℕ). Started s x m.loop-j.at) e m.loop-j.invariant.1
 
 pub start_of_spec : {M : Type 1} → statement M

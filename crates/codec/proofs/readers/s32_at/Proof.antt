@@ -14,12 +14,12 @@ i32-at-requires c κs = search rules
 
 cast-result : tie.Need-overflow_cast-result
 cast-result c =
-    let f : SFits w32 c.i32-at.result = record { sfits = c.i32_at.type_inv } in
+    let f : SFits w32 c.i32_at.result = record { sfits = c.i32_at.type_inv } in
     rw (to_z_of_z f) (within-fits (omega arith) (fits-within f))
 
 returns : tie.Need-returns
 returns c =
-    let f : SFits w32 c.i32-at.result = record { sfits = c.i32_at.type_inv } in
+    let f : SFits w32 c.i32_at.result = record { sfits = c.i32_at.type_inv } in
     let e = to_z_of_z (cast-result c) ∙ to_z_of_z f in
     (e ∙ c.i32_at.ensures, subst (Within 2147483648) (sym e) (fits-within f))
 

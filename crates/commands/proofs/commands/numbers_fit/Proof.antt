@@ -53,7 +53,7 @@ returns-2 : tie.Need-returns invariant-loop decreases-loop
 returns-2 c =
     let st = c.before.before in
     let l = length-take-le st.args.k st.args.s.now st.requires in
-    let h : length (take st.args.k st.args.s.now) ≤ c.before.loop.i = omega arith in
+    let h : length (take st.args.k st.args.s.now) ≤ c.before.loop-i.i = omega arith in
     sym (sym c.before.loop-i.invariant.1 ∙ ap (all (λ (m : ℕ). leb m 3)) (drop_of_length-le (take st.args.k st.args.s.now) h))
 
 pub numbers_fit_spec : {M : Type 1} → statement M

@@ -12,7 +12,7 @@ cast-m c = let st = c.before.before.before.before in let r = c.lasting-m.ensures
 
 noted-all-requires : tie.Need-noted_all-requires
 noted-all-requires c κs =
-    let l = c.before in let st = l.before.before.before.before in let p = st.requires in let d : Lasting st.args.s.now st.args.p st.args.i st.args.tested l.lasting.result = l.lasting-m.ensures.0 in
+    let l = c.before in let st = l.before.before.before.before in let p = st.requires in let d : Lasting st.args.s.now st.args.p st.args.i st.args.tested l.lasting-m.result = l.lasting-m.ensures.0 in
     (p.5, p.6, lasting-along p.0 d, lasting-room p.0 d p.7)
 
 same_length : tie.Need-shape_of-each

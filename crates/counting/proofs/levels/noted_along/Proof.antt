@@ -96,7 +96,7 @@ same_length c = c.before.loop-x.invariant.1.places
 
 returns : tie.Need-returns invariant-loop decreases-loop
 returns c =
-    let m = c.before in let st = m.before.before.before in let v = m.loop-x.invariant in let h = c.loop-x-test.false in let l = v.0 in let e : m.loop.x ≡ st.args.m = omega arith in
+    let m = c.before in let st = m.before.before.before in let v = m.loop-x.invariant in let h = c.loop-x-test.false in let l = v.0 in let e : m.loop-x.x ≡ st.args.m = omega arith in
     subst (λ (n : ℕ). Added st.args.c (line_of st.args.p.low st.args.p.k st.args.i n) st.args.each.now m.loop-x.each) e v.1
 
 pub noted_along_spec : {M : Type 1} → statement M

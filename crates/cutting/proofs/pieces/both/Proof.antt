@@ -28,10 +28,10 @@ abbrev joined : tie.At-loop-k invariant-loop decreases-loop → tie.Else-not-fit
 joined c = c.before.before.before
 
 first-long : (c : tie.Start invariant-loop decreases-loop) → length c.args.a.constraints ≡ 48
-first-long c = simp length-map at c.well-formed.0.1.1.1.0.1.0.1
+first-long c = simp length-map at c.well_formed.0.1.1.1.0.1.0.1
 
 second-long : (c : tie.Start invariant-loop decreases-loop) → length c.args.t2.constraints ≡ 48
-second-long c = simp length-map at c.well-formed.1.0.1.1.1.0.1.0.1
+second-long c = simp length-map at c.well_formed.1.0.1.1.1.0.1.0.1
 
 fits-is : (c : tie.Else-not-fits invariant-loop decreases-loop) → c.before.join-j.result.fits ≡ true
 fits-is c = not-false c.before.join-j.result.fits c.if-not-fits.false-raw

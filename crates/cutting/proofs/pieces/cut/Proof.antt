@@ -62,17 +62,17 @@ abbrev followed : tie.After-cols-in-loop-k-2-1 invariant-loop decreases-loop →
 followed c = c.before.before.before.before.before
 
 first-long : (c : tie.Start invariant-loop decreases-loop) → length c.args.a.constraints ≡ 48
-first-long c = simp length-map at c.well-formed.0.1.1.1.0.1.0.1
+first-long c = simp length-map at c.well_formed.0.1.1.1.0.1.0.1
 
 second-long : (c : tie.Start invariant-loop decreases-loop) → length c.args.t2.constraints ≡ 48
-second-long c = simp length-map at c.well-formed.1.0.1.1.1.0.1.0.1
+second-long c = simp length-map at c.well_formed.1.0.1.1.1.0.1.0.1
 
 -- once joined
 opened : (c : tie.Else-not-fits invariant-loop decreases-loop) → Opened (entered c).args.a (entered c).args.t2 c.before.before.before.before.join-j.result (stepped c.before.begin-s.result.working c.before.begin-s.result.steps c.before.begin-s.result.count)
 opened c =
     let p1 = c.before.before.before.before in
     let b = c.before.begin-s.ensures in
-    let f : p1.join.result.fits ≡ true = not-false p1.join-j.result.fits c.if-not-fits.false-raw in
+    let f : p1.join-j.result.fits ≡ true = not-false p1.join-j.result.fits c.if-not-fits.false-raw in
     record {
       pair = (entered c).requires.0;
       join = p1.join-j.ensures;
@@ -142,8 +142,8 @@ start-requires c κs =
       record {
         divs = let e = b.ensures.divs in let z = j.before.before.before.before.join-j.ensures.few in omega arith;
         cons = let e = b.ensures.cons in let z = p.0.cons in omega arith;
-        divisions = simp length-map at b.type-inv.1.1.0.1.1.0.1.0.1;
-        constraints = simp length-map at b.type-inv.1.1.0.1.1.1.0.1.0.1;
+        divisions = simp length-map at b.type_inv.1.1.0.1.1.0.1.0.1;
+        constraints = simp length-map at b.type_inv.1.1.0.1.1.1.0.1.0.1;
       },
       record { high = p.1.high; long = p.1.long; wide = p.1.wide; many = p.2.many; many' = refl },
     )
@@ -156,7 +156,7 @@ loop-holds c =
     let g = u.ensures in
     let hd : b.result.working.divs ≤ 8 = let e = b.ensures.divs in let z = j.before.before.before.before.join-j.ensures.few in omega arith in
     let hc : b.result.working.cons ≤ 48 = let e = b.ensures.cons in let z = (entered j).requires.0.cons in omega arith in
-    (opened-start (opened j) u.new.1.0 u.new.1.1.0 u.new.1.1.1.0, caught-behind g hd hc, refl, λ z. caught-all g, simp length-map at b.type-inv.1.1.0.1.1.1.0.1.0.1, simp length-map at b.type-inv.1.1.1.0.1.0.1)
+    (opened-start (opened j) u.new.1.0 u.new.1.1.0 u.new.1.1.1.0, caught-behind g hd hc, refl, λ z. caught-all g, simp length-map at b.type_inv.1.1.0.1.1.1.0.1.0.1, simp length-map at b.type_inv.1.1.1.0.1.0.1)
 
 told-requires : tie.Need-told-requires invariant-loop decreases-loop
 told-requires c κs = search rules

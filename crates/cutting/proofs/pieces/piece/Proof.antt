@@ -41,7 +41,7 @@ tight-above-requires : tie.Need-tight_above-p-requires
 tight-above-requires c κs =
     let a = c.before.before.args in
     let s = c.before.before.requires in
-    let l : length a.t1.constraints ≡ 48 = simp length-map at c.before.before.well-formed.0.1.1.1.0.1.0.1 in
+    let l : length a.t1.constraints ≡ 48 = simp length-map at c.before.before.well_formed.0.1.1.1.0.1.0.1 in
     let w : length (take a.t1.cons a.t1.constraints) ≡ a.t1.cons = length-take-le a.t1.cons a.t1.constraints (let z = s.sound.cons in omega arith) in
     let h : a.v / 2 < a.t1.cons = omega (arith, s.step.inside, length-map (take a.t1.cons a.t1.constraints) constraint_of) in
     let e = read_is a.t1.constraints a.t1.cons (a.v / 2) h in
@@ -53,7 +53,7 @@ put-requires : tie.Need-put-requires
 put-requires c κs =
     let a = c.before.before.before.args in
     let s = c.before.before.before.requires in
-    let l : length a.t1.constraints ≡ 48 = simp length-map at c.before.before.before.well-formed.0.1.1.1.0.1.0.1 in
+    let l : length a.t1.constraints ≡ 48 = simp length-map at c.before.before.before.well_formed.0.1.1.1.0.1.0.1 in
     let w : length (take a.t1.cons a.t1.constraints) ≡ a.t1.cons = length-take-le a.t1.cons a.t1.constraints (let z = s.sound.cons in omega arith) in
     let h : a.v / 2 < a.t1.cons = omega (arith, s.step.inside, length-map (take a.t1.cons a.t1.constraints) constraint_of) in
     let e = read_is a.t1.constraints a.t1.cons (a.v / 2) h in
@@ -63,11 +63,11 @@ returns : tie.Need-returns-then-v-eq1
 returns c =
     let a = c.before.before.before.before.args in
     let s = c.before.before.before.before.requires in
-    let l : length a.t1.constraints ≡ 48 = simp length-map at c.before.before.before.before.well-formed.0.1.1.1.0.1.0.1 in
+    let l : length a.t1.constraints ≡ 48 = simp length-map at c.before.before.before.before.well_formed.0.1.1.1.0.1.0.1 in
     let w : length (take a.t1.cons a.t1.constraints) ≡ a.t1.cons = length-take-le a.t1.cons a.t1.constraints (let z = s.sound.cons in omega arith) in
     let h : a.v / 2 < a.t1.cons = omega (arith, s.step.inside, length-map (take a.t1.cons a.t1.constraints) constraint_of) in
     let e = read_is a.t1.constraints a.t1.cons (a.v / 2) h in
-    let o : T.tight (C.above (get_or (basic_set_of a.t1).constraints (a.v / 2) no_rule)) ≡ constraint_of c.before.tight-above.result = ap (λ (x : S.Constraint). T.tight (C.above x)) e ∙ sym c.before.tight_above-p.ensures in
+    let o : T.tight (C.above (get_or (basic_set_of a.t1).constraints (a.v / 2) no_rule)) ≡ constraint_of c.before.tight_above-p.result = ap (λ (x : S.Constraint). T.tight (C.above x)) e ∙ sym c.before.tight_above-p.ensures in
     record {
       is = c.put.ensures.is ∙ sym (ap₂ (λ (b : Bool) (x : S.Constraint). with_last (basic_set_of a.t1) (a.v / 2) (cond b x (T.tight (C.below (get_or (basic_set_of a.t1).constraints (a.v / 2) no_rule))))) (eq-eqb (a.v % 2) 1 c.before.before.if-v-eq1.true) o);
       divs = c.put.ensures.divs;
@@ -78,7 +78,7 @@ tight-below-requires : tie.Need-tight_below-o-requires
 tight-below-requires c κs =
     let a = c.before.before.args in
     let s = c.before.before.requires in
-    let l : length a.t1.constraints ≡ 48 = simp length-map at c.before.before.well-formed.0.1.1.1.0.1.0.1 in
+    let l : length a.t1.constraints ≡ 48 = simp length-map at c.before.before.well_formed.0.1.1.1.0.1.0.1 in
     let w : length (take a.t1.cons a.t1.constraints) ≡ a.t1.cons = length-take-le a.t1.cons a.t1.constraints (let z = s.sound.cons in omega arith) in
     let h : a.v / 2 < a.t1.cons = omega (arith, s.step.inside, length-map (take a.t1.cons a.t1.constraints) constraint_of) in
     let e = read_is a.t1.constraints a.t1.cons (a.v / 2) h in
@@ -90,7 +90,7 @@ put-requires-2 : tie.Need-put-requires-2
 put-requires-2 c κs =
     let a = c.before.before.before.args in
     let s = c.before.before.before.requires in
-    let l : length a.t1.constraints ≡ 48 = simp length-map at c.before.before.before.well-formed.0.1.1.1.0.1.0.1 in
+    let l : length a.t1.constraints ≡ 48 = simp length-map at c.before.before.before.well_formed.0.1.1.1.0.1.0.1 in
     let w : length (take a.t1.cons a.t1.constraints) ≡ a.t1.cons = length-take-le a.t1.cons a.t1.constraints (let z = s.sound.cons in omega arith) in
     let h : a.v / 2 < a.t1.cons = omega (arith, s.step.inside, length-map (take a.t1.cons a.t1.constraints) constraint_of) in
     let e = read_is a.t1.constraints a.t1.cons (a.v / 2) h in
@@ -100,11 +100,11 @@ returns-2 : tie.Need-returns
 returns-2 c =
     let a = c.before.before.before.before.args in
     let s = c.before.before.before.before.requires in
-    let l : length a.t1.constraints ≡ 48 = simp length-map at c.before.before.before.before.well-formed.0.1.1.1.0.1.0.1 in
+    let l : length a.t1.constraints ≡ 48 = simp length-map at c.before.before.before.before.well_formed.0.1.1.1.0.1.0.1 in
     let w : length (take a.t1.cons a.t1.constraints) ≡ a.t1.cons = length-take-le a.t1.cons a.t1.constraints (let z = s.sound.cons in omega arith) in
     let h : a.v / 2 < a.t1.cons = omega (arith, s.step.inside, length-map (take a.t1.cons a.t1.constraints) constraint_of) in
     let e = read_is a.t1.constraints a.t1.cons (a.v / 2) h in
-    let o : T.tight (C.below (get_or (basic_set_of a.t1).constraints (a.v / 2) no_rule)) ≡ constraint_of c.before.tight-below.result = ap (λ (x : S.Constraint). T.tight (C.below x)) e ∙ sym c.before.tight_below-o.ensures in
+    let o : T.tight (C.below (get_or (basic_set_of a.t1).constraints (a.v / 2) no_rule)) ≡ constraint_of c.before.tight_below-o.result = ap (λ (x : S.Constraint). T.tight (C.below x)) e ∙ sym c.before.tight_below-o.ensures in
     record {
       is = c.put-2.ensures.is ∙ sym (ap₂ (λ (b : Bool) (x : S.Constraint). with_last (basic_set_of a.t1) (a.v / 2) (cond b (T.tight (C.above (get_or (basic_set_of a.t1).constraints (a.v / 2) no_rule))) x)) (ne_eqb (a.v % 2) 1 c.before.before.if-v-eq1.false) o);
       divs = c.put-2.ensures.divs;

@@ -36,7 +36,7 @@ lowest : (c : tie.After-gcd-d) → let y = c.before in let x = first y in let s 
     (0 < size c.gcd-d.result) × (divided_by (size c.gcd-d.result) (sketch_of x.combine-g.last.0 y.combine-h.new.0) ≡ substituted s.args.v (cells s.args.r.now) (sketch_of s.args.row.now s.args.waiting.now))
 lowest c =
     let y = c.before in let x = first y in let k = x.before.before.before in
-    let e : size c.gcd.result ≡ gcd (size x.combine.result) (size y.combine2.result) = c.gcd-d.ensures in
+    let e : size c.gcd-d.result ≡ gcd (size x.combine-g.result) (size y.combine-h.result) = c.gcd-d.ensures in
     K.lowest-is (parts k) (start k).pre.4 x.combine-g.ensures.is y.combine-h.ensures.is (size c.gcd-d.result) (size x.combine-g.result) (size y.combine-h.result) e x.combine-g.ensures.divisor_is y.combine-h.ensures.divisor_is
 
 cell-at-requires : tie.Need-cell_at-m-requires

@@ -15,7 +15,7 @@ high-requires : tie.Need-high-requires
 high-requires c κs = search rules
 
 low_word : (c : tie.Start) → c.args.f.denominator.lo < 18446744073709551616
-low_word c = omega (arith, c.well-formed)
+low_word c = omega (arith, c.well_formed)
 
 four : {a a' b b' c c' d d' : ℕ} → a ≡ a' → b ≡ b' → c ≡ c' → d ≡ d' → (a ∷ b ∷ c ∷ d ∷ []) ≡ (a' ∷ b' ∷ c' ∷ d' ∷ [])
 four p q r s = ap₂ ◌∷◌ p (ap₂ ◌∷◌ q (ap₂ ◌∷◌ r (ap (λ (i : ℕ). i ∷ []) s)))

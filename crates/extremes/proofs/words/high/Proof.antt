@@ -15,10 +15,10 @@ use Rattle.extremes.proofs.words.high.Statement.{statement}
 use Rattle.extremes.proofs.words.high.Tie as tie
 
 high_word : (c : tie.Start) → c.args.x.magnitude.hi < 18446744073709551616
-high_word c = omega (arith, c.well-formed)
+high_word c = omega (arith, c.well_formed)
 
 low_word : (c : tie.Start) → c.args.x.magnitude.lo < 18446744073709551616
-low_word c = omega (arith, c.well-formed)
+low_word c = omega (arith, c.well_formed)
 
 abbrev start : tie.Else-not-is_negative → tie.Start
 start c = c.before.before.before

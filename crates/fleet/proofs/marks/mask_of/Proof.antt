@@ -71,7 +71,7 @@ loop-again c = let v = c.before.before.loop-i.invariant in let h = v.0 in (omega
 
 returns : tie.Need-returns invariant-loop decreases-loop
 returns c =
-    let m = c.before in let z : m.loop.i ≡ 0 = omega (arith, c.loop-i-test.false) in
+    let m = c.before in let z : m.loop-i.i ≡ 0 = omega (arith, c.loop-i-test.false) in
     m.loop-i.invariant.2 ∙ ap (λ (j : ℕ). mask_of itself (drop j (flags_of m.before))) z
 
 pub mask_of_spec : {M : Type 1} → statement M

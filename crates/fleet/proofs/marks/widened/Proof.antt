@@ -56,7 +56,7 @@ loop-again c =
 returns : tie.Need-returns invariant-loop decreases-loop
 returns c =
     let m = c.before in let v = m.loop-i.invariant in let xs = m.before.args.points.now in
-    let e : m.loop.i ≡ length xs = omega (arith, c.loop-i-test.false, v.0) in
+    let e : m.loop-i.i ≡ length xs = omega (arith, c.loop-i-test.false, v.0) in
     (sym (ap (λ (j : ℕ). take j m.loop-i.r) e) ∙ v.2 ∙ ap (λ (j : ℕ). take j xs) e ∙ take-length xs, v.1)
 
 pub widened_spec : {M : Type 1} → statement M

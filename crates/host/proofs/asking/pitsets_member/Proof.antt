@@ -25,7 +25,7 @@ returns c =
     let m = c.before in let p = m.before in let st = p.before.before in let f = st.ranges in
     let a = st.args in let x : List ℤ = a.x1 ∷ a.x2 ∷ a.x3 ∷ a.x4 ∷ a.x5 ∷ a.x6 ∷ a.x7 ∷ a.x8 ∷ [] in
     let e : p.point.result ≡ x = p.point.ensures ∙ search coordinates depth 12 in
-    result_is w64 _ c.«member-number».type-inv ∙ c.«member-number».ensures
+    result_is w64 _ c.«member-number».type_inv ∙ c.«member-number».ensures
     ∙ ap member_number (m.member.ensures ∙ ap (member_bytes a.n a.set.now) e)
 
 pub pitsets_member_spec : {M : Type 1} → statement M

@@ -76,12 +76,12 @@ loop-again c =
     let s : suc (k - 1) ≡ k = omega arith in
     let z = result_is w16 (get_or st.args.t1 (k - 1) (pos 0)) c.c-1.given in
     let p : get_or st.args.t2 (k - 1) 0 ≡ get_or is (k - 1) 0 = sym (get_or-take st.args.n st.args.t2 (k - 1) 0 (omega arith)) in
-    let t : c.before.before.loop.to ≡ move (drop (suc (k - 1)) is) (drop (suc (k - 1)) st.args.t1) = c.before.before.loop-k.invariant.1 ∙ ap (λ (j : ℕ). move (drop j is) (drop j st.args.t1)) (sym s) in
+    let t : c.before.before.loop-k.to ≡ move (drop (suc (k - 1)) is) (drop (suc (k - 1)) st.args.t1) = c.before.before.loop-k.invariant.1 ∙ ap (λ (j : ℕ). move (drop j is) (drop j st.args.t1)) (sym s) in
     (omega arith, (λ i. set (t i) (p i) (z i)) ∙ move-next is st.args.t1 (k - 1) st.requires.1 (omega arith) (omega arith))
 
 -- src/divisions.rt:105:1
 returns : tie.Need-returns invariant-loop decreases-loop
-returns c = let z : c.before.loop.k ≡ 0 = c.loop-k-test.false in c.before.loop-k.invariant.1 ∙ ap (λ (j : ℕ). move (drop j (take c.before.before.args.n c.before.before.args.t2)) (drop j c.before.before.args.t1)) z
+returns c = let z : c.before.loop-k.k ≡ 0 = c.loop-k-test.false in c.before.loop-k.invariant.1 ∙ ap (λ (j : ℕ). move (drop j (take c.before.before.args.n c.before.before.args.t2)) (drop j c.before.before.args.t1)) z
 
 pub at_places_spec : {M : Type 1} → statement M
 at_places_spec =

@@ -141,7 +141,7 @@ loop-again c =
     ⊎_elim
     (λ w.
     let n = halfway-found D E a.n L.k J L.taken (take L.k L.places) L.invariant.6 (division_of no_division) h c.before.seek-i.result s w.0.taken L.invariant.5 (omega arith) in
-    let p : take (L.k + 1) (set L.places L.k c.before.seek.result) ≡ take L.k L.places ++ (c.before.seek.result ∷ []) = rw (add-one) (take-suc-set L.places L.k c.before.seek-i.result (omega arith)) in
+    let p : take (L.k + 1) (set L.places L.k c.before.seek-i.result) ≡ take L.k L.places ++ (c.before.seek-i.result ∷ []) = rw (add-one) (take-suc-set L.places L.k c.before.seek-i.result (omega arith)) in
     rw (w.1, w.2, w.3, w.4) (
       omega arith,
       omega arith,

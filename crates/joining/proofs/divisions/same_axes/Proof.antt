@@ -78,7 +78,7 @@ returns-2 c =
     let y = c.before.before.args.t2 in
     let l : length x ≡ 8 = search rules in
     let m : length y ≡ 8 = search rules in
-    let z : c.before.loop.i ≡ 8 = omega arith in
+    let z : c.before.loop-i.i ≡ 8 = omega arith in
     sym (list-end x y l m) ∙ ap (λ (i : ℕ). same_list (drop i x) (drop i y)) (sym z) ∙ c.before.loop-i.invariant.1
 
 pub same_axes_spec : {M : Type 1} → statement M

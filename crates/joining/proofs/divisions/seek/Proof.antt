@@ -97,7 +97,7 @@ returns-2 c =
     let l : length a.t2 ≡ 8 = search rules in
     let w : length (take a.n a.t2) ≡ a.n = length-take-le a.n a.t2 (omega arith) in
     let m : length D ≡ a.n = length-map (take a.n a.t2) division_of ∙ w in
-    let z : c.before.loop.i ≡ a.n = omega arith in
+    let z : c.before.loop-i.i ≡ a.n = omega arith in
     record { found = λ used s. c.before.loop-i.invariant.1 used s ∙ ap (λ (i : ℕ). C.seek (division_of a.e) used i (drop i D)) z ∙ seek-end (division_of a.e) used D a.n m ∙ sym (place_none a.n a.n (omega arith)) }
 
 pub seek_spec : {M : Type 1} → statement M

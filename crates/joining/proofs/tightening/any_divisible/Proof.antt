@@ -18,7 +18,7 @@ abbrev decreases-loop : tie.decreases-loop-k
 decreases-loop b n k₀ k = n - k
 
 long : (c : tie.Start invariant-loop decreases-loop) → length c.args.t1.constraints ≡ 48
-long c = simp length-map at c.well-formed.0.1.1.1.0.1.0.1
+long c = simp length-map at c.well_formed.0.1.1.1.0.1.0.1
 
 loop-holds : tie.Need-loop-k-init invariant-loop decreases-loop
 loop-holds c = undivided-start c.args.t1

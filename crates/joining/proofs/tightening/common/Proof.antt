@@ -54,8 +54,8 @@ loop-again c =
     let j = lo.loop-k.k - 1 in
     let z = get_or xs j (pos 0) in
     let l : length xs ≡ 8 = search rules in
-    let i : lo.loop.k ≡ j + 1 = omega arith in
-    let e : c.divisor-with.result ≡ gcd (nat_abs z) lo.loop.r = c.divisor_with-r.ensures ∙ ap (λ (y : ℤ). gcd (nat_abs y) lo.loop-k.r) (result_is w16 z c.before.divisor_with-arg-1.given) in (
+    let i : lo.loop-k.k ≡ j + 1 = omega arith in
+    let e : c.divisor_with-r.result ≡ gcd (nat_abs z) lo.loop-k.r = c.divisor_with-r.ensures ∙ ap (λ (y : ℤ). gcd (nat_abs y) lo.loop-k.r) (result_is w16 z c.before.divisor_with-arg-1.given) in (
       omega arith,
       e ∙ ap (gcd (nat_abs z)) (lo.loop-k.invariant.1 ∙ ap (λ (n : ℕ). common_from g (drop n xs)) i) ∙ sym (common-step xs j g (omega arith)),
       subst (λ (n : ℕ). n ≤ 32768) (sym e) (gcd-small (nat_abs z) lo.loop-k.r (fits-small z (record { sfits = c.before.divisor_with-arg-1.given })) lo.loop-k.invariant.2),

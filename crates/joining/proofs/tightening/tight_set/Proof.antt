@@ -17,7 +17,7 @@ abbrev decreases-loop : tie.decreases-loop-k
 decreases-loop b n w₀ k₀ w k = n - k
 
 long : (c : tie.Start invariant-loop decreases-loop) → length c.args.b.constraints ≡ 48
-long c = simp length-map at c.well-formed.0.1.1.1.0.1.0.1
+long c = simp length-map at c.well_formed.0.1.1.1.0.1.0.1
 
 loop-holds : tie.Need-loop-k-init invariant-loop decreases-loop
 loop-holds c = passed_start c.args.b

@@ -49,7 +49,7 @@ loop-again c =
     let i = lo.loop-i.i in
     let l : length xs ≡ 8 = search rules in
     let h = u.before.before.loop-i-test.true in
-    let e : u.is-unit.result ≡ is_unit (get_or xs i (pos 0)) = u.is_unit.ensures ∙ ap is_unit (result_is w16 (get_or xs i (pos 0)) u.before.is_unit-arg-1.given) in (
+    let e : u.is_unit.result ≡ is_unit (get_or xs i (pos 0)) = u.is_unit.ensures ∙ ap is_unit (result_is w16 (get_or xs i (pos 0)) u.before.is_unit-arg-1.given) in (
       omega arith,
       ⊎_elim
           (λ w. ap (λ (b : Bool). b || any is_unit (drop (i + 1) xs)) w.1 ∙ sym (found-yes is_unit xs i (omega arith) lo.loop-i.found (sym e ∙ w.0.taken)) ∙ lo.loop-i.invariant.1)

@@ -59,7 +59,7 @@ same_length c = wrote-length c.before.loop-i.invariant.1.wrote
 returns : tie.Need-returns invariant-loop decreases-loop
 returns c =
     let st = c.before.before.before.before in
-    let e : c.before.loop.i ≡ st.args.count = omega arith in
+    let e : c.before.loop-i.i ≡ st.args.count = omega arith in
     subst (λ (i : ℕ). Writes (22 * i) (concat_map number (signed_list i (drop st.args.p st.args.t.now))) st.args.out.now st.args.at c.before.loop-i.k c.before.loop-i.out) e
     c.before.loop-i.invariant.1
 

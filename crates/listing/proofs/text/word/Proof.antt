@@ -47,8 +47,8 @@ same_length c = wrote-length c.before.loop-i.invariant.1
 returns : tie.Need-returns invariant-loop decreases-loop
 returns c =
     let st = c.before.before in
-    let e : c.before.loop.i ≡ length st.args.w.now = omega arith in
-    let t : take c.before.loop.i st.args.w.now ≡ st.args.w.now = rw e (take-length st.args.w.now) in
+    let e : c.before.loop-i.i ≡ length st.args.w.now = omega arith in
+    let t : take c.before.loop-i.i st.args.w.now ≡ st.args.w.now = rw e (take-length st.args.w.now) in
     record { short = omega arith; wrote = subst (λ (n : ℕ). Wrote st.args.w.now st.args.out.now st.args.at (st.args.at + n) c.before.loop-i.out) e (rw t at c.before.loop-i.invariant.1) }
 
 pub word_spec : {M : Type 1} → statement M

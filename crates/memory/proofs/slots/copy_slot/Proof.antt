@@ -31,7 +31,7 @@ mul-copy-rows-2 c = search rules
 
 copy-rows-requires : tie.Need-copy_rows-requires
 copy-rows-requires c κs =
-    let m = c.before in let s = m.before.before.before.before.before in let e = m.at_most-n.ensures in let l : m.at_most.result ≤ 64 = omega arith in
+    let m = c.before in let s = m.before.before.before.before.before in let e = m.at_most-n.ensures in let l : m.at_most-n.result ≤ 64 = omega arith in
     let a = s.requires.1 in let b = s.requires.2 in let h = s.requires.0.rows in record { source = omega arith; target = omega arith; apart = λ q. omega arith }
 
 mul-copy-words : tie.Need-overflow_mul-from-3

@@ -57,7 +57,7 @@ returns : tie.Need-returns-then-not-on invariant-loop decreases-loop
 returns c = let m = c.before.before.before.before.before.before.meet_first-t in let a = c.before.before.before.before.before.before.before.before.before.before.before.before.before.before.before.before.before.args in intersection-made (set_from a.a.now 0) (set_from a.b.now 0) (along-stop c.before.before.before.before.before.before.before.before.before.before.before.before.before.loop-pos.invariant c.before.before.before.before.before.before.before.before.before.before.before.before.loop-pos-test.true c.before.before.before.before.before.before.before.before.before.before.before.decode_basic-p.ensures m.ensures (not-true m.result.fits c.if-not-on.true-raw))
 
 add-end-of : tie.Need-overflow_add-pos-in-loop-pos invariant-loop decreases-loop
-add-end-of c = let g = c.before.before.before.before.before.before.before.before.before.before.before.before.before.before.before.before.before.well-formed.0 in omega (arith, c.before.before.before.before.before.before.before.before.before.before.before.before.loop-pos-test.true)
+add-end-of c = let g = c.before.before.before.before.before.before.before.before.before.before.before.before.before.before.before.before.before.well_formed.0 in omega (arith, c.before.before.before.before.before.before.before.before.before.before.before.before.loop-pos-test.true)
 
 end-of-requires : tie.Need-end_of-pos-requires invariant-loop decreases-loop
 end-of-requires c κs = along-opened c.before.before.before.before.before.before.before.before.before.before.before.before.before.loop-pos.invariant c.before.before.before.before.before.before.before.before.before.before.before.before.loop-pos-test.true

@@ -52,7 +52,7 @@ same-length-3 c = search rules
 
 returns : tie.Need-returns invariant-loop decreases-loop
 returns c =
-    let h : c.before.loop.i ≡ c.before.before.before.before.args.times = omega arith in
+    let h : c.before.loop-i.i ≡ c.before.before.before.before.args.times = omega arith in
     rw h at c.before.loop-i.invariant.1
 
 pub tests_spec : {M : Type 1} → statement M

@@ -41,8 +41,8 @@ returns c =
     let x = st.args.x.now in
     let d = st.args.d in
     let n : ℤ = constant_in t +ℤ dot (axes_in t) x in
-    let v : to_z w64 (of_z w64 (to_z w64 (of_z w64 s.s32-at.result) +ℤ to_z w64 (of_z w64 a.dot_at.result))) ≡ n = to_z_of_z (add-c a) ∙ ap₂ ◌+ℤ◌ (result_is w64 s.s32_at.result s.s32_at.type_inv ∙ s.s32_at.ensures.0) (result_is w64 a.dot_at.result a.dot_at.type_inv ∙ a.dot_at.ensures.0) in
-    let e : to_z w64 (of_z w64 c.floor-div.result) ≡ quotient x (read_division d t) = result_is w64 c.floor_div.result c.floor_div.type_inv ∙ c.floor_div.ensures ∙ ap₂ (λ (z w : ℤ). floor_div z (nat_abs w)) v (to_z-nat w64 d 4294967296 st.requires.4 tt) in
+    let v : to_z w64 (of_z w64 (to_z w64 (of_z w64 s.s32_at.result) +ℤ to_z w64 (of_z w64 a.dot_at.result))) ≡ n = to_z_of_z (add-c a) ∙ ap₂ ◌+ℤ◌ (result_is w64 s.s32_at.result s.s32_at.type_inv ∙ s.s32_at.ensures.0) (result_is w64 a.dot_at.result a.dot_at.type_inv ∙ a.dot_at.ensures.0) in
+    let e : to_z w64 (of_z w64 c.floor_div.result) ≡ quotient x (read_division d t) = result_is w64 c.floor_div.result c.floor_div.type_inv ∙ c.floor_div.ensures ∙ ap₂ (λ (z w : ℤ). floor_div z (nat_abs w)) v (to_z-nat w64 d 4294967296 st.requires.4 tt) in
     let hn : Within 549755813888 n = sum-within (subst (Within 2147483648) s.s32_at.ensures.0 s.s32_at.ensures.1) (subst (Within (8 * (32768 * 1048576))) a.dot_at.ensures.0 (a.dot_at.ensures.1 1048576 st.requires.2)) in
     (e, subst (Within 549755813888) (sym e) (floor-within 549755813888 n d hn))
 

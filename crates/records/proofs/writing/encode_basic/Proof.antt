@@ -101,7 +101,7 @@ same_length c = let m₂ = c.before in let m = m₂.before.before in let o = m.b
 
 returns : tie.Need-returns invariant-loop decreases-loop invariant-loop2 decreases-loop2
 returns c = let m₂ = c.before in let m = m₂.before.before in let o = m.before.before.before in let st = o.before.before.before in let b = st.args.t1 in
-    let i : m.loop.i ≡ b.divs = omega arith in let j : m₂.loop2.j ≡ b.cons = omega arith in
+    let i : m.loop-i.i ≡ b.divs = omega arith in let j : m₂.loop-j.j ≡ b.cons = omega arith in
     let x = subst (λ (k : ℕ). Emitted (concat_map division_bytes (take k b.divisions)) o.emit_opening-p.new.0 o.emit_opening-p.result m.loop-i.p m.loop-i.out) i m.loop-i.invariant.3 in
     let y = subst (λ (k : ℕ). Emitted (concat_map constraint_bytes (take k b.constraints)) m.loop-i.out m.loop-i.p m₂.loop-j.p m₂.loop-j.out) j m₂.loop-j.invariant.3 in
     subst (λ (l : List ℕ). Emitted l st.args.out.now st.args.at m₂.loop-j.p m₂.loop-j.out) (sym (encode-basic b)) (emitted-more (emitted-more o.emit_opening-p.ensures x) y)

@@ -50,7 +50,7 @@ mul-magnitude c = ask (quotient c) (divisor c) ◌*ℤ◌ (product c)
 
 sub-magnitude : tie.Need-overflow_sub-n
 sub-magnitude c =
-    ask (b-of {z = (x c).end-at.result} (record { sfits = (x c).end-at.type-inv })) (b-op (quotient c) (divisor c) ◌*ℤ◌ (product c)) ◌-ℤ◌
+    ask (b-of {z = (x c).end-at.result} (record { sfits = (x c).end-at.type_inv })) (b-op (quotient c) (divisor c) ◌*ℤ◌ (product c)) ◌-ℤ◌
     (within-fits (omega arith) (within-sub (x c).end-at.ensures.1 (within-mul (quotient-size c) (divisor-size c))))
 
 magnitude-requires : tie.Need-magnitude-requires

@@ -23,7 +23,7 @@ returns : tie.Need-returns
 returns c =
     let w2 = c.before.before in let w = w2.before in let st = w.before.before in let a = st.args in
     let b = subst₂ (λ (u v : List ℤ). Boxed a.n a.s.now u v) (sym w.widened-l.ensures.0) (sym w2.widened-h.ensures.0) st.requires in
-    let g : Standing a.s.now a.n 0 w.widened.result w2.widened2.result = standing-first a.n a.s.now w.widened-l.result w2.widened-h.result b w.widened-l.ensures.1 w2.widened-h.ensures.1 in
+    let g : Standing a.s.now a.n 0 w.widened-l.result w2.widened-h.result = standing-first a.n a.s.now w.widened-l.result w2.widened-h.result b w.widened-l.ensures.1 w2.widened-h.ensures.1 in
     let r = c.laid-count.ensures.laid a.n g.axes in
     record {
       ready = record { standing = g; within = omega arith; fits = st.ranges.limit.fits; lives = live-first a.s.now a.n (sides_of a.n w.widened-l.result w2.widened-h.result) _ r.used };

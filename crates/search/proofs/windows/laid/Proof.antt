@@ -20,7 +20,7 @@ add-fresh : tie.Need-overflow_add-at invariant-loop decreases-loop
 add-fresh c = omega arith
 
 fresh-requires : tie.Need-fresh-requires invariant-loop decreases-loop
-fresh-requires c κs = let g = c.before.before.before.well-formed.0.1 in let h = c.loop-at-test.true in omega arith
+fresh-requires c κs = let g = c.before.before.before.well_formed.0.1 in let h = c.loop-at-test.true in omega arith
 
 free : (c : tie.In-loop-at invariant-loop decreases-loop) → c.before.loop-at.b < 32
 free c = let m = c.before in laying-free m.before.before.args.s.now m.loop-at.rows m.loop-at.at m.loop-at.b m.loop-at.invariant c.loop-at-test.true

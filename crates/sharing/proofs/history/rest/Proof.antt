@@ -38,7 +38,7 @@ returns : tie.Need-returns-in-Stop invariant-loop decreases-loop
 returns c =
     let a = c.before.before.before.before.before.before.before.before.before.args in
     let l = c.before.before.before.before.before.before.loop in
-    let e : move_of l.t l.place a.kinds.now l.left ≡ Stop c.before.m.given.0.0 = sym c.before.before.before.choose-m.ensures ∙ c.before.m-1.given.1 in
+    let e : move_of l.t l.place a.kinds.now l.left ≡ Stop c.before.m-1.given.0.0 = sym c.before.before.before.choose-m.ensures ∙ c.before.m-1.given.1 in
     ap (λ o. o.verdict) (sym (run-stop a.kinds.now l.left l.t l.place c.before.m-1.given.0.0 e) ∙ l.invariant.1)
 
 enum-known-m-2 : tie.Need-enum_known-m-in-Pivot-1 invariant-loop decreases-loop

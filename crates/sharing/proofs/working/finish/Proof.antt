@@ -75,13 +75,13 @@ add-rest c = search rules
 
 slice-relend-prefix-rest : tie.Need-slice_bounds-rest-end
 slice-relend-prefix-rest c =
-    let ls : length c.before.before.before.before.before.before.copy-rows.new.0 ≡ 64 = c.before.before.before.before.before.before.copy_rows.auto.0 ∙ c.before.before.before.before.before.before.before.before.before.before.before.before.before.before.before.before.before.before.requires.1 in
+    let ls : length c.before.before.before.before.before.before.copy_rows.new.0 ≡ 64 = c.before.before.before.before.before.before.copy_rows.auto.0 ∙ c.before.before.before.before.before.before.before.before.before.before.before.before.before.before.before.before.before.before.requires.1 in
     let f = c.before.before.before.before.before.before.before.before.before.before.before.before.before.before.before.before.before.before.requires.0.few in
     (set-count c.before.before.before.before.before.before.copy_rows.new.0 c.before.before.before.before.before.before.before.before.before.before.before.before.before.before.before.before.before.before.args.m c.before.before.before.before.before.before.before.before.before.before.before.before.before.before.before.before.before.before.args.t5 (omega arith)).0
 
 slice-aggregate-rest : tie.Need-slice_bounds-rest-end-2
 slice-aggregate-rest c =
-    let ls : length c.before.before.before.before.before.before.before.copy-rows.new.0 ≡ 64 = c.before.before.before.before.before.before.before.copy_rows.auto.0 ∙ c.before.before.before.before.before.before.before.before.before.before.before.before.before.before.before.before.before.before.before.requires.1 in
+    let ls : length c.before.before.before.before.before.before.before.copy_rows.new.0 ≡ 64 = c.before.before.before.before.before.before.before.copy_rows.auto.0 ∙ c.before.before.before.before.before.before.before.before.before.before.before.before.before.before.before.before.before.before.before.requires.1 in
     let f = c.before.before.before.before.before.before.before.before.before.before.before.before.before.before.before.before.before.before.before.requires.0.few in
     sym (set-count c.before.before.before.before.before.before.before.copy_rows.new.0 c.before.before.before.before.before.before.before.before.before.before.before.before.before.before.before.before.before.before.before.args.m c.before.before.before.before.before.before.before.before.before.before.before.before.before.before.before.before.before.before.before.args.t5 (omega arith)).1
 
@@ -90,13 +90,13 @@ add-seats c = search rules
 
 array-borrow-prefix-seats : tie.Need-slice_bounds-seats-end
 array-borrow-prefix-seats c =
-    let le : length c.before.before.before.copy-names.new.0 ≡ 80 = c.before.before.before.copy_names.auto.0 in
+    let le : length c.before.before.before.copy_names.new.0 ≡ 80 = c.before.before.before.copy_names.auto.0 in
     let g = c.before.before.before.before.before.before.before.before.before.before.before.before.before.before.before.before.before.before.before.requires.0.names in
     (set-count c.before.before.before.copy_names.new.0 c.before.before.before.before.before.before.before.before.before.before.before.before.before.before.before.before.before.before.before.args.v c.before.before.before.before.before.before.before.before.before.before.before.before.before.before.before.before.before.before.before.args.m (omega arith)).0
 
 slice-aggregate-rest-2 : tie.Need-slice_bounds-rest-end-3
 slice-aggregate-rest-2 c =
-    let le : length c.before.before.before.before.copy-names.new.0 ≡ 80 = c.before.before.before.before.copy_names.auto.0 in
+    let le : length c.before.before.before.before.copy_names.new.0 ≡ 80 = c.before.before.before.before.copy_names.auto.0 in
     let g = c.before.before.before.before.before.before.before.before.before.before.before.before.before.before.before.before.before.before.before.before.requires.0.names in
     sym (set-count c.before.before.before.before.copy_names.new.0 c.before.before.before.before.before.before.before.before.before.before.before.before.before.before.before.before.before.before.before.before.args.v c.before.before.before.before.before.before.before.before.before.before.before.before.before.before.before.before.before.before.before.before.args.m (omega arith)).1
 
@@ -105,13 +105,13 @@ add-sorts c = search rules
 
 array-share-prefix-sorts : tie.Need-slice_bounds-sorts-end
 array-share-prefix-sorts c =
-    let lo : length c.before.before.before.before.copy-names.new.1.0 ≡ 80 = c.before.before.before.before.copy_names.auto.1.0 in
+    let lo : length c.before.before.before.before.copy_names.new.1.0 ≡ 80 = c.before.before.before.before.copy_names.auto.1.0 in
     let g = c.before.before.before.before.before.before.before.before.before.before.before.before.before.before.before.before.before.before.before.before.requires.0.names in
     (set-count c.before.before.before.before.copy_names.new.1.0 c.before.before.before.before.before.before.before.before.before.before.before.before.before.before.before.before.before.before.before.before.args.v 1 (omega arith)).0
 
 slice-aggregate-rest-3 : tie.Need-slice_bounds-rest-end-4
 slice-aggregate-rest-3 c =
-    let lo : length c.before.before.before.before.before.copy-names.new.1.0 ≡ 80 = c.before.before.before.before.before.copy_names.auto.1.0 in
+    let lo : length c.before.before.before.before.before.copy_names.new.1.0 ≡ 80 = c.before.before.before.before.before.copy_names.auto.1.0 in
     let g = c.before.before.before.before.before.before.before.before.before.before.before.before.before.before.before.before.before.before.before.before.before.requires.0.names in
     sym (set-count c.before.before.before.before.before.copy_names.new.1.0 c.before.before.before.before.before.before.before.before.before.before.before.before.before.before.before.before.before.before.before.before.before.args.v 1 (omega arith)).1
 

@@ -30,7 +30,7 @@ returns c =
     let w = c.before.before.before.wide in
     let r = s.args.c in
     let z : to_z w64 (of_z w64 w.result) ≡ r.constant =
-    to_z-of_z (record { sfits = w.type-inv }) ∙ w.ensures ∙ to_z-of_z {w = w32} {z = r.constant} (record { sfits = c.before.before.before.before.before.before.before.struct_told-1.given.1.1.0.1 }) in
+    to_z-of_z (record { sfits = w.type_inv }) ∙ w.ensures ∙ to_z-of_z {w = w32} {z = r.constant} (record { sfits = c.before.before.before.before.before.before.before.struct_told-1.given.1.1.0.1 }) in
     let l = c.before.before.row_of.new.0 in
     constraint-is s.args.k (constraint_of r) l c.copy.new.0 s.requires
     (subst (λ z. Started s.args.k z (pos 1) r.axes l) z c.before.before.row_of.ensures) c.copy.ensures

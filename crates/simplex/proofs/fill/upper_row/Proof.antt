@@ -40,7 +40,7 @@ returns c =
     let w = c.before.before.upper_constant in
     let d = s.args.e.divisor in
     let z : to_z w64 (of_z w64 w.result) ≡ pos d -ℤ pos 1 -ℤ s.args.e.constant =
-    to_z-of_z (record { sfits = w.type-inv }) ∙ w.ensures
+    to_z-of_z (record { sfits = w.type_inv }) ∙ w.ensures
     ∙ ap (λ z. pos d -ℤ pos 1 -ℤ z) (to_z-of_z {w = w32} {z = s.args.e.constant} (record { sfits = c.before.before.before.before.before.struct_told-1.given.1.0.1 })) in
     let l = c.before.row_of.new.0 in
     ap (set l (s.args.i + 2)) (to_z-of_z (record { sfits = c.unsigned.type_inv }) ∙ c.unsigned.ensures)

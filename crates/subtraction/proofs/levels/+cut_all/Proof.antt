@@ -54,7 +54,7 @@ pieced t c =
       cuts = c.before.before.before.before.before.before.before.before.before.before.before.before.before.before.before.before.before.before.before.before.before.before.requires.1.4;
       tight = k.ensures;
       fits = not-false k.result.fits c.before.if-not-fits.false-raw;
-      long = simp length-map at k.type-inv.1.1.1.0.1.0.1;
+      long = simp length-map at k.type_inv.1.1.1.0.1.0.1;
     }
 
 emit-requires : (t : ℕ) → lts.Need-emit-requires (callees t) (at t) Cut-all.Post invariant-loop decreases-loop

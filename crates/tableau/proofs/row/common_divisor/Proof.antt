@@ -49,7 +49,7 @@ loop-again c =
     let s = c.before.before.before.before.before.before in
     let l = c.before.before.before.before.before.loop-at in
     let z = get_or s.args.r.now l.at (pos 0) in
-    let e : c.gcd.result ≡ gcd (nat_abs z) l.g = c.gcd-g.ensures ∙ ap (λ n. gcd n l.g) (c.before.magnitude.ensures ∙ ap nat_abs (to_z-of_z {w = w64} {z = z} (record { sfits = c.before.before.x-1.given }))) in
+    let e : c.gcd-g.result ≡ gcd (nat_abs z) l.g = c.gcd-g.ensures ∙ ap (λ n. gcd n l.g) (c.before.magnitude.ensures ∙ ap nat_abs (to_z-of_z {w = w64} {z = z} (record { sfits = c.before.before.x-1.given }))) in
     let f = s.requires in
     (omega arith, ap (λ g. divisor_from g (drop (l.at + 1) s.args.r.now)) e ∙ divisor-step s.args.r.now l.at l.g (omega (arith, f.fit, f.long)) ∙ l.invariant.1)
 

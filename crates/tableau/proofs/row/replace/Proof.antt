@@ -92,7 +92,7 @@ reduce-by-requires c κs =
     let hl = clear-line s.args.n s.args.r.now (s.args.j + 2) hr in
     let e : c.before.combine-g.new.0 ≡ combine_of m b l q =
     c.before.combine-g.ensures.0 ∙ ap₂ (λ m b. combine_of m b l q) (to_z-of_z s.ranges.m) (minus-back (get_or s.args.r.now (s.args.j + 2) (pos 0)) h) in
-    let g : c.before.combine.result ≡ divisor (combine_of m b l q) = c.before.combine-g.ensures.1 ∙ ap divisor e in
+    let g : c.before.combine-g.result ≡ divisor (combine_of m b l q) = c.before.combine-g.ensures.1 ∙ ap divisor e in
     rw e (
       combine-line s.args.n m b l q hl hq,
       (

@@ -38,10 +38,10 @@ below : (x : Magnitude) → x.hi < 18446744073709551616 → x.lo < 1844674407370
 below x h l = two-room 18446744073709551616 x.hi x.lo h l
 
 high : (c : tie.Start invariant-loop decreases-loop) → c.args.x.hi < 18446744073709551616
-high c = omega (arith, c.well-formed)
+high c = omega (arith, c.well_formed)
 
 low : (c : tie.Start invariant-loop decreases-loop) → c.args.x.lo < 18446744073709551616
-low c = omega (arith, c.well-formed)
+low c = omega (arith, c.well_formed)
 
 sum-requires : tie.Need-sum-q-requires invariant-loop decreases-loop
 sum-requires c κs =
@@ -60,7 +60,7 @@ loop-less c =
 loop-again : tie.Need-loop-d-preserved invariant-loop decreases-loop
 loop-again c =
     let u = c.before in let t = u.before.before in let l = t.before.before.before in let s = l.before in let p = t.taken-p.ensures in
-    let e : size u.sum.result ≡ size l.loop.q + t.taken.result.by = u.sum-q.ensures ∙ ap (λ (n : ℕ). size l.loop-d.q + n) (word t.taken-p.result.by) in
+    let e : size u.sum-q.result ≡ size l.loop-d.q + t.taken-p.result.by = u.sum-q.ensures ∙ ap (λ (n : ℕ). size l.loop-d.q + n) (word t.taken-p.result.by) in
     ap (λ (n : ℕ). n * size s.args.d + size c.difference-r.result) e
     ∙ ap (λ (n : ℕ). (size l.loop-d.q + t.taken-p.result.by) * size s.args.d + n) c.difference-r.ensures
     ∙ part_off _ (size s.args.d) (size l.loop-d.q) (size l.loop-d.r) t.taken-p.result.by (size t.taken-p.result.part) l.loop-d.invariant p.part_is p.holds
@@ -68,7 +68,7 @@ loop-again c =
 returns : tie.Need-returns invariant-loop decreases-loop
 returns c =
     let l = c.before.before in let s = l.before in
-    let h : size l.loop.r < size s.args.d = ltb-true _ _ (sym c.before.less.ensures ∙ not-false _ c.loop-d-test.false-raw) in
+    let h : size l.loop-d.r < size s.args.d = ltb-true _ _ (sym c.before.less.ensures ∙ not-false _ c.loop-d-test.false-raw) in
     record { quo = quotient_is (size s.args.x) (size s.args.d) _ _ (whole l) h; rem = remainder_is (size s.args.x) (size s.args.d) _ _ (whole l) h }
 
 pub long_divide_spec : {M : Type 1} → statement M

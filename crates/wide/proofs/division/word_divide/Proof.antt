@@ -12,10 +12,10 @@ word : (k : ℕ) → two 0 k ≡ k
 word k = one_word 18446744073709551616 0 k refl
 
 high : (c : tie.Start) → c.args.x.hi < 18446744073709551616
-high c = omega (arith, c.well-formed)
+high c = omega (arith, c.well_formed)
 
 low : (c : tie.Start) → c.args.x.lo < 18446744073709551616
-low c = omega (arith, c.well-formed)
+low c = omega (arith, c.well_formed)
 
 rem-t12 : tie.Need-nonzero_rem-t
 rem-t12 c = c.requires

@@ -29,7 +29,7 @@ digit : (x : Wide) → x.magnitude.lo < 18446744073709551616 → nat_abs (value_
 digit x h = ap (λ (n : ℕ). n / 18446744073709551616) (nat_abs-signed x.neg (size x.magnitude)) ∙ high_digit 9223372036854775808 18446744073709551616 (lit< tt) x.magnitude.hi x.magnitude.lo h
 
 low : (c : tie.Start) → c.args.x.magnitude.lo < 18446744073709551616
-low c = omega (arith, c.well-formed)
+low c = omega (arith, c.well_formed)
 
 returns : tie.Need-returns-then-is_negative
 returns c =

@@ -9,10 +9,10 @@ use Rattle.wide.proofs.words.difference.Reads as reads
 use Rattle.wide.proofs.words.difference.Lts as lts
 
 word : (c : tie.Start) → c.args.b.lo ≤ 18446744073709551615
-word c = omega (arith, c.well-formed)
+word c = omega (arith, c.well_formed)
 
 below : (c : tie.Start) → c.args.a.lo < 18446744073709551616
-below c = omega (arith, c.well-formed)
+below c = omega (arith, c.well_formed)
 
 sub-t9 : tie.Need-overflow_sub-result
 sub-t9 c = let a = c.before.args.a in let b = c.before.args.b in le_of_lt (diff-borrow 18446744073709551616 a.hi a.lo b.hi b.lo c.if-al-bl.true c.before.requires)

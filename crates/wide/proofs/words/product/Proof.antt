@@ -26,10 +26,10 @@ add-t14 : tie.Need-overflow_add-result-2
 add-t14 c = record { fits = high_fits 4294967296 c.args.a c.args.b (lit< tt) c.ranges.a.fits c.ranges.b.fits }
 
 add-t12 : tie.Need-overflow_add-result
-add-t12 c = record { fits = lt_of_le_of_lt (le-add_right _ _) (add-t14 c).ranges }
+add-t12 c = record { fits = lt_of_le_of_lt (le-add_right _ _) (add-t14 c).fits }
 
 mul-t10 : tie.Need-overflow_mul-result
-mul-t10 c = record { fits = lt_of_le_of_lt (le-add_right _ _) (add-t12 c).ranges }
+mul-t10 c = record { fits = lt_of_le_of_lt (le-add_right _ _) (add-t12 c).fits }
 
 mul-t16 : tie.Need-overflow_mul-result-2
 mul-t16 c = search rules

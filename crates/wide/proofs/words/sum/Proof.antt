@@ -19,7 +19,7 @@ add-t13 : tie.Need-overflow_add-result-else-al-left-2
 add-t13 c = let a = c.before.args.a in let b = c.before.args.b in let h = sum-carry 18446744073709551615 a.lo b.lo a.hi b.hi c.before.requires c.if-al-left.false in record { fits = omega arith }
 
 add-t12 : tie.Need-overflow_add-result-else-al-left
-add-t12 c = record { fits = lt_of_le_of_lt (le-add_right _ _) (add-t13 c).ranges }
+add-t12 c = record { fits = lt_of_le_of_lt (le-add_right _ _) (add-t13 c).fits }
 
 sub-t14 : tie.Need-overflow_sub-result
 sub-t14 c = search rules

@@ -63,7 +63,7 @@ unfolding L.mul_sub
 loop-again c =
     let w = c.before in let d = w.before.before in let y = d.before in let x = y.before in let i = x.before.before in let l = i.before.loop in let s = i.before.before in
     let r = cells s.args.r.now in let q = cells s.args.q.now in let m = value_of s.args.m in let b = value_of s.args.b in
-    let z : value_of d.determinant.result ≡ get_or (cells l.r) l.i (pos 0) *ℤ m -ℤ b *ℤ get_or q l.i (pos 0) = d.determinant-z.ensures.0 ∙ ap₂ (λ (u v : ℤ). u *ℤ m -ℤ b *ℤ v) x.cell_at-x.ensures.0 y.cell_at-y.ensures.0 in
+    let z : value_of d.determinant-z.result ≡ get_or (cells l.r) l.i (pos 0) *ℤ m -ℤ b *ℤ get_or q l.i (pos 0) = d.determinant-z.ensures.0 ∙ ap₂ (λ (u v : ℤ). u *ℤ m -ℤ b *ℤ v) x.cell_at-x.ensures.0 y.cell_at-y.ensures.0 in
     let e : get_or (cells l.r) l.i (pos 0) ≡ get_or r l.i (pos 0) = ap (λ (t : List ℤ). get_or t l.i (pos 0)) l.invariant.2 ∙ L.up_to-next _ l.i r (pos 0) in
     let h : l.i < length r = omega (arith, i.loop-test.true, s.requires.2.fit, s.requires.2.long) in (
       omega arith,

@@ -16,7 +16,7 @@ use Rattle.wide_tableau.proofs.row.set_cell.Lts as lts
 use Rattle.wide.proofs.high_of.Reads as high-of-reads
 
 low : (c : tie.Start) → c.args.x.magnitude.lo < 18446744073709551616
-low c = omega (arith, c.well-formed)
+low c = omega (arith, c.well_formed)
 
 high-of-requires : tie.Need-high_of-h-requires
 high-of-requires c κs = search rules

@@ -60,8 +60,8 @@ unfolding R.turn_row
 returns c =
     let w = c.before.before in let n = w.before.before in let m = n.before in let t = m.before in let g = t.before in let d = g.before in let a = d.before.before in let s = a.before.before in
     let r = cells s.args.r.now in let j = s.args.j in
-    let ex : value_of m.negate.result ≡ pos 0 -ℤ R.entry r j = m.negate-x.ensures.0 ∙ ap neg_ℤ a.Cell-at.ensures.0 ∙ sym (L.minus_is (R.entry r j)) in
-    let ey : value_of n.negate2.result ≡ pos 0 -ℤ R.den r = n.negate-y.ensures.0 ∙ ap neg_ℤ d.cell_at-d.ensures.0 ∙ sym (L.minus_is (R.den r)) in
+    let ex : value_of m.negate-x.result ≡ pos 0 -ℤ R.entry r j = m.negate-x.ensures.0 ∙ ap neg_ℤ a.Cell-at.ensures.0 ∙ sym (L.minus_is (R.entry r j)) in
+    let ey : value_of n.negate-y.result ≡ pos 0 -ℤ R.den r = n.negate-y.ensures.0 ∙ ap neg_ℤ d.cell_at-d.ensures.0 ∙ sym (L.minus_is (R.den r)) in
     let e : lt_z (R.entry r j) (pos 0) ≡ true = sym (ap (λ (z : ℤ). lt_z z (pos 0)) a.Cell-at.ensures.0) ∙ sym g.is_negative.ensures ∙ t.if-is_negative.true in
     record {
       is = c.set_cell-then-is_negative.ensures.is ∙ ap₂ (λ (l : List ℤ) (v : ℤ). set l (j + 2) v) (w.set_cell.ensures.is ∙ ap (set r 0) ex) ey ∙ sym (ap (λ (b : Bool). R.turn_by b r j) e);
