@@ -16,7 +16,7 @@ import sys
 
 NAME = r"[^\s(){}.;,@\"«»\[\]|]+"
 MODULES = "Tie|Lts|Given|Goals"
-OWN = {"type-inv": "type_inv", "well-formed": "well_formed"}
+OWN = {"type-inv": "type_inv", "well-formed": "well_formed", "pre": "requires"}
 LOOP_ENDS = {"holds": "init", "less": "smaller", "again": "preserved"}
 
 
@@ -42,6 +42,8 @@ class Walk:
             self.parent[old] = norm(before) if before else None
             self.step[old] = (norm(step[0]), step[1])
             self.variables[old] = {norm(it[0]): it[1] for it in variables}
+        # parameters that had no name: .args .t1 -> .args .low
+        self.args = {tuple(norm(old).replace(".", "").split()): new.replace(".", "").split() for old, new in of["args"]}
         self.loops = [(norm(old), new) for (old, new), *_ in of["loops"]]
 
     def need(self, label):
@@ -97,7 +99,7 @@ class Turner:
         self.olds = [it[1] for it in olds] if len(olds) == len(news) else None
         if self.olds is None and news:
             print(f"look: {path}: {len(olds)} names of the walk were {len(news)}")
-        self.at, self.functions = 0, {}
+        self.at, self.functions, self.outer = 0, {}, {}
 
     @staticmethod
     def code(text):
@@ -109,27 +111,32 @@ class Turner:
         return "\n\n".join(self.declaration(it) for it in self.text.split("\n\n"))
 
     def declaration(self, text):
-        walk, place = None, None
         spans = []
-        places = []
         for m in self.label.finditer(self.code(text)):
             old = self.olds[self.at] if self.olds else m[2]
             self.at += 1
             tie = self.ties[m[1]]
             named = tie.label(old) or tie.label(m[2])
-            if named is None:
-                if old not in ("spec", "close"):
-                    print(f"look: {self.path}: {m[1]}.{old}")
-                continue
-            # comment lines are blank in code(): find the same occurrence in the text
-            spans.append((m[1], m[2], named[0]))
-            places.append((tie, named[1], m[1], named[0]))
+            if named is not None:
+                spans.append((m[1], m[2], named[0]))
+            elif old not in ("spec", "close"):
+                print(f"look: {self.path}: {m[1]}.{old}")
         for alias, label, new in spans:
             text = re.sub(rf"(?<![\w.'-]){re.escape(alias)}\.{re.escape(label)}(?![^\s(){{}}.;,])", f"\x00{alias}\x01{new}", text, count=1)
         text = text.replace("\x00", "").replace("\x01", ".")
-        if not places:
-            return self.chains(text, {}) if self.functions else text
         return self.in_walk(text)
+
+    def bound_outside(self, lines):
+        """the parameters of the section, `module _ (c : tie.Place) where`, in which the lines stand"""
+        if not all(it.startswith((" ", "--")) for it in lines if it):
+            self.outer = {}
+        for line in lines:
+            if re.match(r"module _ ", line):
+                for names, label in re.findall(rf"\((\w+(?: \w+)*) : ({NAME}\.{NAME})", line):
+                    for name in names.split():
+                        if self.place_of(label):
+                            self.outer[name] = self.place_of(label)
+        return dict(self.outer)
 
     def place_of(self, label_text):
         m = re.match(rf"({NAME})\.({NAME})", label_text)
@@ -146,8 +153,8 @@ class Turner:
         return None
 
     def in_walk(self, text):
-        env = {}
         lines = text.split("\n")
+        env = self.bound_outside(lines)
         # signatures: NAME : (c : tie.Place ..) → .., NAME : tie.Need-X .., NAME : tie.Place .. → tie.Place
         for at, line in enumerate(lines):
             m = re.match(rf"\s*(?:abbrev )?(?:pub )?({NAME}) : (.*)", line)
@@ -170,6 +177,8 @@ class Turner:
                             break
                 if plain[3] and self.place_of(plain[3]):
                     self.functions[m[1]] = self.place_of(plain[3])
+                elif where and "→" not in m[2] and "Need-" not in plain[1]:
+                    env[m[1]] = self.outer[m[1]] = self.functions[m[1]] = where
             elif binders:
                 result = re.search(rf"→ ({NAME}\.{NAME})[^→]*$", m[2])
                 if result and self.place_of(result[1]):
@@ -243,15 +252,17 @@ class Turner:
         if i == len(fields):
             return new, place
         step = tie.step[place]
-        # port.py took some steps for types
-        if step[0] and norm(fields[i]).lower() == step[0].lower():
+        # port.py took some steps for types, and some for lemmas
+        if step[0] and re.sub("-lem$", "", norm(fields[i]).lower()) == step[0].lower():
             new.append(step[1])
             i += 1
             variables = tie.variables[place]
             if i < len(fields) and norm(fields[i]) in variables:
                 new.append(variables[norm(fields[i])])
                 i += 1
-        return new + [OWN.get(it, it) for it in fields[i:]], None
+        rest = [OWN.get(it, it) for it in fields[i:]]
+        rest = tie.args.get(tuple(rest[:2]), rest[:2]) + rest[2:]
+        return new + rest, None
 
 
 def main():

@@ -91,6 +91,8 @@ Unrefused n k [] = Unit {0}
 Unrefused n k (c ∷ cs) = (refusal n k c ≡ 0) × Unrefused n (counted k c) cs
 
 pub unrefused : (n : ℕ) (k : Counts) (s : List ℕ) (cs : List Command) → Parsed n k s cs → Unrefused n k cs
+unrefused n k [] (_ ∷ cs) x4 = elim x4 [ ]
+unrefused n k (_ ∷ _) [] x8 = elim x8 [ ]
 unrefused n k [] [] done = tt
 unrefused n k (_ ∷ _) (_ ∷ cs) (next b s w l z p) = (z, unrefused n (counted k (read_command b s)) (drop (width_of b - 1) s) cs p)
 
@@ -305,6 +307,8 @@ encode-read n k b s w l z p = at₁ (eqb b 0x11) refl
     at₁ false e = at₂ (eqb b 0x12) refl e
 
 pub bytes_back : (n : ℕ) (k : Counts) (s : List ℕ) (cs : List Command) → Parsed n k s cs → Bytes s → concat_map encode_command cs ≡ s
+bytes_back n k [] (_ ∷ cs) x7 p = elim x7 [ ]
+bytes_back n k (_ ∷ _) [] x10 p = elim x10 [ ]
 bytes_back n k [] [] done p = refl
 bytes_back n k (_ ∷ _) (_ ∷ cs) (next b s w l z q) p =
     ap (λ (t : List ℕ). encode_command (read_command b s) ++ t) (bytes_back n (counted k (read_command b s)) (drop (width_of b - 1) s) cs q (bytes_drop (width_of b - 1) s p.1))

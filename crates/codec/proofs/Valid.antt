@@ -170,6 +170,8 @@ Sound n k [] = Unit {0}
 Sound n k (c ∷ cs) = Read c × (refusal n k c ≡ 0) × Sound n (counted k c) cs
 
 sound : (n : ℕ) (k : Counts) (s : List ℕ) (cs : List Command) → Parsed n k s cs → Bytes s → Sound n k cs
+sound n k [] (_ ∷ cs) x7 p = elim x7 [ ]
+sound n k (_ ∷ _) [] x10 p = elim x10 [ ]
 sound n k [] [] done p = tt
 sound n k (_ ∷ _) (_ ∷ cs) (next b s w l z q) p = (read-shape b s p.1, z, sound n (counted k (read_command b s)) (drop (width_of b - 1) s) cs q (bytes_drop (width_of b - 1) s p.1))
 

@@ -56,6 +56,10 @@ head-none n k b s w l z = let x = Rattle.model.proofs.Count.from-T (ltb 0 (width
 
 pub parsed-accepted : (n f : ℕ) (k : Counts) (s : List ℕ) (cs : List Command) → length s ≤ f → Parsed n k s cs → number (parse n f k s) ≡ 0
 unfolding parse
+parsed-accepted n zero k [] (_ ∷ cs) h x7 = elim x7 [ ]
+parsed-accepted n zero k (_ ∷ _) [] h _ = elim h [ ]
+parsed-accepted n (suc f) k [] (_ ∷ cs) h x6 = elim x6 [ ]
+parsed-accepted n (suc f) k (_ ∷ _) [] h x8 = elim x8 [ ]
 parsed-accepted n zero k [] [] h done = refl
 parsed-accepted n (suc f) k [] [] h done = refl
 parsed-accepted n zero k (_ ∷ _) (_ ∷ cs) h (next b s w l z q) = absurd (omega arith)

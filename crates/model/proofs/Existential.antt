@@ -63,6 +63,7 @@ pub member-exists : (x : List ℤ) (b : BasicSet) → T (all divides b.divisions
 member-exists x b d t = record { q = quotients b.divisions x; remainders = floor-remainders x b.divisions d; constraints = t }
 
 pub exists-in-set : (x : List ℤ) (s : Set) → ExistsIn x s → T (in_set x s)
+exists-in-set x [] h = elim h [ ]
 exists-in-set x (_ ∷ _) (here {b = b} {s = s} w) = subst (λ (p : Bool). T (p || in_set x s)) (sym (from-T (in_basic x b) (exists-member x b w))) tt
 exists-in-set x (_ ∷ _) (there {b = b} {s = s} w) = or_right (in_basic x b) (in_set x s) (exists-in-set x s w)
   where

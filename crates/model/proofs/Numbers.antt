@@ -35,10 +35,12 @@ basic-exists : (x : List ℤ) (b : BasicSet) → Exists x (plain_basic b) → Ex
 basic-exists x b w = record { q = w.q; remainders = w.remainders; constraints = subst T (rules-plain (pos 1) x w.q b.constraints) w.constraints }
 
 pub exists-plain : (x : List ℤ) (s : Set) → ExistsIn x s → ExistsIn x (plain_set s)
+exists-plain x [] h = elim h [ ]
 exists-plain x (b ∷ s) (here w) = here (exists-basic x b w)
 exists-plain x (b ∷ s) (there w) = there (exists-plain x s w)
 
 pub plain-exists : (x : List ℤ) (s : Set) → ExistsIn x (plain_set s) → ExistsIn x s
+plain-exists x [] h = elim h [ ]
 plain-exists x (b ∷ s) (here w) = here (basic-exists x b w)
 plain-exists x (b ∷ s) (there w) = there (plain-exists x s w)
 

@@ -21,8 +21,8 @@ abbrev start : tie.After-forward-kept → tie.Start
 start c = c.before.before.before
 
 module _ (c : tie.After-more-got) where
-  stays : take ((start (move c)).args.have - (start (move c)).args.from) c.more.new.0 ≡ unused (start (move c)).args.read.now (start (move c)).args.from (start (move c)).args.have
-  stays = let f = (move c).forward-kept in ap (λ (n : ℕ). take n c.more.new.0) (sym f.ensures.0) ∙ c.more.ensures ∙ f.ensures.1
+  stays : take ((start (move c)).args.have - (start (move c)).args.from) c.more-got.new.0 ≡ unused (start (move c)).args.read.now (start (move c)).args.from (start (move c)).args.have
+  stays = let f = (move c).forward-kept in ap (λ (n : ℕ). take n c.more-got.new.0) (sym f.ensures.0) ∙ c.more-got.ensures ∙ f.ensures.1
 
 forward-requires : tie.Need-forward-kept-requires
 forward-requires c κs = search rules

@@ -41,14 +41,14 @@ shown c = c.before.before.before
 -- ---- what the turn says
 
 module _ (c : tie.After-step-t invariant-loop decreases-loop) where
-  told_text : c.step.result.text ≤ length (at-loop c).before.loop-turns.text
-  told_text = let l = (at-loop c).before.loop-turns in text_in l.read l.from l.have l.inv.0 l.state (memory l.sets l.lengths l.answer) l.ended c.step.ensures
+  told_text : c.step-t.result.text ≤ length (at-loop c).before.loop-turns.text
+  told_text = let l = (at-loop c).before.loop-turns in text_in l.read l.from l.have l.inv.0 l.state (memory l.sets l.lengths l.answer) l.ended c.step-t.ensures
 
-  told-used : (at-loop c).before.loop-turns.from + c.step.result.used ≤ (at-loop c).before.loop-turns.have
-  told-used = let l = (at-loop c).before.loop-turns in used-in l.read l.from l.have l.inv.0 l.state (memory l.sets l.lengths l.answer) l.ended c.step.ensures
+  told-used : (at-loop c).before.loop-turns.from + c.step-t.result.used ≤ (at-loop c).before.loop-turns.have
+  told-used = let l = (at-loop c).before.loop-turns in used-in l.read l.from l.have l.inv.0 l.state (memory l.sets l.lengths l.answer) l.ended c.step-t.ensures
 
-  told-short : c.step.result.next ≡ Reads → (at-loop c).before.loop-turns.have - (at-loop c).before.loop-turns.from < 65539
-  told-short = let l = (at-loop c).before.loop-turns in short-in l.read l.from l.have l.inv.0 l.state (memory l.sets l.lengths l.answer) l.ended c.step.ensures
+  told-short : c.step-t.result.next ≡ Reads → (at-loop c).before.loop-turns.have - (at-loop c).before.loop-turns.from < 65539
+  told-short = let l = (at-loop c).before.loop-turns in short-in l.read l.from l.have l.inv.0 l.state (memory l.sets l.lengths l.answer) l.ended c.step-t.ensures
 
   -- the run so far, before the turn
   so_far : let l = (at-loop c).before.loop-turns in SoFar (length (start c).args.text.now) l.state (memory l.sets l.lengths l.answer) l.ended (unused l.read l.from l.have)
@@ -103,7 +103,7 @@ loop-again c =
       k.1.1.1.1.0 ∙ l.inv.2,
       k.1.1.1.1.1.0 ∙ l.inv.3,
       k.1.1.1.1.1.1.0 ∙ l.inv.4,
-      reads_on l.inv.0 (start s).pre.line_long (so_far s).2 l.inv.4 s.step-t.ensures (asked.asks.ensures.0 c.before.before.before.before.if-asks.true) r.ensures,
+      reads_on l.inv.0 (start s).requires.line_long (so_far s).2 l.inv.4 s.step-t.ensures (asked.asks.ensures.0 c.before.before.before.before.if-asks.true) r.ensures,
     )
 
 loop-less-2 : tie.Need-loop-turns-smaller invariant-loop decreases-loop
@@ -117,7 +117,7 @@ loop-again-2 c =
       k.1.1.1.1.0 ∙ l.inv.2,
       k.1.1.1.1.1.0 ∙ l.inv.3,
       k.1.1.1.1.1.1.0 ∙ l.inv.4,
-      runs_on l.inv.0 (start s).pre.line_long (so_far s).2 l.inv.4 s.step-t.ensures (shown c.before).show-turns.result (shown c.before).show-turns.ensures.1 (c.before.asks.ensures.1 c.if-asks.false),
+      runs_on l.inv.0 (start s).requires.line_long (so_far s).2 l.inv.4 s.step-t.ensures (shown c.before).show-turns.result (shown c.before).show-turns.ensures.1 (c.before.asks.ensures.1 c.if-asks.false),
     )
 
 same_length : tie.Need-shape_of-read invariant-loop decreases-loop

@@ -61,40 +61,40 @@ module _ (t : tie.In-loop-e invariant-loop decreases-loop) where
   st = m.before.before.before.before.before
 
   abbrev F : ℤ
-  F = to_z w64 (of_z w64 m.before.before.before.gap.result)
+  F = to_z w64 (of_z w64 m.before.before.before.gap-from.result)
 
   abbrev G : ℤ
-  G = to_z w64 (of_z w64 m.before.before.gap2.result)
+  G = to_z w64 (of_z w64 m.before.before.gap-to.result)
 
   low-gap : F ≡ get_or st.args.low.now st.args.k (pos 0) -ℤ get_or st.args.r.now (56 + st.args.k) (pos 0)
-  low-gap = let x = m.before.before.before in result_is w64 x.gap.result x.gap.ok ∙ x.gap.ensures.0
+  low-gap = let x = m.before.before.before in result_is w64 x.gap-from.result x.gap-from.ok ∙ x.gap-from.ensures.0
 
   high-gap : G ≡ get_or st.args.high.now st.args.k (pos 0) -ℤ get_or st.args.r.now (120 + st.args.k) (pos 0)
-  high-gap = let x = m.before.before in result_is w64 x.gap2.result x.gap2.ok ∙ x.gap2.ensures.0
+  high-gap = let x = m.before.before in result_is w64 x.gap-to.result x.gap-to.ok ∙ x.gap-to.ensures.0
 
   low_size : Within 2097152 F
-  low_size = back-within (omega arith) m.before.before.before.gap.ensures.1
+  low_size = back-within (omega arith) m.before.before.before.gap-from.ensures.1
 
   high_size : Within 2097152 G
-  high_size = back-within (omega arith) m.before.before.gap2.ensures.1
+  high_size = back-within (omega arith) m.before.before.gap-to.ensures.1
 
-  code : is_division (get_or st.args.s.now m.loop.at 0) ≡ true
-  code = sym t.before.division-at.ensures ∙ t.if1.taken
+  code : is_division (get_or st.args.s.now m.loop-e.at 0) ≡ true
+  code = sym t.before.division_at.ensures ∙ t.loop-e-test.taken
 
-  here : DivisionAt m.loop.inv.n st.args.s.now m.loop.at m.loop.inv.k
-  here = bounding-at st.args.s.now (start_of st.args.r.now) (box_of st.args.low.now st.args.high.now) m.loop.at m.loop.d m.loop.ql m.loop.qh m.loop.inv code
+  here : DivisionAt m.loop-e.inv.n st.args.s.now m.loop-e.at m.loop-e.inv.k
+  here = bounding-at st.args.s.now (start_of st.args.r.now) (box_of st.args.low.now st.args.high.now) m.loop-e.at m.loop-e.d m.loop-e.ql m.loop-e.qh m.loop-e.inv code
 
-  few : m.loop.d < 8
-  few = let a = here.few in let b = m.loop.inv.counts in omega arith
+  few : m.loop-e.d < 8
+  few = let a = here.few in let b = m.loop-e.inv.counts in omega arith
 
   loose : Loose st.args.s.now st.args.r.now
-  loose = row_loose st.args.s.now (length st.args.low.now) st.args.r.now st.pre.1.few st.pre.0.row
+  loose = row_loose st.args.s.now (length st.args.low.now) st.args.r.now st.requires.1.few st.requires.0.row
 
-  least : Within 274877906944 (get_or st.args.r.now m.loop.d (pos 0))
-  least = let a = few in loose.least m.loop.d (omega arith)
+  least : Within 274877906944 (get_or st.args.r.now m.loop-e.d (pos 0))
+  least = let a = few in loose.least m.loop-e.d (omega arith)
 
-  greatest : Within 274877906944 (get_or st.args.r.now (64 + m.loop.d) (pos 0))
-  greatest = let a = few in loose.greatest m.loop.d (omega arith)
+  greatest : Within 274877906944 (get_or st.args.r.now (64 + m.loop-e.d) (pos 0))
+  greatest = let a = few in loose.greatest m.loop-e.d (omega arith)
 
 division-at-requires : tie.Need-division_at-requires invariant-loop decreases-loop
 division-at-requires c κs = search rules
@@ -150,13 +150,13 @@ mul-l : tie.Need-offset_bounds-ql-d invariant-loop decreases-loop
 mul-l c = let f = few c.before.before.before.before.before.before in omega arith
 
 slice-set-from-l : tie.Need-bounds-ql-d invariant-loop decreases-loop
-slice-set-from-l c = let t = c.before.before.before.before.before.before in let f = few t in let l = (m t).loop.invariant.lows in omega arith
+slice-set-from-l c = let t = c.before.before.before.before.before.before in let f = few t in let l = (m t).loop-e.invariant.lows in omega arith
 
 mul-h : tie.Need-offset_bounds-qh-d invariant-loop decreases-loop
 mul-h c = let f = few c.before.before.before.before.before.before in omega arith
 
 slice-set-from-h : tie.Need-bounds-qh-d invariant-loop decreases-loop
-slice-set-from-h c = let t = c.before.before.before.before.before.before in let f = few t in let l = (m t).loop.invariant.highs in omega arith
+slice-set-from-h c = let t = c.before.before.before.before.before.before in let f = few t in let l = (m t).loop-e.invariant.highs in omega arith
 
 add-d : tie.Need-overflow_add-d-in-loop-e invariant-loop decreases-loop
 add-d c = let f = few c.before.before.before.before.before.before in omega arith
@@ -177,7 +177,7 @@ plain z z' f f' g g' k d d' u v o e a b c =
 
 loop-again : tie.Need-loop-e-preserved invariant-loop decreases-loop
 loop-again c =
-    let q2 = c.before in let q1 = q2.before.before in let x = q1.before.before in let y = x.before in let t = y.before in let a = (st t).args in let l = (m t).loop in let low = a.low.now in let high = a.high.now in let r = a.r.now in
+    let q2 = c.before in let q1 = q2.before.before in let x = q1.before.before in let y = x.before in let t = y.before in let a = (st t).args in let l = (m t).loop-e in let low = a.low.now in let high = a.high.now in let r = a.r.now in
     let kl = result_is w64 q1.quotient_end-l.result q1.quotient_end-l.type_inv in let kh = result_is w64 q2.quotient_end-h.result q2.quotient_end-h.type_inv in
     let pl = kl ∙ q1.quotient_end-l.ensures.0 ∙ plain _ _ _ _ _ _ a.k _ _ _ _ y.head-e.ensures.0 x.body-t.ensures (to_z_of_z {w = w64} (within-fits (omega arith) (least t))) (low-gap t) (high-gap t) in
     let ph = kh ∙ q2.quotient_end-h.ensures.0 ∙ plain _ _ _ _ _ _ a.k _ _ _ _ y.head-e.ensures.0 x.body-t.ensures (to_z_of_z {w = w64} (within-fits (omega arith) (greatest t))) (high-gap t) (low-gap t) in

@@ -39,17 +39,17 @@ module _ (t : tie.In-loop-t invariant-loop decreases-loop) where
   abbrev G : ℤ
   G = to_z w64 (of_z w64 st.args.to)
 
-  pass : goes_on (get_or st.args.s.now m.loop.at 0) ≡ true
-  pass = sym t.before.goes_on.ensures ∙ t.if1.taken
+  pass : goes_on (get_or st.args.s.now m.loop-t.at 0) ≡ true
+  pass = sym t.before.goes_on.ensures ∙ t.loop-t-test.taken
 
-  abbrev here : FormAt m.loop.inv.n st.args.s.now m.loop.at m.loop.inv.k
-  here = shifting-at st.args.s.now st.args.j F G st.args.r.now m.loop.r m.loop.at m.loop.i m.loop.inv pass
+  abbrev here : FormAt m.loop-t.inv.n st.args.s.now m.loop-t.at m.loop-t.inv.k
+  here = shifting-at st.args.s.now st.args.j F G st.args.r.now m.loop-t.r m.loop-t.at m.loop-t.i m.loop-t.inv pass
 
-  few : m.loop.i < 56
-  few = shifting-few st.args.s.now st.args.j F G st.args.r.now m.loop.r m.loop.at m.loop.i m.loop.inv pass
+  few : m.loop-t.i < 56
+  few = shifting-few st.args.s.now st.args.j F G st.args.r.now m.loop-t.r m.loop-t.at m.loop-t.i m.loop-t.inv pass
 
-  sizes : Within 274877906944 (get_or m.loop.r m.loop.i (pos 0)) × Within 274877906944 (get_or m.loop.r (64 + m.loop.i) (pos 0))
-  sizes = shifting-sizes st.args.s.now st.args.j F G st.args.r.now m.loop.r m.loop.at m.loop.i m.loop.inv st.pre.0 pass
+  sizes : Within 274877906944 (get_or m.loop-t.r m.loop-t.i (pos 0)) × Within 274877906944 (get_or m.loop-t.r (64 + m.loop-t.i) (pos 0))
+  sizes = shifting-sizes st.args.s.now st.args.j F G st.args.r.now m.loop-t.r m.loop-t.at m.loop-t.i m.loop-t.inv st.requires.0 pass
 
 place-requires : tie.Need-place-at-requires invariant-loop decreases-loop
 place-requires c κs = c.before.before.requires.0.place
@@ -121,7 +121,7 @@ loop-less c = let h = (here c.before.before.before.before.before.before).whole i
 loop-again : tie.Need-loop-t-preserved invariant-loop decreases-loop
 loop-again c =
     let c2 = c.before in let c1 = c2.before in let x = c1.before.before.before in let t = x.before in let a = (st t).args in
-    let j = a.j in let f = F t in let g = G t in let l = (m t).loop in
+    let j = a.j in let f = F t in let g = G t in let l = (m t).loop-t in
     let k1 = result_is w64 c1.moved.result c1.moved.type_inv in let k2 = result_is w64 c2.moved-in-loop-t.result c2.moved-in-loop-t.type_inv in
     let e1 = k1 ∙ c1.moved.ensures.0 ∙ ap₂ (λ (z : ℤ) (u : List ℕ). z +ℤ gain j f g (axes_in u)) (to_z_of_z (within-fits (omega arith) (sizes t).0)) x.body-t.ensures in
     let e2 = k2 ∙ c2.moved-in-loop-t.ensures.0 ∙ ap₂ (λ (z : ℤ) (u : List ℕ). z +ℤ gain j g f (axes_in u)) (to_z_of_z (within-fits (omega arith) (sizes t).1)) x.body-t.ensures in

@@ -51,7 +51,7 @@ returns c =
     let p = made t in
     let s = p.before in
     let l : length s.args.w.constraints ≡ 48 = simp length-map at s.good.0.1.1.1.0.1.0.1 in
-    let k = s.pre.0.cons in
+    let k = s.requires.0.cons in
     let h : s.args.w.cons ≤ 48 = omega arith in
     c.is_kept.ensures ∙ ap C.is_kept t.test_basic-e.ensures.verdict_is ∙ ap C.keeps (p.put-q.ensures.is ∙ put_last s.args.w l h (constraint_of s.args.o))
 

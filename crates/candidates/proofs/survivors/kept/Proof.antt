@@ -46,7 +46,7 @@ candidate-requires c κs =
     let l = c.before in
     let s = start l in
     let o = C.below (constraint_of s.args.r) in
-    (s.pre.0, (opposite-plain l.opposite_below-o.result (T.tight o) l.opposite_below-o.ensures (tight-kind o), s.pre.1.1))
+    (s.requires.0, (opposite-plain l.opposite_below-o.result (T.tight o) l.opposite_below-o.ensures (tight-kind o), s.requires.1.1))
 
 is-kept-requires : tie.Need-is_kept-below-requires
 is-kept-requires c κs = search rules
@@ -57,7 +57,7 @@ is-wide-requires c κs = search rules
 opposite-above-requires : tie.Need-opposite_above-p-requires
 opposite-above-requires c κs =
     let l = lowered (lower c.before) in
-    let p = (start l).pre.1.0 in
+    let p = (start l).requires.1.0 in
     (c.if-equality.true, p.above (ap kind_is c.if-equality.true), p.settled l.before.void-undivided.result l.before.void-undivided.ensures)
 
 candidate-requires-2 : tie.Need-candidate-u-requires
@@ -66,7 +66,7 @@ candidate-requires-2 c κs =
     let p = u.before.before in
     let s = start (lowered (lower p)) in
     let o = C.above (given p) in
-    (s.pre.0, (opposite-plain u.opposite_above-p.result (T.tight o) u.opposite_above-p.ensures (tight-kind o), (lower p).candidate-v.auto.1.1.1.1.1.1.1.1.0 ∙ s.pre.1.1))
+    (s.requires.0, (opposite-plain u.opposite_above-p.result (T.tight o) u.opposite_above-p.ensures (tight-kind o), (lower p).candidate-v.auto.1.1.1.1.1.1.1.1.0 ∙ s.requires.1.1))
 
 is-kept-requires-2 : tie.Need-is_kept-requires
 is-kept-requires-2 c κs = search rules
@@ -87,8 +87,8 @@ returns c =
     let eq : is_equality (given p).kind ≡ true = ap (λ (b : Bool). is_equality (kind_is b)) u.before.if-equality.true in
     record {
       is = λ b g n. let z = any_false p.is_IsWide.result c.is_wide.result n in record {
-        above = c.before.is_kept.ensures ∙ shared_keeps w.candidate-u.ensures s.pre.0.less b g (sym c.is_wide.ensures ∙ z.1) ∙ ap (λ o. C.keeps (candidate b o)) u.opposite_above-p.ensures ∙ sym (ap (λ (a : Bool). a && C.keeps (candidate b (T.tight (C.above (given p))))) eq);
-        below = p.before.is_kept-below.ensures ∙ shared_keeps l.candidate-v.ensures s.pre.0.less b g (sym p.is_IsWide.ensures ∙ z.0) ∙ ap (λ o. C.keeps (candidate b o)) (lowered l).opposite_below-o.ensures;
+        above = c.before.is_kept.ensures ∙ shared_keeps w.candidate-u.ensures s.requires.0.less b g (sym c.is_wide.ensures ∙ z.1) ∙ ap (λ o. C.keeps (candidate b o)) u.opposite_above-p.ensures ∙ sym (ap (λ (a : Bool). a && C.keeps (candidate b (T.tight (C.above (given p))))) eq);
+        below = p.before.is_kept-below.ensures ∙ shared_keeps l.candidate-v.ensures s.requires.0.less b g (sym p.is_IsWide.ensures ∙ z.0) ∙ ap (λ o. C.keeps (candidate b o)) (lowered l).opposite_below-o.ensures;
       };
     }
 
@@ -104,7 +104,7 @@ returns-2 c =
     record {
       is = λ b g n. record {
         above = sym (ap (λ (a : Bool). a && C.keeps (candidate b (T.tight (C.above (given p))))) eq);
-        below = p.before.is_kept-below.ensures ∙ shared_keeps l.candidate-v.ensures s.pre.0.less b g (sym p.is_IsWide.ensures ∙ n) ∙ ap (λ o. C.keeps (candidate b o)) (lowered l).opposite_below-o.ensures;
+        below = p.before.is_kept-below.ensures ∙ shared_keeps l.candidate-v.ensures s.requires.0.less b g (sym p.is_IsWide.ensures ∙ n) ∙ ap (λ o. C.keeps (candidate b o)) (lowered l).opposite_below-o.ensures;
       };
     }
 

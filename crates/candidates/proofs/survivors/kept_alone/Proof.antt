@@ -43,7 +43,7 @@ anew-requires c κs = let p = (start c.before).requires in (p.0, p.2)
 opposite-above-requires : tie.Need-opposite_above-p-requires
 opposite-above-requires c κs =
     let l = lowered c.before in
-    let p = (start l).pre.1 in
+    let p = (start l).requires.1 in
     (c.if-equality.true, p.above (ap kind_is c.if-equality.true), p.settled l.before.void-undivided.result l.before.void-undivided.ensures)
 
 anew-requires-2 : tie.Need-anew-above-requires

@@ -40,7 +40,7 @@ reached c = let s = begun c in S.run_table s.args.kinds.now 200 s.args.t.now s.a
 kept : (c : tie.After-run-e) → let s = begun c in
     S.Fine s.args.n (reached c).rows (reached c).place s.args.kinds.now
     × (length (reached c).place ≡ length s.args.place.now) × ((reached c).left ≤ 200)
-kept c = let s = begun c in run-keeps {W = 64} (omega arith) s.args.n s.args.kinds.now 200 s.args.t.now s.args.place.now s.pre
+kept c = let s = begun c in run-keeps {W = 64} (omega arith) s.args.n s.args.kinds.now 200 s.args.t.now s.args.place.now s.requires
 
 wide : (c : tie.Then-is_wide) → is_wide (reached (ran c.before.before)).verdict ≡ true
 wide c = ap is_wide (sym (ran c.before.before).run-e.ensures.verdict_is) ∙ sym c.before.is_IsWide.ensures ∙ c.if-is_wide.true
@@ -78,7 +78,7 @@ widened-requires c κs = (fine (ran c.before.before.before.before), omega arith)
 add-built : tie.Need-overflow_add-built
 add-built c =
     let w = went c in let r = ran (taken w).before.before in let s = begun r in let kinds = s.args.kinds.now in
-    let h = built-le (bound 64) kinds 200 s.args.t.now s.args.place.now s.pre.count in
+    let h = built-le (bound 64) kinds 200 s.args.t.now s.args.place.now s.requires.count in
     record { fits = omega (arith, h, went-le w.widened-w.ensures (fine r).count, r.run-e.ensures.built_is) }
 
 same_length : tie.Need-shape_of-t-then-is_wide

@@ -98,8 +98,8 @@ pivot-requires c κs = let m = c.before.before.before in ((turn m).loop-x.invari
 add-built : tie.Need-overflow_add-built invariant-loop decreases-loop
 add-built c =
     let a = turn (choice c) in let s = begun a in
-    let h = built-le (bound 128) s.args.kinds.now s.args.from (rows_of s.args.t.now) s.args.place.now s.pre.1.count in
-    record { fits = omega (arith, h, s.pre.2, a.loop-x.inv.6, builds (choice c), c.before.before.before.pivot-built.ensures.2) }
+    let h = built-le (bound 128) s.args.kinds.now s.args.from (rows_of s.args.t.now) s.args.place.now s.requires.1.count in
+    record { fits = omega (arith, h, s.requires.2, a.loop-x.inv.6, builds (choice c), c.before.before.before.pivot-built.ensures.2) }
 
 sub-left : tie.Need-overflow_sub-left invariant-loop decreases-loop
 sub-left c = let l = (turn (choice c)).loop-x in M.pivot-left_at (bound 128) _ l.left (rows_of l.t) l.place _ _ (pivots (choice c))

@@ -32,7 +32,7 @@ start-of-requires c κs = let s = c.before.before.before.before in accepted s.ar
 returns-3 : tie.Need-returns-then-set-at
 returns-3 c =
     let s = c.before.before.before.before.before.before in
-    asked-none s.args.n s.args.set.now (sym c.before.before.before.before.check-r.ensures ∙ c.before.before.before.if-r-ne0.false) s.args.k c.before.before.if-k-eq0.false c.before.start_of_lem.result c.before.start_of_lem.ensures c.if-set-at.true
+    asked-none s.args.n s.args.set.now (sym c.before.before.before.before.check-r.ensures ∙ c.before.before.before.if-r-ne0.false) s.args.k c.before.before.if-k-eq0.false c.before.start_of-at.result c.before.start_of-at.ensures c.if-set-at.true
 
 add-decode-basic : tie.Need-overflow_add-at
 add-decode-basic c = search rules
@@ -40,7 +40,7 @@ add-decode-basic c = search rules
 decode-basic-requires : tie.Need-decode_basic-b-requires
 decode-basic-requires c κs =
     let s = c.before.before.before.before.before.before in
-    asked-opened s.args.n s.args.set.now (sym c.before.before.before.before.check-r.ensures ∙ c.before.before.before.if-r-ne0.false) s.args.k c.before.before.if-k-eq0.false c.before.start_of_lem.result c.before.start_of_lem.ensures c.if-set-at.false
+    asked-opened s.args.n s.args.set.now (sym c.before.before.before.before.check-r.ensures ∙ c.before.before.before.if-r-ne0.false) s.args.k c.before.before.if-k-eq0.false c.before.start_of-at.result c.before.start_of-at.ensures c.if-set-at.false
 
 test-alone-requires : tie.Need-test_alone-requires
 test-alone-requires c κs = search rules
@@ -48,7 +48,7 @@ test-alone-requires c κs = search rules
 returns-4 : tie.Need-returns
 returns-4 c =
     let s = c.before.before.before.before.before.before.before.before in
-    asked-some s.args.n s.args.set.now (sym c.before.before.before.before.before.before.check-r.ensures ∙ c.before.before.before.before.before.if-r-ne0.false) s.args.k c.before.before.before.before.if-k-eq0.false c.before.before.before.start_of_lem.result c.before.before.before.start_of_lem.ensures c.before.before.if-set-at.false
+    asked-some s.args.n s.args.set.now (sym c.before.before.before.before.before.before.check-r.ensures ∙ c.before.before.before.before.before.if-r-ne0.false) s.args.k c.before.before.before.before.if-k-eq0.false c.before.before.before.start_of-at.result c.before.before.before.start_of-at.ensures c.before.before.if-set-at.false
     c.before.decode_basic-b.result c.before.decode_basic-b.ensures c.test_alone.result c.test_alone.ensures
 
 pub test_spec : {M : Type 1} → statement M

@@ -42,13 +42,13 @@ turn c = c.before.before.before.before
 
 module _ (c : tie.At-loop-x invariant-loop decreases-loop) where
   abbrev rows : List (List ℤ)
-  rows = rows_of c.loop.t
+  rows = rows_of c.loop-x.t
 
   abbrev goal : List ℤ
-  goal = cells c.loop.goal
+  goal = cells c.loop-x.goal
 
   abbrev place : List ℕ
-  place = c.loop.place
+  place = c.loop-x.place
 
   abbrev kinds : List ℕ
   kinds = (begun c).args.kinds.now
@@ -57,7 +57,7 @@ module _ (c : tie.At-loop-x invariant-loop decreases-loop) where
   greatest = (begun c).args.greatest
 
   abbrev left : ℕ
-  left = c.loop.left
+  left = c.loop-x.left
 
 -- the turn that ends it
 abbrev last : tie.In-Ends-2 invariant-loop decreases-loop → tie.At-loop-x invariant-loop decreases-loop
@@ -72,16 +72,16 @@ module _ (c : tie.In-Turns-2 invariant-loop decreases-loop) where
   here = turn c.before.before
 
   abbrev v : ℕ
-  v = c.s2.given.0.0
+  v = c.s-in-Turns-1.given.0.0
 
   abbrev w : ℕ
-  w = c.s2.given.0.1.0
+  w = c.s-in-Turns-1.given.0.1.0
 
   turns : D.step_at (bound 128) (rows here) (goal here) (place here) (kinds here) (greatest here) (left here) ≡ TurnsBy v w
-  turns = sym c.before.before.step.ensures ∙ c.s2.given.1
+  turns = sym c.before.before.step-s.ensures ∙ c.s-in-Turns-1.given.1
 
   crosses : let n = (begun here).args.n in S.CrossingAt (bound 128) n (rows here) (place here) v w × R.FitAt (bound 128) n (goal here) (get_or (place here) w 0 - 64)
-  crosses = step-crosses (bound 128) (begun here).args.n (rows here) (goal here) (place here) (kinds here) here.loop.inv.2 (greatest here) (left here) v w turns
+  crosses = step-crosses (bound 128) (begun here).args.n (rows here) (goal here) (place here) (kinds here) here.loop-x.inv.2 (greatest here) (left here) v w turns
 
 abbrev choice : tie.After-slice_known-in-Turns-1 invariant-loop decreases-loop → tie.In-Turns-2 invariant-loop decreases-loop
 choice c = c.before.before.before.before.before.before.before.before
@@ -111,7 +111,7 @@ enum-known-s-2 : tie.Need-enum_known-s-in-Turns-1 invariant-loop decreases-loop
 enum-known-s-2 c = search rules
 
 cross-requires : tie.Need-cross-requires invariant-loop decreases-loop
-cross-requires c κs = let m = c.before.before.before.before in let l = (here m).loop in (l.inv.0, l.inv.1, (crosses m).0, (crosses m).1)
+cross-requires c κs = let m = c.before.before.before.before in let l = (here m).loop-x in (l.inv.0, l.inv.1, (crosses m).0, (crosses m).1)
 
 some_left : (c : tie.After-slice_known-in-Turns-1 invariant-loop decreases-loop) → 0 < left (here (choice c))
 some_left c = let m = choice c in let a = here m in turns_left (bound 128) (kinds a) (greatest a) (rows a) (goal a) (place a) (left a) (v m) (w m) (turns m)
@@ -124,13 +124,13 @@ loop-less c = let h = some_left c in omega arith
 
 loop-again : tie.Need-loop-x-preserved invariant-loop decreases-loop
 loop-again c =
-    let m = choice c in let a = here m in let i = a.loop.inv in
+    let m = choice c in let a = here m in let i = a.loop-x.inv in
     let p = c.before.before.before in let e = p.cross.ensures in let et = e.0.is in let eg = e.1.is in let ep = e.2 in (
       e.0.sheets,
       e.1.sheet,
       rw (et, eg, ep) (pivot-posed _ (rows a) (goal a) (place a) (kinds a) (v m) (w m) i.2 (crosses m).0 (crosses m).1),
       rw (et, eg, ep) (climb-turns (bound 128) (kinds a) (greatest a) (rows a) (goal a) (place a) (left a) (v m) (w m) (turns m) ∙ i.3),
-      sym (rows-length p.cross.new.0) ∙ ap length et ∙ M.rows-length (rows a) (place a) (v m) (w m) ∙ rows-length a.loop.t ∙ i.4,
+      sym (rows-length p.cross.new.0) ∙ ap length et ∙ M.rows-length (rows a) (place a) (v m) (w m) ∙ rows-length a.loop-x.t ∙ i.4,
       ap length ep ∙ M.pivot-length (place a) (v m) (w m) ∙ i.5,
     )
 

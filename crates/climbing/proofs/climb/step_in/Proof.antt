@@ -64,7 +64,7 @@ moves-up-requires : tie.Need-moves_up-up-requires
 moves-up-requires c κs = let s = c.before.before.before in (s.requires.1, column s)
 
 stopping-requires : tie.Need-stopping-first-requires
-stopping-requires c κs = let s = begun c in (s.pre.0, placed s, column s)
+stopping-requires c κs = let s = begun c in (s.requires.0, placed s, column s)
 
 returns : tie.Need-returns-then-place-first
 returns c =
@@ -79,7 +79,7 @@ returns-2 c =
     k.before.moves_up-up.result k.stopping-first.result k.before.moves_up-up.ensures k.stopping-first.ensures e.if-place-first.false c.if-left-eq0.true
 
 fits-requires : tie.Need-fits-requires
-fits-requires c κs = let s = begun c.before.before.before in (s.pre.0, s.pre.1, column s, lines s, s.pre.2.line)
+fits-requires c κs = let s = begun c.before.before.before in (s.requires.0, s.requires.1, column s, lines s, s.requires.2.line)
 
 returns-3 : tie.Need-returns-then-not-fits
 returns-3 c = last c.before false (not-true _ c.if-not-fits.true-raw)
@@ -90,12 +90,12 @@ leaving-requires c κs =
     let rows = rows_of s.args.t.now in let goal = cells s.args.goal.now in let j = get_or s.args.place.now s.args.w 0 - 64 in
     let x = R.narrow_rows_at (bound 128) j rows in let y = R.narrow_row_at (bound 128) j goal in
     let h : (x && y) ≡ true = sym b.fits2.ensures ∙ not-false _ c.if-not-fits.false-raw in (
-      s.pre.0,
+      s.requires.0,
       placed s,
       column s,
       b.before.before.if-place-first.false,
       k.stopping-first.ensures,
-      stops-small rows s.args.place.now s.args.kinds.now j k.before.moves_up-up.result s.args.n s.pre.2.fine (from-T x (and_left x y (subst T (sym h) tt))),
+      stops-small rows s.args.place.now s.args.kinds.now j k.before.moves_up-up.result s.args.n s.requires.2.fine (from-T x (and_left x y (subst T (sym h) tt))),
     )
 
 returns-4 : tie.Need-returns

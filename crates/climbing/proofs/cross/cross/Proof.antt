@@ -42,7 +42,7 @@ module _ (x : tie.After-pivot) where
   j = get_or place s.args.w 0 - 64
 
   abbrev d : S.CrossingAt (bound 128) s.args.n rows place s.args.v s.args.w
-  d = s.pre.2
+  d = s.requires.2
 
   abbrev table : List (List ℕ)
   table = x.pivot.last.0
@@ -65,8 +65,8 @@ module _ (y : tie.After-wipe) where
   abbrev pivoted : tie.After-pivot
   pivoted = y.before.before.before.before.before.before.before.before
 
-  m-is : value_of y.before.before.Cell-at.result ≡ R.den (p pivoted)
-  m-is = y.before.before.Cell-at.ensures.0 ∙ ap R.den (own pivoted)
+  m-is : value_of y.before.before.cell_at-m.result ≡ R.den (p pivoted)
+  m-is = y.before.before.cell_at-m.ensures.0 ∙ ap R.den (own pivoted)
 
   q-is : cells y.wipe.last.0 ≡ set (p pivoted) 0 (pos 0)
   q-is = y.wipe.ensures.is ∙ ap (λ (r : List ℤ). set r 0 (pos 0)) (own pivoted)
@@ -104,10 +104,10 @@ sub-rebuild c = search rules
 rebuild-requires : tie.Need-rebuild-requires
 rebuild-requires c κs =
     let y = c.before.before in let x = pivoted y in let s = s x in let n = s.args.n in (
-      s.pre.1,
+      s.requires.1,
       y.wipe.ensures.sheet,
-      omega (arith, (d x).ready.col, s.pre.3.line.fit),
-      s.pre.3,
+      omega (arith, (d x).ready.col, s.requires.3.line.fit),
+      s.requires.3,
       subst (λ (z : ℤ). R.DivisorAt (bound 128) n z (cells y.wipe.new.0)) (sym (m-is y))
           (subst (R.DivisorAt (bound 128) n (R.den (p x))) (sym (q-is y)) (leaving-divisor n (rows x) (place x) s.args.v s.args.w (d x))),
     )

@@ -41,16 +41,16 @@ module _ (c : tie.In-Pivot-2) where
   s = start c.before.before
 
   abbrev v : ℕ
-  v = c.m2.given.0.0
+  v = c.m-in-Pivot-1.given.0.0
 
   abbrev w : ℕ
-  w = c.m2.given.0.1.0
+  w = c.m-in-Pivot-1.given.0.1.0
 
   pivots : S.move_at (bound 128) (rows s) (place s) (kinds s) s.args.left ≡ Pivot v w
-  pivots = sym c.before.before.choose.ensures ∙ c.m2.given.1
+  pivots = sym c.before.before.choose-m.ensures ∙ c.m-in-Pivot-1.given.1
 
   crosses : S.CrossingAt (bound 128) s.args.n (rows s) (place s) v w
-  crosses = M.crossing_at (bound 128) s.args.n (rows s) (place s) (kinds s) s.args.left v w s.pre.2.fine pivots
+  crosses = M.crossing_at (bound 128) s.args.n (rows s) (place s) (kinds s) s.args.left v w s.requires.2.fine pivots
 
 choose-requires : tie.Need-choose-m-requires
 choose-requires c κs = search rules
@@ -73,7 +73,7 @@ sub-j c = (crosses c.before.before).column
 row-narrow-requires : tie.Need-row_narrow-requires
 row-narrow-requires c κs =
     let m = c.before.before in let s = s m in
-    (s.pre.1, omega (arith, s.pre.2.fine.near (w m) (crosses m).other), s.pre.2.line)
+    (s.requires.1, omega (arith, s.requires.2.fine.near (w m) (crosses m).other), s.requires.2.line)
 
 returns : tie.Need-returns-in-Stop
 returns c =

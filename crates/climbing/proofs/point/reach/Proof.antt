@@ -40,19 +40,19 @@ turn c = c.before.before.before.before
 
 module _ (c : tie.At-loop-x invariant-loop decreases-loop) where
   abbrev rows : List (List ℤ)
-  rows = rows_of c.loop.t
+  rows = rows_of c.loop-x.t
 
   abbrev goal : List ℤ
-  goal = cells c.loop.goal
+  goal = cells c.loop-x.goal
 
   abbrev place : List ℕ
-  place = c.loop.place
+  place = c.loop-x.place
 
   abbrev kinds : List ℕ
   kinds = (begun c).args.kinds.now
 
   abbrev left : ℕ
-  left = c.loop.left
+  left = c.loop-x.left
 
 -- the turn that stops
 abbrev last : tie.In-Stop-2 invariant-loop decreases-loop → tie.At-loop-x invariant-loop decreases-loop
@@ -67,16 +67,16 @@ module _ (c : tie.In-Pivot-2 invariant-loop decreases-loop) where
   here = turn c.before.before
 
   abbrev v : ℕ
-  v = c.m2.given.0.0
+  v = c.m-in-Pivot-1.given.0.0
 
   abbrev w : ℕ
-  w = c.m2.given.0.1.0
+  w = c.m-in-Pivot-1.given.0.1.0
 
   pivots : C.move_with (bound 128) (rows here) (goal here) (place here) (kinds here) (left here) ≡ Pivot v w
-  pivots = sym c.before.before.choose.ensures ∙ c.m2.given.1
+  pivots = sym c.before.before.choose-m.ensures ∙ c.m-in-Pivot-1.given.1
 
   crosses : let n = (begun here).args.n in S.CrossingAt (bound 128) n (rows here) (place here) v w × R.FitAt (bound 128) n (goal here) (get_or (place here) w 0 - 64)
-  crosses = P.move-crosses (bound 128) (begun here).args.n (rows here) (goal here) (place here) (kinds here) (left here) v w here.loop.inv.2 pivots
+  crosses = P.move-crosses (bound 128) (begun here).args.n (rows here) (goal here) (place here) (kinds here) (left here) v w here.loop-x.inv.2 pivots
 
 abbrev choice : tie.After-slice_known-in-Pivot-1 invariant-loop decreases-loop → tie.In-Pivot-2 invariant-loop decreases-loop
 choice c = c.before.before.before.before.before.before.before.before
@@ -115,7 +115,7 @@ enum-known-m-2 : tie.Need-enum_known-m-in-Pivot-1 invariant-loop decreases-loop
 enum-known-m-2 c = search rules
 
 cross-requires : tie.Need-cross-requires invariant-loop decreases-loop
-cross-requires c κs = let m = c.before.before.before.before in let l = (here m).loop in (l.inv.0, l.inv.1, (crosses m).0, (crosses m).1)
+cross-requires c κs = let m = c.before.before.before.before in let l = (here m).loop-x in (l.inv.0, l.inv.1, (crosses m).0, (crosses m).1)
 
 sub-left : tie.Need-overflow_sub-left invariant-loop decreases-loop
 sub-left c = let m = choice c in let a = here m in P.move-left (bound 128) (kinds a) (left a) (rows a) (goal a) (place a) (v m) (w m) (pivots m)
@@ -125,13 +125,13 @@ loop-less c = let m = choice c in let a = here m in let h = P.move-left (bound 1
 
 loop-again : tie.Need-loop-x-preserved invariant-loop decreases-loop
 loop-again c =
-    let m = choice c in let a = here m in let i = a.loop.inv in
+    let m = choice c in let a = here m in let i = a.loop-x.inv in
     let p = c.before.before.before in let e = p.cross.ensures in let et = e.0.is in let eg = e.1.is in let ep = e.2 in (
       e.0.sheets,
       e.1.sheet,
       rw (et, eg, ep) (P.pivot-posed _ (rows a) (goal a) (place a) (kinds a) (v m) (w m) i.2 (crosses m).0 (crosses m).1),
       rw (et, eg, ep) (P.reach-pivot (bound 128) (kinds a) (left a) (rows a) (goal a) (place a) (v m) (w m) (pivots m) ∙ i.3),
-      sym (rows-length p.cross.new.0) ∙ ap length et ∙ M.rows-length (rows a) (place a) (v m) (w m) ∙ rows-length a.loop.t ∙ i.4,
+      sym (rows-length p.cross.new.0) ∙ ap length et ∙ M.rows-length (rows a) (place a) (v m) (w m) ∙ rows-length a.loop-x.t ∙ i.4,
       ap length ep ∙ M.pivot-length (place a) (v m) (w m) ∙ i.5,
       omega (arith, i.6),
     )

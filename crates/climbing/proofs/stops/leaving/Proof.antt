@@ -44,14 +44,14 @@ loop-holds c =
     (omega (arith, s.requires.3), ((s.requires.3, stopping-stops rows place kinds j up u s.requires.4 s.requires.3), leaving-start rows place kinds j up u))
 
 stops-requires : tie.Need-stops-requires invariant-loop decreases-loop
-stops-requires c κs = let s = begun c.before in (s.pre.0, s.pre.1, s.pre.2, c.loop-v-test.true)
+stops-requires c κs = let s = begun c.before in (s.requires.0, s.requires.1, s.requires.2, c.loop-v-test.true)
 
 sooner-requires : tie.Need-sooner-requires invariant-loop decreases-loop
 sooner-requires c κs =
     let h = c.before in let i = h.before in let l = i.before.loop-v in let s = begun i.before in
     let rows = rows_of s.args.t.now in let place = s.args.place.now in
-    let a : D.Stopped rows place l.v = s.pre.5 l.v i.loop-v-test.true (sym h.stops.ensures ∙ c.if-stops.true) in
-    let b : D.Stopped rows place l.best = s.pre.5 l.best l.invariant.1.0.0 l.invariant.1.0.1 in
+    let a : D.Stopped rows place l.v = s.requires.5 l.v i.loop-v-test.true (sym h.stops.ensures ∙ c.if-stops.true) in
+    let b : D.Stopped rows place l.best = s.requires.5 l.best l.invariant.1.0.0 l.invariant.1.0.1 in
     search rules
 
 add-v-2 : tie.Need-overflow_add-v-in-loop-v invariant-loop decreases-loop

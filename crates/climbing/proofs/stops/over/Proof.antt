@@ -24,7 +24,7 @@ begun c = c.before.before.before.before.before
 spot : (c : tie.Else-kind-eq2) → let s = begun c in get_or s.args.place.now s.args.v 0 < length s.args.t.now
 spot c =
     let s = begun c in
-    subst (λ (n : ℕ). get_or s.args.place.now s.args.v 0 < n) (rows-length s.args.t.now) (s.pre.1.spot s.args.v s.pre.2 s.pre.3)
+    subst (λ (n : ℕ). get_or s.args.place.now s.args.v 0 < n) (rows-length s.args.t.now) (s.requires.1.spot s.args.v s.requires.2 s.requires.3)
 
 mul-i : tie.Need-offset_bounds-place-v
 mul-i c = search rules

@@ -32,22 +32,22 @@ over-requires : tie.Need-over-a-requires
 over-requires c κs = search rules
 
 under-requires : tie.Need-under-b-requires
-under-requires c κs = let s = begun c in (s.pre.0, s.pre.4.named, spot s s.args.u s.pre.4, s.pre.2)
+under-requires c κs = let s = begun c in (s.requires.0, s.requires.4.named, spot s s.args.u s.requires.4, s.requires.2)
 
 over-requires-2 : tie.Need-over-c-requires
 over-requires-2 c κs = search rules
 
 under-requires-2 : tie.Need-under-d-requires
-under-requires-2 c κs = let s = begun c.before.before in (s.pre.0, s.pre.3.named, spot s s.args.v s.pre.3, s.pre.2)
+under-requires-2 c κs = let s = begun c.before.before in (s.requires.0, s.requires.3.named, spot s s.args.v s.requires.3, s.requires.2)
 
 determinant-requires : tie.Need-determinant-x-requires
 determinant-requires c κs =
     let z = c.before in let y = z.before in let x = y.before in let s = begun x in
     let rows = rows_of s.args.t.now in let place = s.args.place.now in let kinds = s.args.kinds.now in let j = s.args.j in (
-      subst (Within (bound 128)) (sym x.over-a.ensures) (over-within rows place kinds s.args.v s.pre.3),
-      subst (Within (bound 128)) (sym y.under-b.ensures) (under-within rows place j s.args.u s.pre.4),
-      subst (Within (bound 128)) (sym z.over-c.ensures) (over-within rows place kinds s.args.u s.pre.4),
-      subst (Within (bound 128)) (sym c.under-d.ensures) (under-within rows place j s.args.v s.pre.3),
+      subst (Within (bound 128)) (sym x.over-a.ensures) (over-within rows place kinds s.args.v s.requires.3),
+      subst (Within (bound 128)) (sym y.under-b.ensures) (under-within rows place j s.args.u s.requires.4),
+      subst (Within (bound 128)) (sym z.over-c.ensures) (over-within rows place kinds s.args.u s.requires.4),
+      subst (Within (bound 128)) (sym c.under-d.ensures) (under-within rows place j s.args.v s.requires.3),
     )
 
 is-negative-requires : tie.Need-is_negative-requires

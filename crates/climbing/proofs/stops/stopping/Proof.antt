@@ -32,7 +32,7 @@ loop-holds : tie.Need-loop-v-init invariant-loop decreases-loop
 loop-holds c = (omega arith, Q.first-start _ _)
 
 stops-requires : tie.Need-stops-requires invariant-loop decreases-loop
-stops-requires c κs = let s = begun c.before in (s.pre.0, s.pre.1, s.pre.2, c.loop-v-test.true)
+stops-requires c κs = let s = begun c.before in (s.requires.0, s.requires.1, s.requires.2, c.loop-v-test.true)
 
 returns : tie.Need-returns-then-stops invariant-loop decreases-loop
 unfolding D.stopping

@@ -31,7 +31,7 @@ changed s r = moved s.args.up (R.entry r s.args.j)
 spot : (c : tie.Then-i-lt64) → let s = begun c in get_or s.args.place.now s.args.v 0 < length s.args.t.now
 spot c =
     let s = begun c in
-    subst (λ (n : ℕ). get_or s.args.place.now s.args.v 0 < n) (rows-length s.args.t.now) (s.pre.1.spot s.args.v s.pre.3 c.if-i-lt64.true)
+    subst (λ (n : ℕ). get_or s.args.place.now s.args.v 0 < n) (rows-length s.args.t.now) (s.requires.1.spot s.args.v s.requires.3 c.if-i-lt64.true)
 
 mul-i : tie.Need-offset_bounds-place-v
 mul-i c = search rules
@@ -52,7 +52,7 @@ add-cell-at : tie.Need-overflow_add-j
 add-cell-at c = search rules
 
 cell-at-requires : tie.Need-cell_at-e-requires
-cell-at-requires c κs = let t = c.before in let s = begun t in (s.pre.0.at _ (spot t), omega (arith, s.pre.2))
+cell-at-requires c κs = let t = c.before in let s = begun t in (s.requires.0.at _ (spot t), omega (arith, s.requires.2))
 
 change-requires : tie.Need-change-x-requires
 change-requires c κs = search rules

@@ -75,7 +75,7 @@ loop-again c =
     let n = st.args.n in let i = m.loop-i.i in let t = b.loop-i-test.true in
     let e = ap (λ (z : List ℤ). get_or z (8 - n + i) (pos 0)) st.requires.1 in
     let f = ap (λ (z : List ℤ). get_or z (24 - n + i) (pos 0)) st.requires.1 in
-    let d : c.before.between.result ≡ true → Between n st.args.t1 st.args.t2 i =
+    let d : c.before.between.result ≡ true → Between n st.args.low st.args.high i =
     λ g. (
       subst₂ ◌≤ℤ◌ (result_is w16 _ l.l-1.given ∙ e) (result_is w16 _ x.between-arg-1.given) (c.before.between.ensures g).0,
       subst₂ ◌≤ℤ◌ (result_is w16 _ y.between-arg-in-loop-i-1.given) (result_is w16 _ h.h-1.given ∙ f) (c.before.between.ensures g).1,
@@ -83,7 +83,7 @@ loop-again c =
       omega arith,
       ⊎_elim
           (λ w g. clash g w.1)
-          (λ w g. next-each (Between n st.args.t1 st.args.t2) i (m.loop-i.invariant.1 (sym w.1 ∙ g)) (d (not-false _ w.0.left)))
+          (λ w g. next-each (Between n st.args.low st.args.high) i (m.loop-i.invariant.1 (sym w.1 ∙ g)) (d (not-false _ w.0.left)))
           c.if-not-between.branch,
     )
 

@@ -89,10 +89,10 @@ numbers-in : (c : tie.Else-not-plain-2) → let st = s6 c.before in (constant st
 numbers-in c = let e5 = c.before.before in both (constant-in e5.before.before) (both (axes-in e5) (divisions-in c))
 
 axes-zero : (c : tie.After-zeros) → zero-axes (s7 c) ≡ c.zeros.result
-axes-zero c = let st = s7 c in absent-of st.args.n 4 (t st) st.pre.1 ∙ sym c.zeros.ensures
+axes-zero c = let st = s7 c in absent-of st.args.n 4 (t st) st.requires.1 ∙ sym c.zeros.ensures
 
 divisions-zero : (c : tie.After-zeros-2) → zero-divisions (s8 c) ≡ c.zeros-2.result
-divisions-zero c = let st = s8 c in absent-of (k st).divisions 20 (t st) st.pre.2 ∙ sym c.zeros-2.ensures
+divisions-zero c = let st = s8 c in absent-of (k st).divisions 20 (t st) st.requires.2 ∙ sym c.zeros-2.ensures
 
 -- ---- the answers
 returns : tie.Need-returns-then-k-eq0

@@ -29,7 +29,7 @@ sub-if2 : tie.Need-overflow_sub-s
 sub-if2 c = search rules
 
 returns-2 : tie.Need-returns-then-s-at
-returns-2 c = let e1 = c.before in let w = e1.before in let st = start w in let a = st.args in sym (head-cut a.n (counts_of a.k) _ a.s.now a.at _ st.pre.0 w.width-w.ensures e1.if-w-eq0.false c.if-s-at.true)
+returns-2 c = let e1 = c.before in let w = e1.before in let st = start w in let a = st.args in sym (head-cut a.n (counts_of a.k) _ a.s.now a.at _ st.requires.0 w.width-w.ensures e1.if-w-eq0.false c.if-s-at.true)
 
 opens-refusal-requires : tie.Need-opens_refusal-requires
 opens-refusal-requires c κs = search rules
@@ -52,16 +52,16 @@ module _ (c : tie.Else-s-at) where
   b = get_or s at 0
 
   some : width_of b ≡ 0 → ⊥
-  some z = c.before.if1.false (c.before.before.width.ensures ∙ z)
+  some z = c.before.if-w-eq0.false (c.before.before.width-w.ensures ∙ z)
 
   room : at + width_of b ≤ length s
-  room = let e = c.before.before.width.ensures in let h = c.if2.false in let l = st.pre.0 in omega arith
+  room = let e = c.before.before.width-w.ensures in let h = c.if-s-at.false in let l = st.requires.0 in omega arith
 
   whole : Whole s at
-  whole = let n = some in record { known = let e = c.before.before.width.ensures in let h = c.before.if1.false in omega arith; room = room }
+  whole = let n = some in record { known = let e = c.before.before.width-w.ensures in let h = c.before.if-w-eq0.false in omega arith; room = room }
 
   refuses : B.head_refusal st.args.n k b (drop (at + 1) s) ≡ B.refusal st.args.n k (B.read_command b (drop (at + 1) s))
-  refuses = head_at st.args.n k b s at _ st.pre.0 c.before.before.width.ensures c.before.if1.false c.if2.false
+  refuses = head_at st.args.n k b s at _ st.requires.0 c.before.before.width-w.ensures c.before.if-w-eq0.false c.if-s-at.false
 
 returns-3 : tie.Need-returns-then-b-eq-OPENS
 returns-3 c =
@@ -96,20 +96,20 @@ module _ (c : tie.Else-is_division) where
   o = c.before.before.before
 
   other : is_division (b o.before.before) ≡ false
-  other = sym c.before.is-division.ensures ∙ c.if4.false
+  other = sym c.before.is_division.ensures ∙ c.if-is_division.false
 
 constraint-refusal-requires : tie.Need-constraint_refusal-requires
 constraint-refusal-requires c κs =
-    let e = (o c).before.before in let n = (o c).before.if3.false in
+    let e = (o c).before.before in let n = (o c).before.if-b-eq-OPENS.false in
     let w = width-constraint (b e) n (other c) (other-code (b e) n (other c) (some e)) in
-    (subst (λ (t : List ℕ). constraint_body ≤ length t) (sym (o c).body.ensures) (body-room (b e) (s e) (at e) constraint_body w (room e)), (st e).pre.1, (st e).pre.2, (st e).pre.3)
+    (subst (λ (t : List ℕ). constraint_body ≤ length t) (sym (o c).body-t.ensures) (body-room (b e) (s e) (at e) constraint_body w (room e)), (st e).requires.1, (st e).requires.2, (st e).requires.3)
 
 returns-5 : tie.Need-returns
 returns-5 c =
     let y = c.before in let e = (o y).before.before in
     c.constraint_refusal.ensures
-    ∙ ap₂ (λ (m : ℕ) (t : List ℕ). B.refusal (st e).args.n (k e) (B.read_rule (b e) m t)) y.before.before.head-m.ensures.0 (o y).body.ensures
-    ∙ ap (B.refusal (st e).args.n (k e)) (sym (read-rule (b e) (drop (at e + 1) (s e)) (o y).before.if3.false (other y))) ∙ sym (refuses e)
+    ∙ ap₂ (λ (m : ℕ) (t : List ℕ). B.refusal (st e).args.n (k e) (B.read_rule (b e) m t)) y.before.before.head-m.ensures.0 (o y).body-t.ensures
+    ∙ ap (B.refusal (st e).args.n (k e)) (sym (read-rule (b e) (drop (at e + 1) (s e)) (o y).before.if-b-eq-OPENS.false (other y))) ∙ sym (refuses e)
 
 pub head_refusal_spec : {M : Type 1} → statement M
 head_refusal_spec =

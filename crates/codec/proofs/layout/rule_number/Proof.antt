@@ -21,8 +21,8 @@ module _ (c : tie.After-is_numbered) where
   abbrev b : ℕ
   b = get_or st.args.s.now st.args.at 0
 
-  numbered : c.is-numbered.result ≡ is_numbered b
-  numbered = c.is-numbered.ensures ∙ ap is_numbered c.before.code.ensures
+  numbered : c.is_numbered.result ≡ is_numbered b
+  numbered = c.is_numbered.ensures ∙ ap is_numbered c.before.code.ensures
 
 add-u16-at : tie.Need-overflow_add-at
 add-u16-at c = search rules

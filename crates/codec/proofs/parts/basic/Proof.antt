@@ -50,26 +50,26 @@ returns-3 : tie.Need-returns-then-set-at
 returns-3 c = let o = c.before.before in let h = o.before.before.before in let g = h.before in let a = g.before.args in let s = a.set.now in
     let q : a.k - 1 + 1 ≡ a.k = omega arith in
     let z : number (decode a.n s) ≡ 0 = sym h.check.ensures ∙ o.before.before.if-check-ne0.false in
-    let e : part_of a.n s a.k ≡ nowhere = ap (part_of a.n s) (sym q) ∙ started_none s (a.k - 1) o.start_of_lem.result (bytes_of s (λ x. omega (arith, g.shared_slice_known-1.given x))) o.start_of_lem.ensures a.n z c.before.if-set-at.true in
+    let e : part_of a.n s a.k ≡ nowhere = ap (part_of a.n s) (sym q) ∙ started_none s (a.k - 1) o.start_of-at.result (bytes_of s (λ x. omega (arith, g.shared_slice_known-1.given x))) o.start_of-at.ensures a.n z c.before.if-set-at.true in
     (c.part-then-set-at.ensures.0 ∙ ap (λ (p : Part). held p s) (sym e), c.part-then-set-at.ensures.1 ∙ ap (λ (p : Part). (a.set.ptr.0, a.set.ptr.1 + p.place)) (sym e))
 
 add-end-of : tie.Need-overflow_add-at
 add-end-of c = search rules
 
 end-of-requires : tie.Need-end_of-end-requires
-end-of-requires c κs = let o = c.before in let s = o.before.before.before.before.before.args.set.now in let t = o.start_of_lem.ensures in boundary-opened t.n s o.start_of_lem.result t.there c.if-set-at.false
+end-of-requires c κs = let o = c.before in let s = o.before.before.before.before.before.args.set.now in let t = o.start_of-at.ensures in boundary-opened t.n s o.start_of-at.result t.there c.if-set-at.false
 
 part-requires-4 : tie.Need-part-requires-2
-part-requires-4 c κs = let o = c.before.before in let s = o.before.before.before.before.before.args.set.now in let t = o.start_of_lem.ensures in
-    let i = (boundary-next t.n s o.start_of_lem.result t.there c.before.if-set-at.false).here.inside in let e = c.end_of_lem.ensures in (omega arith, omega arith)
+part-requires-4 c κs = let o = c.before.before in let s = o.before.before.before.before.before.args.set.now in let t = o.start_of-at.ensures in
+    let i = (boundary-next t.n s o.start_of-at.result t.there c.before.if-set-at.false).here.inside in let e = c.end_of-end.ensures in (omega arith, omega arith)
 
 returns-4 : tie.Need-returns
-returns-4 c = let d = c.before in let o = d.before.before in let h = o.before.before.before in let g = h.before in let a = g.before.args in let s = a.set.now in let at = o.start_of_lem.result in
+returns-4 c = let d = c.before in let o = d.before.before in let h = o.before.before.before in let g = h.before in let a = g.before.args in let s = a.set.now in let at = o.start_of-at.result in
     let q : a.k - 1 + 1 ≡ a.k = omega arith in
     let z : number (decode a.n s) ≡ 0 = sym h.check.ensures ∙ o.before.before.if-check-ne0.false in
     let e : part_of a.n s a.k ≡ record { place = at; size = end_of s (at + 1) - at } =
-    ap (part_of a.n s) (sym q) ∙ started-part s (a.k - 1) at (bytes_of s (λ x. omega (arith, g.shared_slice_known-1.given x))) o.start_of_lem.ensures a.n z d.before.if-set-at.false in (
-      c.part-2.ensures.0 ∙ ap (λ (x : ℕ). take (x - at) (drop at s)) d.end_of_lem.ensures ∙ ap (λ (p : Part). held p s) (sym e),
+    ap (part_of a.n s) (sym q) ∙ started-part s (a.k - 1) at (bytes_of s (λ x. omega (arith, g.shared_slice_known-1.given x))) o.start_of-at.ensures a.n z d.before.if-set-at.false in (
+      c.part-2.ensures.0 ∙ ap (λ (x : ℕ). take (x - at) (drop at s)) d.end_of-end.ensures ∙ ap (λ (p : Part). held p s) (sym e),
       c.part-2.ensures.1 ∙ ap (λ (p : Part). (a.set.ptr.0, a.set.ptr.1 + p.place)) (sym e),
     )
 

@@ -26,11 +26,11 @@ add-k : tie.Need-overflow_add-k invariant-loop decreases-loop
 add-k c = let m = c.before.before in let f = m.loop-at.invariant.few in let h = c.before.loop-at-test.true in omega arith
 
 loop-less : tie.Need-loop-at-smaller invariant-loop decreases-loop
-loop-less c = let m = c.before.before in let e = c.end_of_lem.ensures in let h = c.before.loop-at-test.true in omega arith
+loop-less c = let m = c.before.before in let e = c.end_of-at.ensures in let h = c.before.loop-at-test.true in omega arith
 
 loop-again : tie.Need-loop-at-preserved invariant-loop decreases-loop
 loop-again c = let m = c.before.before in let s = m.before.before.args.s.now in
-    subst (λ (p : ℕ). Counting s p (m.loop-at.k + 1)) (sym c.end_of_lem.ensures) (counting-next s m.loop-at.at m.loop-at.k m.loop-at.invariant c.before.loop-at-test.true)
+    subst (λ (p : ℕ). Counting s p (m.loop-at.k + 1)) (sym c.end_of-at.ensures) (counting-next s m.loop-at.at m.loop-at.k m.loop-at.invariant c.before.loop-at-test.true)
 
 returns : tie.Need-returns invariant-loop decreases-loop
 returns c = let m = c.before in let s = m.before.before.args.s.now in

@@ -35,7 +35,7 @@ loop-less c = omega arith
 
 loop-again : tie.Need-loop-j-preserved invariant-loop decreases-loop
 loop-again c = let m = c.before.before.before in let k = m.before in let s = k.before.args.s.now in
-    (omega arith, subst (Started s (m.loop-j.j + 1)) (sym c.end_of_lem.ensures) (started-next s m.loop-j.j m.loop-j.at (bytes_of s (λ x. omega (arith, k.shared_slice_known-1.given x))) m.loop-j.invariant.1 c.before.if-s-at.false))
+    (omega arith, subst (Started s (m.loop-j.j + 1)) (sym c.end_of-at.ensures) (started-next s m.loop-j.j m.loop-j.at (bytes_of s (λ x. omega (arith, k.shared_slice_known-1.given x))) m.loop-j.invariant.1 c.before.if-s-at.false))
 
 returns-2 : tie.Need-returns invariant-loop decreases-loop
 returns-2 c = let m = c.before in let k = m.before in let s = k.before.args.s.now in

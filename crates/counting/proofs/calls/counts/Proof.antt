@@ -195,7 +195,7 @@ same-length-5 c = search rules
 abbrev chosen : tie.After-f-1 → Chosen
 chosen c = let a = (begun (start c.before.before.before)).args in record { axis = a.axis - 1; first = to_z w64 (of_z w64 (to_z w32 (of_z w32 (get_or a.t3 (a.axis - 1) (pos 0))))) }
 
-eight : (c : tie.Start) → (length c.args.t3 ≡ 8) × (length c.args.highs ≡ 8)
+eight : (c : tie.Start) → (length c.args.lows ≡ 8) × (length c.args.highs ≡ 8)
 eight c = (search rules, search rules)
 
 same : (c : tie.After-f-1) (ps : List (List ℤ)) → let v = c.before.before in let a = (begun (start v.before)).args in

@@ -17,13 +17,13 @@ answer-requires c κs = search rules
 returns : tie.Need-returns-then-not-upright
 returns c =
     let i = c.before in let u = i.before in let st = begun u in let a = st.args in
-    ended-shut a.limit a.c a.each.now st.pre.1.none _
-    (members-shut a.n a.s.now a.low a.high st.pre.0 (sym u.upright.ensures ∙ not-true _ i.if-not-upright.true-raw)) _ c.answer.ensures
+    ended-shut a.limit a.c a.each.now st.requires.1.none _
+    (members-shut a.n a.s.now a.low a.high st.requires.0 (sym u.upright.ensures ∙ not-true _ i.if-not-upright.true-raw)) _ c.answer.ensures
 
 walked-requires : tie.Need-walked-r-requires
 walked-requires c κs =
     let i = c.before in let u = i.before in let st = begun u in let a = st.args in
-    (boxed a.n a.s.now a.low a.high st.pre.0 (sym u.upright.ensures ∙ not-false _ i.if-not-upright.false-raw), st.pre.1)
+    (boxed a.n a.s.now a.low a.high st.requires.0 (sym u.upright.ensures ∙ not-false _ i.if-not-upright.false-raw), st.requires.1)
 
 clear-requires : tie.Need-clear-requires
 clear-requires c κs = search rules
@@ -37,8 +37,8 @@ same_length c = search rules
 returns-2 : tie.Need-returns-then-out
 returns-2 c =
     let z = c.before.before.before in let t = z.before.before in let w = t.before.before.before in let i = w.before.before in let u = i.before in let st = begun u in let a = st.args in
-    ended-spent a.limit a.c a.each.now st.pre.1.none _ _
-    (members-open a.n a.s.now a.low a.high st.pre.0 (sym u.upright.ensures ∙ not-false _ i.if-not-upright.false-raw))
+    ended-spent a.limit a.c a.each.now st.requires.1.none _ _
+    (members-open a.n a.s.now a.low a.high st.requires.0 (sym u.upright.ensures ∙ not-false _ i.if-not-upright.false-raw))
     _ _ w.walked-r.ensures t.if-out.true _ z.clear.ensures _ c.answer-then-out.ensures
 
 answer-requires-3 : tie.Need-answer-requires-2
@@ -50,8 +50,8 @@ same-length-2 c = search rules
 returns-3 : tie.Need-returns
 returns-3 c =
     let o = c.before in let w = o.before.before.before in let i = w.before.before in let u = i.before in let st = begun u in let a = st.args in
-    ended-done a.limit a.c a.each.now st.pre.1.none _ _
-    (members-open a.n a.s.now a.low a.high st.pre.0 (sym u.upright.ensures ∙ not-false _ i.if-not-upright.false-raw))
+    ended-done a.limit a.c a.each.now st.requires.1.none _ _
+    (members-open a.n a.s.now a.low a.high st.requires.0 (sym u.upright.ensures ∙ not-false _ i.if-not-upright.false-raw))
     _ _ w.walked-r.ensures o.if-out.false _ c.answer-2.ensures
 
 pub ended_spec : {M : Type 1} → statement M

@@ -30,7 +30,7 @@ mul-a c = search rules
 array-copy-out-a : tie.Need-bounds-low-i
 array-copy-out-a c = search rules
 
-low_fits : (c : tie.After-a-1) → SFits w32 (get_or c.before.args.t1 c.before.args.i (pos 0))
+low_fits : (c : tie.After-a-1) → SFits w32 (get_or c.before.args.low c.before.args.i (pos 0))
 low_fits c = record { sfits = c.a-1.given }
 
 cast-a : tie.Need-overflow_cast-a
@@ -42,7 +42,7 @@ mul-b c = search rules
 array-copy-out-b : tie.Need-bounds-high-i
 array-copy-out-b c = search rules
 
-high_fits : (c : tie.After-b-1) → SFits w32 (get_or c.before.before.args.t2 c.before.before.args.i (pos 0))
+high_fits : (c : tie.After-b-1) → SFits w32 (get_or c.before.before.args.high c.before.before.args.i (pos 0))
 high_fits c = record { sfits = c.b-1.given }
 
 cast-b : tie.Need-overflow_cast-b
@@ -51,10 +51,10 @@ cast-b c = long (high_fits c)
 returns : tie.Need-returns-then-b-a
 returns c =
     let b = c.before in let a = b.before in let st = a.before in
-    let h : length st.args.t1 ≡ 8 = search rules in let k : length st.args.t2 ≡ 8 = search rules in
-    width-shut st.args.t1 st.args.t2 st.args.i (omega arith) (omega arith) (is_lt (reads (high_fits b)) (reads (low_fits a)) c.if-b-a.true)
+    let h : length st.args.low ≡ 8 = search rules in let k : length st.args.high ≡ 8 = search rules in
+    width-shut st.args.low st.args.high st.args.i (omega arith) (omega arith) (is_lt (reads (high_fits b)) (reads (low_fits a)) c.if-b-a.true)
 
-ordered : (c : tie.Else-b-a) → let st = c.before.before.before in get_or st.args.t1 st.args.i (pos 0) ≤ℤ get_or st.args.t2 st.args.i (pos 0)
+ordered : (c : tie.Else-b-a) → let st = c.before.before.before in get_or st.args.low st.args.i (pos 0) ≤ℤ get_or st.args.high st.args.i (pos 0)
 ordered c = is_ge (reads (high_fits c.before)) (reads (low_fits c.before.before)) c.if-b-a.false
 
 sub-result : tie.Need-overflow_sub-result
@@ -64,10 +64,10 @@ sub-result c =
 
 -- what is cast and counted on
 abbrev gap : tie.Else-b-a → ℤ
-gap c = let st = c.before.before.before in get_or st.args.t2 st.args.i (pos 0) -ℤ get_or st.args.t1 st.args.i (pos 0)
+gap c = let st = c.before.before.before in get_or st.args.high st.args.i (pos 0) -ℤ get_or st.args.low st.args.i (pos 0)
 
 is-gap : (c : tie.Else-b-a) → let st = c.before.before.before in
-    to_z w64 (of_z w64 (to_z w64 (of_z w64 (to_z w32 (of_z w32 (get_or st.args.t2 st.args.i (pos 0))))) -ℤ to_z w64 (of_z w64 (to_z w32 (of_z w32 (get_or st.args.t1 st.args.i (pos 0))))))) ≡ gap c
+    to_z w64 (of_z w64 (to_z w64 (of_z w64 (to_z w32 (of_z w32 (get_or st.args.high st.args.i (pos 0))))) -ℤ to_z w64 (of_z w64 (to_z w32 (of_z w32 (get_or st.args.low st.args.i (pos 0))))))) ≡ gap c
 is-gap c =
     let b = c.before in let a = b.before in
     (b-op (reads (high_fits b)) (reads (low_fits a)) ◌-ℤ◌ (difference _ _ (low_fits a) (high_fits b))).is
@@ -84,8 +84,8 @@ add-result c = record { fits = omega (arith, small c, ap nat_abs (is-gap c)) }
 returns-2 : tie.Need-returns
 returns-2 c =
     let st = c.before.before.before in
-    let h : length st.args.t1 ≡ 8 = search rules in let k : length st.args.t2 ≡ 8 = search rules in
-    ap (λ (z : ℤ). nat_abs z + 1) (is-gap c) ∙ width-open st.args.t1 st.args.t2 st.args.i (omega arith) (omega arith) (ordered c)
+    let h : length st.args.low ≡ 8 = search rules in let k : length st.args.high ≡ 8 = search rules in
+    ap (λ (z : ℤ). nat_abs z + 1) (is-gap c) ∙ width-open st.args.low st.args.high st.args.i (omega arith) (omega arith) (ordered c)
 
 pub width_spec : {M : Type 1} → statement M
 width_spec = tie.close (tie.spec mul-a array-copy-out-a cast-a mul-b array-copy-out-b cast-b returns sub-result cast-result add-result returns-2)

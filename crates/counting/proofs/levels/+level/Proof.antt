@@ -63,14 +63,14 @@ module _ (t : ℕ) (m : lts.At-loop-i (callees t) (at t) level.Post invariant-lo
   abbrev p : Prefix
   p = st.args.p
 
-  abbrev going : Going s p st.args.tested st.args.c st.args.each.now m.loop.each m.loop.whole m.loop.t m.loop.i
-  going = m.loop.inv.0
+  abbrev going : Going s p st.args.tested st.args.c st.args.each.now m.loop-i.each m.loop-i.whole m.loop-i.t m.loop-i.i
+  going = m.loop-i.inv.0
 
-  span-is : m.before.Span-of.result ≡ span_at p
-  span-is = m.before.Span-of.ensures.0
+  span-is : m.before.span_of-span.result ≡ span_at p
+  span-is = m.before.span_of-span.ensures.0
 
-  ready : Ready s p m.loop.t
-  ready = let d = st.pre.1.0 in record { standing = d.standing; within = going.inside; fits = d.fits; lives = d.lives }
+  ready : Ready s p m.loop-i.t
+  ready = let d = st.requires.1.0 in record { standing = d.standing; within = going.inside; fits = d.fits; lives = d.lives }
 
 climb-requires : (t : ℕ) → lts.Need-climb-x-requires (callees t) (at t) level.Post invariant-loop decreases-loop
 climb-requires t c κs = let m = c.before.before in (ready t m, m.loop.invariant.1)
@@ -81,13 +81,13 @@ module _ (t : ℕ) (c : lts.After-climb-x (callees t) (at t) level.Post invarian
   m = c.before.before.before
 
   abbrev r : Stop
-  r = c.climb.result
+  r = c.climb-x.result
 
-  abbrev climbed : Climbed (s t m) (p t m) m.loop.i m.loop.t c.climb.result
-  climbed = c.climb.ensures.0
+  abbrev climbed : Climbed (s t m) (p t m) m.loop-i.i m.loop-i.t c.climb-x.result
+  climbed = c.climb-x.ensures.0
 
-  fits : m.loop.t + c.climb.result.tested < 4294967296
-  fits = let h = climbed-most (s t m) (p t m) m.loop.i m.loop.t r climbed in let l = (st t m).pre.1.0.fits in omega arith
+  fits : m.loop-i.t + c.climb-x.result.tested < 4294967296
+  fits = let h = climbed-most (s t m) (p t m) m.loop-i.i m.loop-i.t r climbed in let l = (st t m).requires.1.0.fits in omega arith
 
 add-t : (t : ℕ) → lts.Need-overflow_add-t (callees t) (at t) level.Post invariant-loop decreases-loop
 add-t t c = let h = fits t c.before in omega arith
@@ -101,7 +101,7 @@ same_length t c = (going t (m t c.before.before.before.before)).added.places
 returns : (t : ℕ) → lts.Need-returns-then-x-eq0 (callees t) (at t) level.Post invariant-loop decreases-loop
 returns t c =
     let e = c.before in let k = e.before.before.before in let x = st t (m t k) in
-    (subst (λ (u : Sum). Summed x.args.p.limit x.args.tested x.args.c (members_at x.args.s.now x.args.p) x.args.each.now u (m t k).loop.each) (sym c.counted.ensures) (going-past (going t (m t k)) (ready t (m t k)) (r t k) (climbed t k) e.if1.true), k.climb.ensures.1)
+    (subst (λ (u : Sum). Summed x.args.p.limit x.args.tested x.args.c (members_at x.args.s.now x.args.p) x.args.each.now u (m t k).loop-i.each) (sym c.counted.ensures) (going-past (going t (m t k)) (ready t (m t k)) (r t k) (climbed t k) e.if1.true), k.climb.ensures.1)
 
 counted-requires-2 : (t : ℕ) → lts.Need-counted-requires-then-x-eq2 (callees t) (at t) level.Post invariant-loop decreases-loop
 counted-requires-2 t c κs = search rules
@@ -112,7 +112,7 @@ same-length-2 t c = (going t (m t c.before.before.before.before.before.before)).
 returns-2 : (t : ℕ) → lts.Need-returns-then-x-eq2 (callees t) (at t) level.Post invariant-loop decreases-loop
 returns-2 t c =
     let e = c.before in let k = e.before.before.before.before.before in let x = st t (m t k) in
-    (subst (λ (u : Sum). Summed x.args.p.limit x.args.tested x.args.c (members_at x.args.s.now x.args.p) x.args.each.now u (m t k).loop.each) (sym c.counted2.ensures) (going-spent (going t (m t k)) (ready t (m t k)) (r t k) (climbed t k) e.if2.true), k.climb.ensures.1)
+    (subst (λ (u : Sum). Summed x.args.p.limit x.args.tested x.args.c (members_at x.args.s.now x.args.p) x.args.each.now u (m t k).loop-i.each) (sym c.counted2.ensures) (going-spent (going t (m t k)) (ready t (m t k)) (r t k) (climbed t k) e.if2.true), k.climb.ensures.1)
 
 -- where a value passed
 module _ (t : ℕ) (e : lts.Else-x-eq2 (callees t) (at t) level.Post invariant-loop decreases-loop) where
@@ -122,8 +122,8 @@ module _ (t : ℕ) (e : lts.Else-x-eq2 (callees t) (at t) level.Post invariant-l
   abbrev turn : lts.At-loop-i (callees t) (at t) level.Post invariant-loop decreases-loop
   turn = m t k
 
-  fewer : suc (span_at (p t turn)) - (r t k).next < suc (span_at (p t turn)) - turn.loop.i
-  fewer = climbed-fewer (s t turn) (p t turn) turn.loop.i turn.loop.t (r t k) (climbed t k) e.before.before.if1.left e.if2.left
+  fewer : suc (span_at (p t turn)) - (r t k).next < suc (span_at (p t turn)) - turn.loop-i.i
+  fewer = climbed-fewer (s t turn) (p t turn) turn.loop-i.i turn.loop-i.t (r t k) (climbed t k) e.before.before.if-x-eq0.left e.if-x-eq2.left
 
 -- at a point
 module _ (t : ℕ) (c : lts.After-struct_known-then-x-eq1-1 (callees t) (at t) level.Post invariant-loop decreases-loop) where
@@ -139,10 +139,10 @@ module _ (t : ℕ) (c : lts.After-struct_known-then-x-eq1-1 (callees t) (at t) l
   abbrev stop : Stop
   stop = r t (k t passed)
 
-  met : Met (s t now) (p t now) now.loop.i now.loop.t stop
-  met = climbed-met stop (climbed t (k t passed)) point.if3.taken
+  met : Met (s t now) (p t now) now.loop-i.i now.loop-i.t stop
+  met = climbed-met stop (climbed t (k t passed)) point.if-x-eq1.taken
 
-  first : Ready (s t now) (p t now) (now.loop.t + stop.tested - 1)
+  first : Ready (s t now) (p t now) (now.loop-i.t + stop.tested - 1)
   first = let d = ready t now in let h = met.room in record { standing = d.standing; within = omega arith; fits = d.fits; lives = d.lives }
 
 sub-j : (t : ℕ) → lts.Need-overflow_sub-j (callees t) (at t) level.Post invariant-loop decreases-loop
@@ -159,9 +159,9 @@ sub-gathered t c = let h = (met t c.before).one in omega arith
 
 gathered-requires : (t : ℕ) → lts.Need-gathered-m-requires (callees t) (at t) level.Post invariant-loop decreases-loop
 gathered-requires t c κs =
-    let e = c.before.before.before in let x = now t e in let pre = (st t x).pre.1 in let d = met t e in let o = d.one in
+    let e = c.before.before.before in let x = now t e in let pre = (st t x).requires.1 in let d = met t e in let o = d.one in
     let a = going-most (going t x) pre.4 in
-    (first t e, (k t (passed t e)).climb.ensures.1, d.here, d.room, d.passes, pre.2, pre.3, record { at = λ j. let h = a.at j in omega arith })
+    (first t e, (k t (passed t e)).climb-x.ensures.1, d.here, d.room, d.passes, pre.2, pre.3, record { at = λ j. let h = a.at j in omega arith })
 
 module _ (t : ℕ) (c : lts.After-slice_known-then-x-eq1-1 (callees t) (at t) level.Post invariant-loop decreases-loop) where
   abbrev gathered : lts.After-gathered-m (callees t) (at t) level.Post invariant-loop decreases-loop
@@ -171,25 +171,25 @@ module _ (t : ℕ) (c : lts.After-slice_known-then-x-eq1-1 (callees t) (at t) le
   found = gathered.before.before.before.before
 
   abbrev many : ℕ
-  many = gathered.gathered.result
+  many = gathered.gathered-m.result
 
-  counted : Going (s t (now t found)) (p t (now t found)) (st t (now t found)).args.tested (st t (now t found)).args.c (st t (now t found)).args.each.now gathered.gathered.last.1.1.1.1.1.1.1.1.0 ((now t found).loop.whole + many) ((now t found).loop.t + (stop t found).tested - 1 + many) ((stop t found).next - 1 + many)
-  counted = going-at (going t (now t found)) (ready t (now t found)) (stop t found) (climbed t (k t (passed t found))) (point t found).if3.taken many _ gathered.gathered.ensures.0
+  counted : Going (s t (now t found)) (p t (now t found)) (st t (now t found)).args.tested (st t (now t found)).args.c (st t (now t found)).args.each.now gathered.gathered-m.last.1.1.1.1.1.1.1.1.0 ((now t found).loop-i.whole + many) ((now t found).loop-i.t + (stop t found).tested - 1 + many) ((stop t found).next - 1 + many)
+  counted = going-at (going t (now t found)) (ready t (now t found)) (stop t found) (climbed t (k t (passed t found))) (point t found).if-x-eq1.taken many _ gathered.gathered-m.ensures.0
 
-  lasts : Lasting (s t (now t found)) (p t (now t found)) ((stop t found).next - 1) ((now t found).loop.t + (stop t found).tested - 1) many
-  lasts = gathered.gathered.ensures.0.lasts
+  lasts : Lasting (s t (now t found)) (p t (now t found)) ((stop t found).next - 1) ((now t found).loop-i.t + (stop t found).tested - 1) many
+  lasts = gathered.gathered-m.ensures.0.lasts
 
 add-whole : (t : ℕ) → lts.Need-overflow_add-whole (callees t) (at t) level.Post invariant-loop decreases-loop
-add-whole t c = let g = counted t c in let a = g.many in let b = g.sum in let d = g.few in let h = g.inside in let f = (st t (now t (found t c))).pre.1.0.fits in omega arith
+add-whole t c = let g = counted t c in let a = g.many in let b = g.sum in let d = g.few in let h = g.inside in let f = (st t (now t (found t c))).requires.1.0.fits in omega arith
 
 sub-t : (t : ℕ) → lts.Need-overflow_sub-t-then-x-eq1 (callees t) (at t) level.Post invariant-loop decreases-loop
 sub-t t c = let h = (met t (found t c)).one in omega arith
 
 add-t-2 : (t : ℕ) → lts.Need-overflow_add-t-then-x-eq1 (callees t) (at t) level.Post invariant-loop decreases-loop
-add-t-2 t c = let h = (lasts t c).room in let f = (st t (now t (found t c))).pre.1.0.fits in omega arith
+add-t-2 t c = let h = (lasts t c).room in let f = (st t (now t (found t c))).requires.1.0.fits in omega arith
 
 cast-i : (t : ℕ) → lts.Need-overflow_cast-i (callees t) (at t) level.Post invariant-loop decreases-loop
-cast-i t c = let h = (lasts t c).room in let f = (st t (now t (found t c))).pre.1.0.fits in omega arith
+cast-i t c = let h = (lasts t c).room in let f = (st t (now t (found t c))).requires.1.0.fits in omega arith
 
 add-i : (t : ℕ) → lts.Need-overflow_add-i (callees t) (at t) level.Post invariant-loop decreases-loop
 add-i t c = let h = (lasting-along (first t (found t c)) (lasts t c)).few in omega arith
@@ -198,7 +198,7 @@ loop-less : (t : ℕ) → lts.Need-loop-i-smaller-then-x-eq1 (callees t) (at t) 
 loop-less t c = let d = met t (found t c) in let a = d.here in let b = d.later in let h = (lasts t c).some in omega arith
 
 loop-again : (t : ℕ) → lts.Need-loop-i-preserved-then-x-eq1 (callees t) (at t) level.Post invariant-loop decreases-loop
-loop-again t c = (counted t c, (gathered t c).gathered.ensures.1)
+loop-again t c = (counted t c, (gathered t c).gathered-m.ensures.1)
 
 -- above a prefix to go below
 module _ (t : ℕ) (c : lts.Else-x-eq1 (callees t) (at t) level.Post invariant-loop decreases-loop) where
@@ -206,16 +206,16 @@ module _ (t : ℕ) (c : lts.Else-x-eq1 (callees t) (at t) level.Post invariant-l
   over = c.before.before.before
 
   three : (r t (k t over)).way ≡ 3
-  three = climbed-three (r t (k t over)) (climbed t (k t over)) over.before.before.if1.left over.if2.left c.if3.false
+  three = climbed-three (r t (k t over)) (climbed t (k t over)) over.before.before.if-x-eq0.left over.if-x-eq2.left c.if-x-eq1.false
 
-  descends : Descends (s t (turn t over)) (p t (turn t over)) (turn t over).loop.t (r t (k t over))
-  descends = climbed-below (s t (turn t over)) (p t (turn t over)) (turn t over).loop.i (turn t over).loop.t (ready t (turn t over)) (r t (k t over)) (climbed t (k t over)) three
+  descends : Descends (s t (turn t over)) (p t (turn t over)) (turn t over).loop-i.t (r t (k t over))
+  descends = climbed-below (s t (turn t over)) (p t (turn t over)) (turn t over).loop-i.i (turn t over).loop-i.t (ready t (turn t over)) (r t (k t over)) (climbed t (k t over)) three
 
 level-requires : (t : ℕ) → lts.Need-level-r-requires (callees t) (at t) level.Post invariant-loop decreases-loop
 level-requires t c κs =
-    let e = c.before.before in let x = turn t (over t e) in let d = descends t e in let pre = (st t x).pre in let h = d.deeper in let q = pre.0 in
+    let e = c.before.before in let x = turn t (over t e) in let d = descends t e in let pre = (st t x).requires in let h = d.deeper in let q = pre.0 in
     let a = going-most (going t x) pre.1.4 in
-    (omega arith, (d.ready, subst₂ (λ (n b : ℕ). Rowed (s t x) n b (k t (over t e)).climb.last.1.1.1.1.0) (sym d.axes) (sym d.count) (k t (over t e)).climb.ensures.1, pre.1.2, pre.1.3, record { at = λ j. let h = a.at j in omega arith }))
+    (omega arith, (d.ready, subst₂ (λ (n b : ℕ). Rowed (s t x) n b (k t (over t e)).climb-x.last.1.1.1.1.0) (sym d.axes) (sym d.count) (k t (over t e)).climb-x.ensures.1, pre.1.2, pre.1.3, record { at = λ j. let h = a.at j in omega arith }))
 
 -- once the level below ended
 module _ (t : ℕ) (c : lts.After-slice_known-else-x-eq1-1 (callees t) (at t) level.Post invariant-loop decreases-loop) where
@@ -228,16 +228,16 @@ module _ (t : ℕ) (c : lts.After-slice_known-else-x-eq1-1 (callees t) (at t) le
   abbrev start : lts.At-loop-i (callees t) (at t) level.Post invariant-loop decreases-loop
   start = turn t (over t high)
 
-  rowed : Rowed (s t start) (p t start).n (p t start).count under.level.last.1.1.1.1.0
-  rowed = subst₂ (λ (n b : ℕ). Rowed (s t start) n b under.level.last.1.1.1.1.0) (descends t high).axes (descends t high).count under.level.ensures.1
+  rowed : Rowed (s t start) (p t start).n (p t start).count under.level-r.last.1.1.1.1.0
+  rowed = subst₂ (λ (n b : ℕ). Rowed (s t start) n b under.level-r.last.1.1.1.1.0) (descends t high).axes (descends t high).count under.level-r.ensures.1
 
 same-length-3 : (t : ℕ) → lts.Need-shape_of-each-then-out (callees t) (at t) level.Post invariant-loop decreases-loop
-same-length-3 t c = (under t c.before).level.kept.1.1.1.1.1.0 ∙ (going t (start t c.before)).added.places
+same-length-3 t c = (under t c.before).level-r.kept.1.1.1.1.1.0 ∙ (going t (start t c.before)).added.places
 
 returns-3 : (t : ℕ) → lts.Need-returns-then-out (callees t) (at t) level.Post invariant-loop decreases-loop
 returns-3 t c =
     let l = c.before in let y = k t (over t (high t l)) in
-    (going-out (going t (start t l)) (ready t (start t l)) (r t y) (climbed t y) (three t (high t l)) (under t l).level.result _ (under t l).level.ensures.0 c.if4.true, rowed t l)
+    (going-out (going t (start t l)) (ready t (start t l)) (r t y) (climbed t y) (three t (high t l)) (under t l).level-r.result _ (under t l).level-r.ensures.0 c.if4.true, rowed t l)
 
 module _ (t : ℕ) (c : lts.Else-out (callees t) (at t) level.Post invariant-loop decreases-loop) where
   abbrev ended : lts.After-slice_known-else-x-eq1-1 (callees t) (at t) level.Post invariant-loop decreases-loop
@@ -246,11 +246,11 @@ module _ (t : ℕ) (c : lts.Else-out (callees t) (at t) level.Post invariant-loo
   abbrev climb : lts.After-climb-x (callees t) (at t) level.Post invariant-loop decreases-loop
   climb = k t (over t (high t ended))
 
-  summed : Going (s t (start t ended)) (p t (start t ended)) (st t (start t ended)).args.tested (st t (start t ended)).args.c (st t (start t ended)).args.each.now (under t ended).level.last.1.1.1.1.1.0 ((start t ended).loop.whole + (under t ended).level.result.whole) (under t ended).level.result.tested (r t climb).next
-  summed = going-below (going t (start t ended)) (ready t (start t ended)) (r t climb) (climbed t climb) (three t (high t ended)) (under t ended).level.result _ (under t ended).level.ensures.0 c.if4.false
+  summed : Going (s t (start t ended)) (p t (start t ended)) (st t (start t ended)).args.tested (st t (start t ended)).args.c (st t (start t ended)).args.each.now (under t ended).level-r.last.1.1.1.1.1.0 ((start t ended).loop-i.whole + (under t ended).level-r.result.whole) (under t ended).level-r.result.tested (r t climb).next
+  summed = going-below (going t (start t ended)) (ready t (start t ended)) (r t climb) (climbed t climb) (three t (high t ended)) (under t ended).level-r.result _ (under t ended).level-r.ensures.0 c.if-out.false
 
 add-whole-2 : (t : ℕ) → lts.Need-overflow_add-whole-else-x-eq1 (callees t) (at t) level.Post invariant-loop decreases-loop
-add-whole-2 t c = let e = c.before in let g = summed t e in let a = g.many in let b = g.sum in let d = g.few in let h = g.inside in let f = (st t (start t (ended t e))).pre.1.0.fits in omega arith
+add-whole-2 t c = let e = c.before in let g = summed t e in let a = g.many in let b = g.sum in let d = g.few in let h = g.inside in let f = (st t (start t (ended t e))).requires.1.0.fits in omega arith
 
 loop-less-2 : (t : ℕ) → lts.Need-loop-i-smaller (callees t) (at t) level.Post invariant-loop decreases-loop
 loop-less-2 t c = fewer t (over t (high t (ended t c.before)))

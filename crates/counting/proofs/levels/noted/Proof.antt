@@ -22,7 +22,7 @@ raise-requires c κs =
 returns : tie.Need-returns
 returns c =
     let n = c.before.before in let st = n.before.before.before.before.before in let p = st.requires in
-    n.raise.ensures.notes st.args.c st.args.t2 (sym (to_z_of_z {w = w64} (within-fits (omega arith) p.1))) (sym (to_z_of_z {w = w64} (within-fits (omega arith) (p.2.at st.args.c.axis))))
+    n.raise.ensures.notes st.args.c st.args.point (sym (to_z_of_z {w = w64} (within-fits (omega arith) p.1))) (sym (to_z_of_z {w = w64} (within-fits (omega arith) (p.2.at st.args.c.axis))))
 
 same_length : tie.Need-shape_of-each
 same_length c = (returns c).places

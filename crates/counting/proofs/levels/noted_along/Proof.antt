@@ -34,7 +34,7 @@ module _ (c : tie.In-loop-x invariant-loop decreases-loop) where
   st = m.before.before.before
 
   abbrev x : ℕ
-  x = m.loop.x
+  x = m.loop-x.x
 
   abbrev low : List ℤ
   low = st.args.p.low
@@ -46,7 +46,7 @@ module _ (c : tie.In-loop-x invariant-loop decreases-loop) where
   here = get_or low k (pos 0) +ℤ pos (st.args.i + x)
 
   far : st.args.i + x ≤ 2097152
-  far = let h = c.loop-test.true in let f = st.pre.2.few in omega arith
+  far = let h = c.loop-x-test.true in let f = st.requires.2.few in omega arith
 
 cast-value-at : tie.Need-overflow_cast-x invariant-loop decreases-loop
 cast-value-at c = let h = far c in omega arith
@@ -62,7 +62,7 @@ value-is y = result_is w64 y.value_at-v.result y.value_at-v.type_inv ∙ y.value
 
 raise-requires : tie.Need-raise-requires invariant-loop decreases-loop
 raise-requires c κs =
-    let y = c.before.before in let l = y.before in let p = (st l).requires in let v = (m l).loop.invariant in let h = l.loop-x-test.true in (
+    let y = c.before.before in let l = y.before in let p = (st l).requires in let v = (m l).loop-x.invariant in let h = l.loop-x-test.true in (
       back-within (omega arith) p.1,
       subst (Within 1048576) (sym (value-is y)) (p.2.at (x l) h),
       line-room (st l).args.c (low l) (k l) (st l).args.i (x l) (st l).args.m _ _ v.1 p.3 h,
@@ -83,7 +83,7 @@ loop-less c = let l = (valued c).before in let h = l.loop-test.taken in omega ar
 
 loop-again : tie.Need-loop-x-preserved invariant-loop decreases-loop
 loop-again c =
-    let y = valued c in let l = y.before in let h = l.loop-x-test.taken in let v = (m l).loop.inv in let a = (st l).args in let p = (st l).pre in let o = p.2.axis in let q = p.2.lows in
+    let y = valued c in let l = y.before in let h = l.loop-x-test.taken in let v = (m l).loop-x.inv in let a = (st l).args in let p = (st l).requires in let o = p.2.axis in let q = p.2.lows in
     let point : List ℤ = set (low l) (k l) (here l) in
     let on : get_or point a.c.axis (pos 0) ≡ to_z w64 (of_z w64 y.value_at-v.result) =
     ap (λ (j : ℕ). get_or point j (pos 0)) p.0 ∙ get_or-set_same (low l) (k l) (here l) (pos 0) (omega arith) ∙ sym (value-is y) in (

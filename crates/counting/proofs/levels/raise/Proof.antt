@@ -29,13 +29,13 @@ module _ (st : tie.Start) where
   apart = to_z w64 (of_z w64 value) -ℤ to_z w64 (of_z w64 first)
 
   first_fits : SFits w64 first
-  first_fits = within-fits (omega arith) st.pre.0
+  first_fits = within-fits (omega arith) st.requires.0
 
   value-fits : SFits w64 value
-  value-fits = within-fits (omega arith) st.pre.1
+  value-fits = within-fits (omega arith) st.requires.1
 
   size : Within 2097152 (value -ℤ first)
-  size = within-mono (omega arith) (within-sub st.pre.1 st.pre.0)
+  size = within-mono (omega arith) (within-sub st.requires.1 st.requires.0)
 
   back : apart ≡ value -ℤ first
   back = ap₂ ◌-ℤ◌ (to_z_of_z value-fits) (to_z_of_z first_fits)
@@ -56,7 +56,7 @@ module _ (c : tie.Then-f-v) where
 
   far-is : pos (nat_abs (value v -ℤ first v)) ≡ value v -ℤ first v
   far-is =
-      let l : first v ≤ℤ value v = is_le (b-of (first_fits v)) (b-of (value-fits v)) c.if1.true in
+      let l : first v ≤ℤ value v = is_le (b-of (first_fits v)) (b-of (value-fits v)) c.if-f-v.true in
       nat_abs-nonneg (lia-le (first v ∷ value v ∷ []) (le l ∷ []) (search lin depth 30) (omega arith))
 
   value-is : value v ≡ first v +ℤ pos place

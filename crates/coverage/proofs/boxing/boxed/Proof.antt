@@ -47,13 +47,13 @@ mul-j c = let h = axis c.before.before in omega arith
 -- its low
 module _ (c : tie.After-l-1 invariant-loop decreases-loop) where
   abbrev low : ℤ
-  low = let m = c.before.before in get_or m.before.before.args.t2 m.loop.i (pos 0)
+  low = let m = c.before.before in get_or m.before.before.args.low m.loop-i.i (pos 0)
 
   fits : SFits w32 low
-  fits = record { sfits = c.l.given }
+  fits = record { sfits = c.l-1.given }
 
   within : Within 1048576 low
-  within = let m = c.before.before in let st = m.before.before in low-within st.args.n st.args.t2 st.args.t3 st.requires.1 m.loop.i
+  within = let m = c.before.before in let st = m.before.before in low-within st.args.n st.args.low st.args.high st.requires.1 m.loop-i.i
 
 sub-side-rule : tie.Need-overflow_sub-l invariant-loop decreases-loop
 sub-side-rule c = opposite-asked (low c.before) (fits c.before) (within c.before)
@@ -85,7 +85,7 @@ add-i c = let h = axis c.before.before.before.before in omega arith
 loop-less : tie.Need-loop-i-smaller invariant-loop decreases-loop
 loop-less c = omega (arith, c.before.before.before.before.loop-i-test.true)
 
-eight : (c : tie.Start invariant-loop decreases-loop) → (length c.args.t2 ≡ 8) × (length c.args.t3 ≡ 8)
+eight : (c : tie.Start invariant-loop decreases-loop) → (length c.args.low ≡ 8) × (length c.args.high ≡ 8)
 eight c = (search rules, search rules)
 
 loop-again : tie.Need-loop-i-preserved invariant-loop decreases-loop

@@ -30,7 +30,7 @@ joined c = c.before.before.before
 first-long : (c : tie.Start invariant-loop decreases-loop) → length c.args.a.constraints ≡ 48
 first-long c = simp length-map at c.well_formed.0.1.1.1.0.1.0.1
 
-second-long : (c : tie.Start invariant-loop decreases-loop) → length c.args.t2.constraints ≡ 48
+second-long : (c : tie.Start invariant-loop decreases-loop) → length c.args.c.constraints ≡ 48
 second-long c = simp length-map at c.well_formed.1.0.1.1.1.0.1.0.1
 
 fits-is : (c : tie.Else-not-fits invariant-loop decreases-loop) → c.before.join-j.result.fits ≡ true
@@ -43,7 +43,7 @@ returns : tie.Need-returns-then-not-fits invariant-loop decreases-loop
 returns c =
     let s = c.before.before.before.before in
     let j = c.before.join-j in
-    both-unjoined s.args.a s.args.t2 j.result s.requires j.ensures (first-long s) (second-long s) (not-true j.result.fits c.if-not-fits.true-raw)
+    both-unjoined s.args.a s.args.c j.result s.requires j.ensures (first-long s) (second-long s) (not-true j.result.fits c.if-not-fits.true-raw)
 
 add-if2 : tie.Need-overflow_add-cons invariant-loop decreases-loop
 add-if2 c = let h = (start c).requires.cons in let k = (start c).requires.cons' in omega arith
@@ -53,33 +53,33 @@ returns-2 c =
     let e = c.before in
     let s = start e in
     let j = e.before.join-j in
-    both-over s.args.a s.args.t2 j.result s.pre j.ensures (first-long s) (second-long s) (fits-is e) c.if-cons-more-gt-CONSTRAINTS.true
+    both-over s.args.a s.args.c j.result s.requires j.ensures (first-long s) (second-long s) (fits-is e) c.if-cons-more-gt-CONSTRAINTS.true
 
 loop-holds : tie.Need-loop-k-init invariant-loop decreases-loop
 loop-holds c =
     let e = c.before.before in
     let s = start e in
     let j = e.before.join-j in
-    (omega arith, gathered-start s.args.a s.args.t2 j.result s.pre j.ensures (first-long s) (second-long s) (fits-is e))
+    (omega arith, gathered-start s.args.a s.args.c j.result s.requires j.ensures (first-long s) (second-long s) (fits-is e))
 
 mul-e : tie.Need-offset_bounds-c-k invariant-loop decreases-loop
-mul-e c = let h = (start (joined c.before)).pre.cons' in omega arith
+mul-e c = let h = (start (joined c.before)).requires.cons' in omega arith
 
 element-copy-out-e : tie.Need-bounds-c-k invariant-loop decreases-loop
-element-copy-out-e c = let s = start (joined c.before) in let h = s.pre.cons' in let l = second-long s in omega arith
+element-copy-out-e c = let s = start (joined c.before) in let h = s.requires.cons' in let l = second-long s in omega arith
 
 moved-requires : tie.Need-moved-r-requires invariant-loop decreases-loop
 moved-requires c κs =
     let e = joined c.before.before in
     let s = start e in
     let j = e.before.join-j in
-    (s.pre.divs', placed-is s.args.a s.args.t2 j.result s.pre j.ensures (first-long s) (second-long s) (fits-is e))
+    (s.requires.divs', placed-is s.args.a s.args.c j.result s.requires j.ensures (first-long s) (second-long s) (fits-is e))
 
 -- the loop from where a constraint is moved, and the room that the test leaves
 abbrev turn : tie.After-moved-r invariant-loop decreases-loop → tie.At-loop-k invariant-loop decreases-loop
 turn c = c.before.before.before
 
-room : (c : tie.At-loop-k invariant-loop decreases-loop) → (start (joined c)).args.a.cons + (start (joined c)).args.t2.cons ≤ 48
+room : (c : tie.At-loop-k invariant-loop decreases-loop) → (start (joined c)).args.a.cons + (start (joined c)).args.c.cons ≤ 48
 room c = c.before.before.if-cons-more-gt-CONSTRAINTS.false
 
 add_r : tie.Need-overflow_add-r invariant-loop decreases-loop
@@ -103,7 +103,7 @@ loop-again c =
     let e = joined l in
     let s = start e in
     let j = e.before.join-j in
-    (omega arith, gathered-more s.args.a s.args.t2 j.result s.pre j.ensures (first-long s) (second-long s) (fits-is e) l.loop-k.k l.loop-k.set.constraints l.loop-k.inv.1 (omega arith) (room l) c.moved-r.result c.moved-r.ensures)
+    (omega arith, gathered-more s.args.a s.args.c j.result s.requires j.ensures (first-long s) (second-long s) (fits-is e) l.loop-k.k l.loop-k.set.constraints l.loop-k.inv.1 (omega arith) (room l) c.moved-r.result c.moved-r.ensures)
 
 add-set : tie.Need-overflow_add-set invariant-loop decreases-loop
 add-set c = let h = room c.before.before in omega arith
@@ -114,7 +114,7 @@ returns-3 c =
     let e = joined l in
     let s = start e in
     let j = e.before.join-j in
-    both_end s.args.a s.args.t2 j.result s.pre j.ensures (first-long s) (second-long s) (fits-is e) l.loop-k.k l.loop-k.set.constraints l.loop-k.invariant.1 (omega arith) (room l)
+    both_end s.args.a s.args.c j.result s.requires j.ensures (first-long s) (second-long s) (fits-is e) l.loop-k.k l.loop-k.set.constraints l.loop-k.invariant.1 (omega arith) (room l)
 
 pub both_spec : {M : Type 1} → statement M
 both_spec =

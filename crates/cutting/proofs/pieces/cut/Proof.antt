@@ -64,11 +64,11 @@ followed c = c.before.before.before.before.before
 first-long : (c : tie.Start invariant-loop decreases-loop) → length c.args.a.constraints ≡ 48
 first-long c = simp length-map at c.well_formed.0.1.1.1.0.1.0.1
 
-second-long : (c : tie.Start invariant-loop decreases-loop) → length c.args.t2.constraints ≡ 48
+second-long : (c : tie.Start invariant-loop decreases-loop) → length c.args.c.constraints ≡ 48
 second-long c = simp length-map at c.well_formed.1.0.1.1.1.0.1.0.1
 
 -- once joined
-opened : (c : tie.Else-not-fits invariant-loop decreases-loop) → Opened (entered c).args.a (entered c).args.t2 c.before.before.before.before.join-j.result (stepped c.before.begin-s.result.working c.before.begin-s.result.steps c.before.begin-s.result.count)
+opened : (c : tie.Else-not-fits invariant-loop decreases-loop) → Opened (entered c).args.a (entered c).args.c c.before.before.before.before.join-j.result (stepped c.before.begin-s.result.working c.before.begin-s.result.steps c.before.begin-s.result.count)
 opened c =
     let p1 = c.before.before.before.before in
     let b = c.before.begin-s.ensures in
@@ -91,7 +91,7 @@ turning c = opened-turning (opened (joins (in-turn c).before)) (in-turn c).befor
 
 -- its candidates, by the shared tests, or alone where one of those is wide
 spare-long : (c : tie.After-kept-arg5 invariant-loop decreases-loop) → length (in-turn (ruled c)).before.loop-k.spare ≡ 64
-spare-long c = let l = (in-turn (ruled c)).before in l.loop.inv.2 ∙ (entered (joins l)).pre.2.high
+spare-long c = let l = (in-turn (ruled c)).before in l.loop.inv.2 ∙ (entered (joins l)).requires.2.high
 
 judged : (c : tie.Joined-far invariant-loop decreases-loop) → Keeping (basic_set_of (in-turn (ruled (tried c))).before.loop-k.w) (constraint_of (ruled (tried c)).joining_rule-r.result) c.if-far.x
 judged c =
@@ -128,7 +128,7 @@ returns : tie.Need-returns-then-not-fits invariant-loop decreases-loop
 returns c =
     let st = c.before.before.before.before.before.before.before.before.before in
     let p1 = c.before.before.before.before in
-    unjoined st.args.a st.args.t2 p1.join-j.result st.requires.0 p1.join-j.ensures (first-long (st)) (second-long (st)) c.before.begin-s.result c.before.begin-s.ensures
+    unjoined st.args.a st.args.c p1.join-j.result st.requires.0 p1.join-j.ensures (first-long (st)) (second-long (st)) c.before.begin-s.result c.before.begin-s.ensures
     (not-true p1.join-j.result.fits c.if-not-fits.true-raw)
 
 slice-aggregate-start : tie.Need-slice_bounds-start-end invariant-loop decreases-loop
@@ -171,7 +171,7 @@ same-length-3 : tie.Need-shape_of-kinds-then-at-eq-CONSTRAINTS invariant-loop de
 same-length-3 c = let l = c.before.before.before in l.loop-k.invariant.0.wide ∙ l.before.before.before.before.before.before.before.before.start-h.auto.1.1.1.0
 
 same-length-4 : tie.Need-shape_of-past-then-at-eq-CONSTRAINTS invariant-loop decreases-loop
-same-length-4 c = let l = c.before.before.before in l.loop-k.invariant.1.stands.many ∙ sym (entered (joins l)).pre.2.many
+same-length-4 c = let l = c.before.before.before in l.loop-k.invariant.1.stands.many ∙ sym (entered (joins l)).requires.2.many
 
 same-length-5 : tie.Need-shape_of-spare-then-at-eq-CONSTRAINTS invariant-loop decreases-loop
 same-length-5 c = c.before.before.before.loop-k.invariant.2
@@ -180,16 +180,16 @@ returns-2 : tie.Need-returns-then-at-eq-CONSTRAINTS invariant-loop decreases-loo
 returns-2 c =
     let l = c.before.before.before in
     let st = entered (joins l) in
-    subst (CutTightIs st.args.a st.args.t2) (sym c.told.ensures) (opened-full (opened (joins l)) l.loop-k.invariant.0 c.before.before.loop-k-test.true c.before.if-at-eq-CONSTRAINTS.true)
+    subst (CutTightIs st.args.a st.args.c) (sym c.told.ensures) (opened-full (opened (joins l)) l.loop-k.invariant.0 c.before.before.loop-k-test.true c.before.if-at-eq-CONSTRAINTS.true)
 
 mul-e : tie.Need-offset_bounds-c-k invariant-loop decreases-loop
-mul-e c = let h = (entered (joins c.before.before)).pre.0.cons' in search rules
+mul-e c = let h = (entered (joins c.before.before)).requires.0.cons' in search rules
 
 element-copy-out-e : tie.Need-bounds-c-k invariant-loop decreases-loop
-element-copy-out-e c = let h = (entered (joins c.before.before)).pre.0.cons' in let z = c.before.loop-k-test.true in omega arith
+element-copy-out-e c = let h = (entered (joins c.before.before)).requires.0.cons' in let z = c.before.loop-k-test.true in omega arith
 
 joining-rule-requires : tie.Need-joining_rule-r-requires invariant-loop decreases-loop
-joining-rule-requires c κs = let j = joins c.before.before.before in ((entered j).pre.0.divs', opened-placed (opened j))
+joining-rule-requires c κs = let j = joins c.before.before.before in ((entered j).requires.0.divs', opened-placed (opened j))
 
 slice-aggregate-kept : tie.Need-slice_bounds-kept-end invariant-loop decreases-loop
 slice-aggregate-kept c = sym (in-turn c.before.before.before.before.before).before.loop-k.inv.1.stands.many'
@@ -232,7 +232,7 @@ passed-requires : tie.Need-passed-k-requires invariant-loop decreases-loop
 passed-requires c κs = (in-turn (ruled (tried (settled c)))).loop-k-test.taken
 
 -- the next constraint
-later : (c : tie.After-passed-k invariant-loop decreases-loop) → ((in-turn (ruled (tried (settled c.before)))).before.loop-k.k < c.passed-k.result) × (c.passed-k.result ≤ (entered (joins (in-turn (ruled (tried (settled c.before)))).before)).args.t2.cons)
+later : (c : tie.After-passed-k invariant-loop decreases-loop) → ((in-turn (ruled (tried (settled c.before)))).before.loop-k.k < c.passed-k.result) × (c.passed-k.result ≤ (entered (joins (in-turn (ruled (tried (settled c.before)))).before)).args.c.cons)
 later c =
     let r = ruled (tried (settled c.before)) in
     passed_on (c.before.before.either-on.result && void (constraint_of r.joining_rule-r.result)) _ _ _ (in-turn r).loop-k-test.taken c.passed-k.ensures
@@ -260,7 +260,7 @@ loop-again c =
     let l = it.before.loop-k in
     let i = l.inv in
     let j = joins it.before in
-    let cons = (entered j).args.t2.cons in
+    let cons = (entered j).args.c.cons in
     let v = turning r in
     let t = turn o in
     let f = behind-followed t (caught it) v.extending.divs v.extending.cons p.either-on.result p.either-on.ensures (cons - pd.passed-k.result) u.follow-h.ensures in (
@@ -288,7 +288,7 @@ same-length-8 : tie.Need-shape_of-kinds invariant-loop decreases-loop
 same-length-8 c = let l = c.before.before in l.loop-k.invariant.0.wide ∙ l.before.before.before.before.before.before.before.before.start-h.auto.1.1.1.0
 
 same-length-9 : tie.Need-shape_of-past invariant-loop decreases-loop
-same-length-9 c = let l = c.before.before in l.loop-k.invariant.1.stands.many ∙ sym (entered (joins l)).pre.2.many
+same-length-9 c = let l = c.before.before in l.loop-k.invariant.1.stands.many ∙ sym (entered (joins l)).requires.2.many
 
 same-length-10 : tie.Need-shape_of-spare invariant-loop decreases-loop
 same-length-10 c = c.before.before.loop-k.invariant.2
@@ -297,7 +297,7 @@ returns-3 : tie.Need-returns invariant-loop decreases-loop
 returns-3 c =
     let l = c.before.before in
     let st = entered (joins l) in
-    subst (CutTightIs st.args.a st.args.t2) (sym c.told-2.ensures) (opened-end (opened (joins l)) l.loop-k.invariant.0 c.before.loop-k-test.false)
+    subst (CutTightIs st.args.a st.args.c) (sym c.told-2.ensures) (opened-end (opened (joins l)) l.loop-k.invariant.0 c.before.loop-k-test.false)
 
 pub cut_spec : {M : Type 1} → statement M
 cut_spec =

@@ -31,7 +31,7 @@ tested c =
 inside : (c : tie.Else-is_zero) → let s = start c.before in get_or s.args.place.now s.args.v 0 < length s.args.t.now
 inside c =
     let s = start c.before in
-    let h = s.pre.4.spot s.args.v s.pre.5 (zero-no _ (sym (tested c.before) ∙ c.if-is_zero.false)) in
+    let h = s.requires.4.spot s.args.v s.requires.5 (zero-no _ (sym (tested c.before) ∙ c.if-is_zero.false)) in
     omega (arith, h, rows-length s.args.t.now)
 
 add-cell-at : tie.Need-overflow_add-v
@@ -48,8 +48,8 @@ returns c =
     let z = c.before in let s = start z in
     record {
       is = settled-none (bound 128) (rows_of s.args.t.now) s.args.place.now s.args.v (sketch_of s.args.row.now s.args.waiting.now) (sym (tested z) ∙ c.if-is_zero.true);
-      sheet = s.pre.1;
-      waits = s.pre.2;
+      sheet = s.requires.1;
+      waits = s.requires.2;
     }
 
 mul-i : tie.Need-offset_bounds-place-v
@@ -71,7 +71,7 @@ replace-requires : tie.Need-replace-requires
 replace-requires c κs =
     let e = c.before.before.before.before in let s = start e.before in let i = get_or s.args.place.now s.args.v 0 in let h = inside e in let t = s.args.t.now in
     let b : i < length (rows_of t) = omega (arith, h, rows-length t) in
-    (s.pre.1, s.pre.2, s.pre.0.at i h, omega (arith, s.pre.5, s.pre.3.few), record { whole = s.pre.4.whole; line = subst (Line (s.args.k + 10)) (rows_at t i) (s.pre.3.line i b); over = subst (λ (l : List ℤ). pos 0 <ℤ den l) (rows_at t i) (s.pre.3.over i b) })
+    (s.requires.1, s.requires.2, s.requires.0.at i h, omega (arith, s.requires.5, s.requires.3.few), record { whole = s.requires.4.whole; line = subst (Line (s.args.k + 10)) (rows_at t i) (s.requires.3.line i b); over = subst (λ (l : List ℤ). pos 0 <ℤ den l) (rows_at t i) (s.requires.3.over i b) })
 
 returns-2 : tie.Need-returns
 returns-2 c =

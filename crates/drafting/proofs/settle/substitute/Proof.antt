@@ -37,7 +37,7 @@ lowest : (c : tie.After-gcd-d) → let y = c.before in let x = first y in let s 
 lowest c =
     let y = c.before in let x = first y in let k = x.before.before.before in
     let e : size c.gcd-d.result ≡ gcd (size x.combine-g.result) (size y.combine-h.result) = c.gcd-d.ensures in
-    K.lowest-is (parts k) (start k).pre.4 x.combine-g.ensures.is y.combine-h.ensures.is (size c.gcd-d.result) (size x.combine-g.result) (size y.combine-h.result) e x.combine-g.ensures.divisor_is y.combine-h.ensures.divisor_is
+    K.lowest-is (parts k) (start k).requires.4 x.combine-g.ensures.is y.combine-h.ensures.is (size c.gcd-d.result) (size x.combine-g.result) (size y.combine-h.result) e x.combine-g.ensures.divisor_is y.combine-h.ensures.divisor_is
 
 cell-at-requires : tie.Need-cell_at-m-requires
 cell-at-requires c κs = search rules
@@ -62,8 +62,8 @@ clear-requires c κs = search rules
 
 combine-requires : tie.Need-combine-g-requires
 combine-requires c κs =
-    let k = c.before.before in let s = start k in let h = s.pre.4 in let p = parts k in
-    (s.pre.0, (copied k).wipe.ensures.sheet, h.ready.whole.line, K.row_line p h, h.small, K.row_small p h, K.divisor-near p h, K.by_near p h)
+    let k = c.before.before in let s = start k in let h = s.requires.4 in let p = parts k in
+    (s.requires.0, (copied k).wipe.ensures.sheet, h.ready.whole.line, K.row_line p h, h.small, K.row_small p h, K.divisor-near p h, K.by_near p h)
 
 combine-requires-2 : tie.Need-combine-h-requires
 combine-requires-2 c κs =
@@ -76,7 +76,7 @@ gcd-requires c κs = search rules
 lower-requires : tie.Need-lower-requires
 lower-requires c κs =
     let g = c.before.before in let y = g.before in let x = first y in let k = x.before.before.before in
-    let o = K.combined-whole (parts k) (start k).pre.4 x.combine-g.ensures.is y.combine-h.ensures.is in
+    let o = K.combined-whole (parts k) (start k).requires.4 x.combine-g.ensures.is y.combine-h.ensures.is in
     (x.combine-g.ensures.sheet, y.combine-h.ensures.sheet, o.line, o.waits, (lowest g).0)
 
 returns : tie.Need-returns

@@ -52,7 +52,7 @@ returns-3 : tie.Need-returns-then-set-at
 returns-3 c =
     let a = c.before in
     let s = start (sought a) in
-    asked-none _ s.args.n s.args.set.now (expression_of s.args.e) (good (sought a)) s.args.k a.before.if-k-eq0.false a.start_of_lem.result a.start_of_lem.ensures c.if-set-at.true
+    asked-none _ s.args.n s.args.set.now (expression_of s.args.e) (good (sought a)) s.args.k a.before.if-k-eq0.false a.start_of-at.result a.start_of-at.ensures c.if-set-at.true
 
 add-decode-basic : tie.Need-overflow_add-at
 add-decode-basic c = search rules
@@ -61,7 +61,7 @@ decode-basic-requires : tie.Need-decode_basic-b-requires
 decode-basic-requires c κs =
     let a = c.before in
     let s = start (sought a) in
-    asked-opened s.args.n s.args.set.now (good (sought a)) s.args.k a.before.if-k-eq0.false a.start_of_lem.result a.start_of_lem.ensures c.if-set-at.false
+    asked-opened s.args.n s.args.set.now (good (sought a)) s.args.k a.before.if-k-eq0.false a.start_of-at.result a.start_of-at.ensures c.if-set-at.false
 
 refusal-requires : tie.Need-refusal-own-requires
 refusal-requires c κs = search rules
@@ -73,7 +73,7 @@ returns-4 c =
     let a = f.before in
     let s = start (sought a) in
     let d = r.before.decode_basic-b in
-    asked-own _ s.args.n s.args.set.now (expression_of s.args.e) (good (sought a)) s.args.k a.before.if-k-eq0.left a.start_of_lem.result a.start_of_lem.ensures f.if-set-at.left
+    asked-own _ s.args.n s.args.set.now (expression_of s.args.e) (good (sought a)) s.args.k a.before.if-k-eq0.left a.start_of-at.result a.start_of-at.ensures f.if-set-at.left
     d.result d.ensures r.refusal-own.result r.refusal-own.ensures c.if-own-ne0.true
 
 inequality-of-requires : tie.Need-inequality_of-c-requires
@@ -96,7 +96,7 @@ returns-5 c =
     let d = r.before.decode_basic-b in
     c.of_basic.ensures
     ∙ ap (λ e. gives (extreme_of (aim_of s.args.greatest) (basic_set_of d.result) e)) i.inequality_of-c.ensures
-    ∙ asked-value _ s.args.n s.args.set.now (expression_of s.args.e) (good (sought a)) s.args.k a.before.if-k-eq0.left a.start_of_lem.result a.start_of_lem.ensures f.if-set-at.left
+    ∙ asked-value _ s.args.n s.args.set.now (expression_of s.args.e) (good (sought a)) s.args.k a.before.if-k-eq0.left a.start_of-at.result a.start_of-at.ensures f.if-set-at.left
     d.result d.ensures (sym r.refusal-own.ensures ∙ l.if-own-ne0.false)
 
 pub extreme_spec : {M : Type 1} → statement M

@@ -30,7 +30,7 @@ array-share-prefix-rows c = search rules
 slice-aggregate-carry : tie.Need-slice_bounds-carry-end
 slice-aggregate-carry c =
     let f = filling c in
-    let p = (start f).pre in
+    let p = (start f).requires in
     sym (filled-rows p.0 f.fill.ensures p.2 p.3)
 
 slice-relend-prefix-carry : tie.Need-slice_bounds-carry-end-2
@@ -42,7 +42,7 @@ slice-aggregate-carry-2 c = let p = (start (filling c.before)).requires in sym (
 carry-requires : tie.Need-carry-requires
 carry-requires c κs =
     let f = filling c.before in
-    let p = (start f).pre in
+    let p = (start f).requires in
     (taken-rows p.0 _ p.1 ∙ sym (filled-rows p.0 f.fill.ensures p.2 p.3), filled-long p.0 f.fill.ensures p.2 p.3)
 
 same_length : tie.Need-shape_of-t
@@ -57,7 +57,7 @@ same-length-3 c = search rules
 returns : tie.Need-returns
 returns c =
     let f = filling c.before.before.before in
-    let p = (start f).pre in
+    let p = (start f).requires in
     begun p.0 f.fill.ensures p.2 p.3 _ _ p.1 c.before.carry.ensures
 
 pub conditions_spec : {M : Type 1} → statement M

@@ -59,7 +59,7 @@ array-borrow-prefix-t : tie.Need-slice_bounds-t-end
 array-borrow-prefix-t c = search rules
 
 slice-aggregate-both-halves : tie.Need-slice_bounds-both_halves-end
-slice-aggregate-both-halves c = let f = filling c.before in sym (taken-rows (start f).pre _ f.conditions.ensures.long)
+slice-aggregate-both-halves c = let f = filling c.before in sym (taken-rows (start f).requires _ f.conditions.ensures.long)
 
 add-both-halves : tie.Need-overflow_add-k
 add-both-halves c = search rules
@@ -81,14 +81,14 @@ both-halves-requires c κs =
     let r = ready c in
     let f = filling r in
     let e = f.conditions.ensures in
-    (e.rows.sheets, r.goal_row.ensures.sheet, begun-posed (start f).pre e (constraint_of (start f).args.c) r.goal_row.ensures)
+    (e.rows.sheets, r.goal_row.ensures.sheet, begun-posed (start f).requires e (constraint_of (start f).args.c) r.goal_row.ensures)
 
 returns : tie.Need-returns
 returns c =
     let h = c.before.before in
     let r = ready h.before in
     let f = filling r in
-    h.both_halves.ensures ∙ ap gives (begun-value (start f).pre f.conditions.ensures (constraint_of (start f).args.c) r.goal_row.ensures (start f).args.greatest)
+    h.both_halves.ensures ∙ ap gives (begun-value (start f).requires f.conditions.ensures (constraint_of (start f).args.c) r.goal_row.ensures (start f).args.greatest)
 
 pub of_basic_spec : {M : Type 1} → statement M
 of_basic_spec =

@@ -21,7 +21,7 @@ decreases-loop k flags m₀ i₀ m i = i
 loop-holds : tie.Need-loop-i-init invariant-loop decreases-loop
 unfolding mask_of
 loop-holds c =
-    let k = c.args.k in let flags = c.args.t1 in
+    let k = c.args.k in let flags = c.args.flags in
     let l : length flags ≡ 64 = search rules in
     let t = length-take-le k flags (omega arith) in
     (omega arith, l, sym (ap (mask_of itself) (drop_of_length-le (take k flags) {i = k} (omega arith))))
@@ -37,7 +37,7 @@ one-requires c κs = search rules
 
 -- the flags of the points
 abbrev flags_of : tie.Start invariant-loop decreases-loop → List Bool
-flags_of st = take st.args.k st.args.t1
+flags_of st = take st.args.k st.args.flags
 
 long : (m : tie.At-loop-i invariant-loop decreases-loop) → length (flags_of m.before) ≤ 64
 long m = let l = m.loop-i.invariant.1 in let a = m.before.args in let p = m.before.requires in omega (arith, length-take-le a.k a.t1 (omega arith))

@@ -45,14 +45,14 @@ end-of-requires c κs = opened c.before.before.before
 loop-less : tie.Need-loop-at-smaller invariant-loop decreases-loop
 loop-less c =
     let l = c.before.before.before.before in let m = l.before in let a = m.before.before.args in
-    let e = c.end_of_lem.ensures in
+    let e = c.end_of-at.ensures in
     let i = walking-inside a.s.now a.n a.xs.now a.k m.loop-at.flags m.loop-at.at m.loop-at.invariant.1 l.loop-at-test.true in omega arith
 
 loop-again : tie.Need-loop-at-preserved invariant-loop decreases-loop
 loop-again c =
     let k = c.before.before in let l = k.before.before in let m = l.before in let a = m.before.before.args in let v = m.loop-at.invariant in
     let next = walking-next a.s.now a.n a.xs.now a.k m.loop-at.flags m.loop-at.at v.1 l.loop-at-test.true _ k.marked.ensures in
-    (v.0, subst (Walking a.s.now a.n a.xs.now a.k _) (sym c.end_of_lem.ensures) next)
+    (v.0, subst (Walking a.s.now a.n a.xs.now a.k _) (sym c.end_of-at.ensures) next)
 
 returns : tie.Need-returns invariant-loop decreases-loop
 returns c =

@@ -40,7 +40,7 @@ decreases-loop ds n m es all₀ divs₀ taken₀ places₀ k₀ all divs taken p
 loop-holds : tie.Need-loop-k-init invariant-loop decreases-loop
 loop-holds c =
     let l : length c.args.ds ≡ 8 = search rules in
-    (omega arith, omega arith, omega arith, l, refl, refl, halfway-start (map division_of (take c.args.n c.args.ds)) (map division_of (take c.args.m c.args.t3)) c.args.n _ none-taken)
+    (omega arith, omega arith, omega arith, l, refl, refl, halfway-start (map division_of (take c.args.n c.args.ds)) (map division_of (take c.args.m c.args.es)) c.args.n _ none-taken)
   where
     none-taken : (i : ℕ) → get_or (false ∷ false ∷ false ∷ false ∷ false ∷ false ∷ false ∷ false ∷ []) i false ≡ false
     none-taken i = zeros 8 i

@@ -45,8 +45,8 @@ array-copy-out-if1-2 c = omega arith
 returns : tie.Need-returns-then-x-i invariant-loop decreases-loop
 returns c =
     let lo = c.before.before.before.before in
-    let x = lo.before.args.t1 in
-    let y = lo.before.args.t2 in
+    let x = lo.before.args.x in
+    let y = lo.before.args.y in
     let l : length x ≡ 8 = search rules in
     let m : length y ≡ 8 = search rules in
     sym (list-stop x y lo.loop-i.i (omega arith) (omega arith) (λ e. c.if-x-i.true (ap (of_z w16) e))) ∙ lo.loop-i.invariant.1
@@ -64,8 +64,8 @@ loop-again : tie.Need-loop-i-preserved invariant-loop decreases-loop
 loop-again c =
     let lo = c.before.before.before.before in
     let i = lo.loop-i.i in
-    let x = lo.before.args.t1 in
-    let y = lo.before.args.t2 in
+    let x = lo.before.args.x in
+    let y = lo.before.args.y in
     let l : length x ≡ 8 = search rules in
     let m : length y ≡ 8 = search rules in
     let e : get_or x i (pos 0) ≡ get_or y i (pos 0) = of_z-same {w = w16} (record { sfits = c.before.before.t10-1.given }) (record { sfits = c.before.t14-1.given }) c.if-x-i.false in
@@ -74,8 +74,8 @@ loop-again c =
 -- src/divisions.rt:21:1
 returns-2 : tie.Need-returns invariant-loop decreases-loop
 returns-2 c =
-    let x = c.before.before.args.t1 in
-    let y = c.before.before.args.t2 in
+    let x = c.before.before.args.x in
+    let y = c.before.before.args.y in
     let l : length x ≡ 8 = search rules in
     let m : length y ≡ 8 = search rules in
     let z : c.before.loop-i.i ≡ 8 = omega arith in

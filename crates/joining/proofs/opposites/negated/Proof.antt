@@ -20,8 +20,8 @@ array-copy-out-minus c = search rules
 minus-requires : tie.Need-minus-requires
 minus-requires c κs =
     let st = c.before in
-    let l : length st.args.t1 ≡ 8 = search rules in
-    subst (λ (z : ℤ). T (coefficient z)) (sym (result_is w16 (get_or st.args.t1 0 (pos 0)) c.minus-arg-1.given)) (all-at coefficient st.args.t1 0 (pos 0) (omega arith) st.requires)
+    let l : length st.args.xs ≡ 8 = search rules in
+    subst (λ (z : ℤ). T (coefficient z)) (sym (result_is w16 (get_or st.args.xs 0 (pos 0)) c.minus-arg-1.given)) (all-at coefficient st.args.xs 0 (pos 0) (omega arith) st.requires)
 
 array-copy-out-minus-2 : tie.Need-bounds-xs-1
 array-copy-out-minus-2 c = search rules
@@ -29,8 +29,8 @@ array-copy-out-minus-2 c = search rules
 minus-requires-2 : tie.Need-minus-requires-2
 minus-requires-2 c κs =
     let st = c.before.before.before in
-    let l : length st.args.t1 ≡ 8 = search rules in
-    subst (λ (z : ℤ). T (coefficient z)) (sym (result_is w16 (get_or st.args.t1 1 (pos 0)) c.minus-arg-2-1.given)) (all-at coefficient st.args.t1 1 (pos 0) (omega arith) st.requires)
+    let l : length st.args.xs ≡ 8 = search rules in
+    subst (λ (z : ℤ). T (coefficient z)) (sym (result_is w16 (get_or st.args.xs 1 (pos 0)) c.minus-arg-2-1.given)) (all-at coefficient st.args.xs 1 (pos 0) (omega arith) st.requires)
 
 array-copy-out-minus-3 : tie.Need-bounds-xs-2
 array-copy-out-minus-3 c = search rules
@@ -38,8 +38,8 @@ array-copy-out-minus-3 c = search rules
 minus-requires-3 : tie.Need-minus-requires-3
 minus-requires-3 c κs =
     let st = c.before.before.before.before.before in
-    let l : length st.args.t1 ≡ 8 = search rules in
-    subst (λ (z : ℤ). T (coefficient z)) (sym (result_is w16 (get_or st.args.t1 2 (pos 0)) c.minus-arg-3-1.given)) (all-at coefficient st.args.t1 2 (pos 0) (omega arith) st.requires)
+    let l : length st.args.xs ≡ 8 = search rules in
+    subst (λ (z : ℤ). T (coefficient z)) (sym (result_is w16 (get_or st.args.xs 2 (pos 0)) c.minus-arg-3-1.given)) (all-at coefficient st.args.xs 2 (pos 0) (omega arith) st.requires)
 
 array-copy-out-minus-4 : tie.Need-bounds-xs-3
 array-copy-out-minus-4 c = search rules
@@ -47,8 +47,8 @@ array-copy-out-minus-4 c = search rules
 minus-requires-4 : tie.Need-minus-requires-4
 minus-requires-4 c κs =
     let st = c.before.before.before.before.before.before.before in
-    let l : length st.args.t1 ≡ 8 = search rules in
-    subst (λ (z : ℤ). T (coefficient z)) (sym (result_is w16 (get_or st.args.t1 3 (pos 0)) c.minus-arg-4-1.given)) (all-at coefficient st.args.t1 3 (pos 0) (omega arith) st.requires)
+    let l : length st.args.xs ≡ 8 = search rules in
+    subst (λ (z : ℤ). T (coefficient z)) (sym (result_is w16 (get_or st.args.xs 3 (pos 0)) c.minus-arg-4-1.given)) (all-at coefficient st.args.xs 3 (pos 0) (omega arith) st.requires)
 
 array-copy-out-minus-5 : tie.Need-bounds-xs-4
 array-copy-out-minus-5 c = search rules
@@ -56,8 +56,8 @@ array-copy-out-minus-5 c = search rules
 minus-requires-5 : tie.Need-minus-requires-5
 minus-requires-5 c κs =
     let st = c.before.before.before.before.before.before.before.before.before in
-    let l : length st.args.t1 ≡ 8 = search rules in
-    subst (λ (z : ℤ). T (coefficient z)) (sym (result_is w16 (get_or st.args.t1 4 (pos 0)) c.minus-arg-5-1.given)) (all-at coefficient st.args.t1 4 (pos 0) (omega arith) st.requires)
+    let l : length st.args.xs ≡ 8 = search rules in
+    subst (λ (z : ℤ). T (coefficient z)) (sym (result_is w16 (get_or st.args.xs 4 (pos 0)) c.minus-arg-5-1.given)) (all-at coefficient st.args.xs 4 (pos 0) (omega arith) st.requires)
 
 array-copy-out-minus-6 : tie.Need-bounds-xs-5
 array-copy-out-minus-6 c = search rules
@@ -65,8 +65,8 @@ array-copy-out-minus-6 c = search rules
 minus-requires-6 : tie.Need-minus-requires-6
 minus-requires-6 c κs =
     let st = c.before.before.before.before.before.before.before.before.before.before.before in
-    let l : length st.args.t1 ≡ 8 = search rules in
-    subst (λ (z : ℤ). T (coefficient z)) (sym (result_is w16 (get_or st.args.t1 5 (pos 0)) c.minus-arg-6-1.given)) (all-at coefficient st.args.t1 5 (pos 0) (omega arith) st.requires)
+    let l : length st.args.xs ≡ 8 = search rules in
+    subst (λ (z : ℤ). T (coefficient z)) (sym (result_is w16 (get_or st.args.xs 5 (pos 0)) c.minus-arg-6-1.given)) (all-at coefficient st.args.xs 5 (pos 0) (omega arith) st.requires)
 
 array-copy-out-minus-7 : tie.Need-bounds-xs-6
 array-copy-out-minus-7 c = search rules
@@ -74,8 +74,8 @@ array-copy-out-minus-7 c = search rules
 minus-requires-7 : tie.Need-minus-requires-7
 minus-requires-7 c κs =
     let st = c.before.before.before.before.before.before.before.before.before.before.before.before.before in
-    let l : length st.args.t1 ≡ 8 = search rules in
-    subst (λ (z : ℤ). T (coefficient z)) (sym (result_is w16 (get_or st.args.t1 6 (pos 0)) c.minus-arg-7-1.given)) (all-at coefficient st.args.t1 6 (pos 0) (omega arith) st.requires)
+    let l : length st.args.xs ≡ 8 = search rules in
+    subst (λ (z : ℤ). T (coefficient z)) (sym (result_is w16 (get_or st.args.xs 6 (pos 0)) c.minus-arg-7-1.given)) (all-at coefficient st.args.xs 6 (pos 0) (omega arith) st.requires)
 
 array-copy-out-minus-8 : tie.Need-bounds-xs-7
 array-copy-out-minus-8 c = search rules
@@ -83,13 +83,13 @@ array-copy-out-minus-8 c = search rules
 minus-requires-8 : tie.Need-minus-requires-8
 minus-requires-8 c κs =
     let st = c.before.before.before.before.before.before.before.before.before.before.before.before.before.before.before in
-    let l : length st.args.t1 ≡ 8 = search rules in
-    subst (λ (z : ℤ). T (coefficient z)) (sym (result_is w16 (get_or st.args.t1 7 (pos 0)) c.minus-arg-8-1.given)) (all-at coefficient st.args.t1 7 (pos 0) (omega arith) st.requires)
+    let l : length st.args.xs ≡ 8 = search rules in
+    subst (λ (z : ℤ). T (coefficient z)) (sym (result_is w16 (get_or st.args.xs 7 (pos 0)) c.minus-arg-8-1.given)) (all-at coefficient st.args.xs 7 (pos 0) (omega arith) st.requires)
 
 returns : tie.Need-returns
 returns c =
     let st = c.before.before.before.before.before.before.before.before.before.before.before.before.before.before.before.before in
-    let xs = st.args.t1 in
+    let xs = st.args.xs in
     let l : length xs ≡ 8 = search rules in
     let g : 0 + 8 ≡ length xs = omega arith in
     let e1 = result_is w16 c.before.before.before.before.before.before.before.before.before.before.before.before.before.before.minus.result c.before.before.before.before.before.before.before.before.before.before.before.before.before.before.minus.type_inv ∙ c.before.before.before.before.before.before.before.before.before.before.before.before.before.before.minus.ensures ∙ ap neg_ℤ (result_is w16 (get_or xs 0 (pos 0)) c.before.before.before.before.before.before.before.before.before.before.before.before.before.before.before.minus-arg-1.given) in

@@ -17,11 +17,11 @@ invariant-loop b n k₀ k = Undivided b k
 abbrev decreases-loop : tie.decreases-loop-k
 decreases-loop b n k₀ k = n - k
 
-long : (c : tie.Start invariant-loop decreases-loop) → length c.args.t1.constraints ≡ 48
+long : (c : tie.Start invariant-loop decreases-loop) → length c.args.b.constraints ≡ 48
 long c = simp length-map at c.well_formed.0.1.1.1.0.1.0.1
 
 loop-holds : tie.Need-loop-k-init invariant-loop decreases-loop
-loop-holds c = undivided-start c.args.t1
+loop-holds c = undivided-start c.args.b
 
 mul-c : tie.Need-offset_bounds-b-k invariant-loop decreases-loop
 mul-c c = search rules

@@ -23,13 +23,13 @@ decreases-loop g xs r₀ k₀ r k = k
 
 loop-holds : tie.Need-loop-k-init invariant-loop decreases-loop
 loop-holds c =
-    let l : length c.args.t1 ≡ 8 = search rules in
-    (omega arith, sym (ap (common_from c.args.g) (drop_of_length-le c.args.t1 {i = 8} (omega arith))), c.requires)
+    let l : length c.args.xs ≡ 8 = search rules in
+    (omega arith, sym (ap (common_from c.args.g) (drop_of_length-le c.args.xs {i = 8} (omega arith))), c.requires)
 
 returns : tie.Need-returns-then-r-eq1 invariant-loop decreases-loop
 returns c =
     let lo = c.before.before in
-    (sym (common-one lo.before.args.t1 lo.loop-k.k lo.before.args.g (sym lo.loop-k.invariant.1 ∙ c.if-r-eq1.true)), omega arith)
+    (sym (common-one lo.before.args.xs lo.loop-k.k lo.before.args.g (sym lo.loop-k.invariant.1 ∙ c.if-r-eq1.true)), omega arith)
 
 sub-k : tie.Need-overflow_sub-k invariant-loop decreases-loop
 sub-k c = search rules
@@ -49,7 +49,7 @@ loop-less c = search rules
 loop-again : tie.Need-loop-k-preserved invariant-loop decreases-loop
 loop-again c =
     let lo = c.before.before.before.before in
-    let xs = lo.before.args.t1 in
+    let xs = lo.before.args.xs in
     let g = lo.before.args.g in
     let j = lo.loop-k.k - 1 in
     let z = get_or xs j (pos 0) in
@@ -64,7 +64,7 @@ loop-again c =
 returns-2 : tie.Need-returns invariant-loop decreases-loop
 returns-2 c =
     let lo = c.before in
-    (lo.loop-k.invariant.1 ∙ ap (λ (k : ℕ). common_from lo.before.args.g (drop k lo.before.args.t1)) c.loop-k-test.false, lo.loop-k.invariant.2)
+    (lo.loop-k.invariant.1 ∙ ap (λ (k : ℕ). common_from lo.before.args.g (drop k lo.before.args.xs)) c.loop-k-test.false, lo.loop-k.invariant.2)
 
 pub common_spec : {M : Type 1} → statement M
 common_spec =

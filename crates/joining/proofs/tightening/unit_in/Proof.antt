@@ -45,7 +45,7 @@ loop-again : tie.Need-loop-i-preserved invariant-loop decreases-loop
 loop-again c =
     let u = c.before in
     let lo = u.before.before.before in
-    let xs = lo.before.args.t1 in
+    let xs = lo.before.args.xs in
     let i = lo.loop-i.i in
     let l : length xs ≡ 8 = search rules in
     let h = u.before.before.loop-i-test.true in
@@ -60,7 +60,7 @@ loop-again c =
 returns : tie.Need-returns invariant-loop decreases-loop
 returns c =
     let lo = c.before in
-    let xs = lo.before.args.t1 in
+    let xs = lo.before.args.xs in
     let l : length xs ≡ 8 = search rules in
     sym (found-end lo.loop-i.found is_unit xs lo.loop-i.i (omega arith)) ∙ lo.loop-i.invariant.1
 

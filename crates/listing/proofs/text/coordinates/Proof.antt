@@ -56,7 +56,7 @@ returns : tie.Need-returns invariant-loop decreases-loop
 returns c =
     let st = c.before.before.before in
     let e : c.before.loop-i.i ≡ st.args.n = omega arith in
-    subst (λ (i : ℕ). Writes (22 * i) (concat_map number (take i st.args.t3)) st.args.out.now st.args.at c.before.loop-i.k c.before.loop-i.out) e c.before.loop-i.invariant.2
+    subst (λ (i : ℕ). Writes (22 * i) (concat_map number (take i st.args.p)) st.args.out.now st.args.at c.before.loop-i.k c.before.loop-i.out) e c.before.loop-i.invariant.2
 
 pub coordinates_spec : {M : Type 1} → statement M
 coordinates_spec =

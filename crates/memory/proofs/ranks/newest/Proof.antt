@@ -37,13 +37,13 @@ marks-requires : tie.Need-marks-n-requires
 marks-requires c κs = search rules
 
 add-ranks : tie.Need-overflow_add-ranks
-add-ranks c = let a = falls c in omega (arith, long a, (start a).pre.1, c.marks-n.ensures.1)
+add-ranks c = let a = falls c in omega (arith, long a, (start a).requires.1, c.marks-n.ensures.1)
 
 mul-ranks-2 : tie.Need-offset_bounds-ranks-name-3
 mul-ranks-2 c = search rules
 
 slice-write-ranks-2 : tie.Need-bounds-ranks-name-3
-slice-write-ranks-2 c = let a = falls c in omega (arith, long a, (start a).pre.0)
+slice-write-ranks-2 c = let a = falls c in omega (arith, long a, (start a).requires.0)
 
 same_length : tie.Need-shape_of-ranks
 same_length c = simp length-set (long (falls c))

@@ -52,7 +52,7 @@ unfolding sound
 returns c = rw (sym c.before.head_sound.ensures ∙ not-true _ c.if-not-head_sound.true-raw)
 
 slice-aggregate-rows-sound : tie.Need-slice_bounds-rows_sound-end
-slice-aggregate-rows-sound c = let e = c.before in let s = start e.before in let f = few-rows e in let r = s.pre.rows in sym (length-take-le (head s 3) s.args.rows.now (omega arith))
+slice-aggregate-rows-sound c = let e = c.before in let s = start e.before in let f = few-rows e in let r = s.requires.rows in sym (length-take-le (head s 3) s.args.rows.now (omega arith))
 
 add-rows-sound : tie.Need-overflow_add-k
 add-rows-sound c = record { fits = let e = c.before in let h = (heads e).few in omega arith }
@@ -72,7 +72,7 @@ add-names-2 c = record { fits = let e = c.before.before.before in let h = (heads
 
 slice-aggregate-places-sound : tie.Need-slice_bounds-places_sound-end
 slice-aggregate-places-sound c =
-    let e = c.before.before.before.before in let s = start e.before in let h = (heads e).few in let f = few-rows e in let p = s.pre.place in
+    let e = c.before.before.before.before in let s = start e.before in let h = (heads e).few in let f = few-rows e in let p = s.requires.place in
     sym (length-take-le (8 + head s 1 + head s 3) s.args.place.now (omega arith))
 
 places-sound-requires : tie.Need-places_sound-requires

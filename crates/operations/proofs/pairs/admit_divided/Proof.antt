@@ -28,10 +28,10 @@ emit-kept-requires c κs =
     let e = asked c in
     let s = start e in
     let t = e.before.tight_set-t in
-    let given = s.pre.0 in
+    let given = s.requires.0 in
     let tight = admit-sound s.args.w t.result t.ensures e.if-none.left given in
-    let ready = s.pre.1 in
-    let tables = s.pre.2 in
+    let ready = s.requires.1 in
+    let tables = s.requires.2 in
     search rules
 
 same_length : tie.Need-shape_of-out

@@ -53,7 +53,7 @@ returns-2 : tie.Need-returns
 returns-2 c =
     let k = told c.before in
     let s = start k in
-    tested-dropped s.args.m k.keeps.result k.keeps.ensures s.args.out.now s.args.s c.if-keeps.false s.pre.1
+    tested-dropped s.args.m k.keeps.result k.keeps.ensures s.args.out.now s.args.s c.if-keeps.false s.requires.1
 
 pub emit_kept_spec : {M : Type 1} → statement M
 emit_kept_spec =

@@ -30,7 +30,7 @@ sound : (c : tie.Else-not-fits) → Sound c.before.both-c.result.set
 sound c =
     let s = start c in
     let i = c.before.both-c in
-    meet-sound s.args.p s.args.v s.pre.0 i.result i.ensures (not-false i.result.fits c.if-not-fits.false-raw)
+    meet-sound s.args.p s.args.v s.requires.0 i.result i.ensures (not-false i.result.fits c.if-not-fits.false-raw)
 
 both-requires : tie.Need-both-c-requires
 both-requires c κs = search rules
@@ -45,7 +45,7 @@ any-divisible-requires : tie.Need-any_divisible-requires
 any-divisible-requires c κs = (sound c.before).cons
 
 admit-divided-requires : tie.Need-admit_divided-requires
-admit-divided-requires c κs = let e = divided c in (sound e, (start e).pre.1, (start e).pre.2)
+admit-divided-requires c κs = let e = divided c in (sound e, (start e).requires.1, (start e).requires.2)
 
 same_length : tie.Need-shape_of-out-then-any_divisible
 same_length c = search rules
@@ -65,10 +65,10 @@ returns-2 c =
     let e = divided k.before in
     let s = start e in
     let i = e.before.both-c in
-    meet-admitted s.args.p s.args.v s.pre.0 i.result i.ensures (not-false i.result.fits e.if-not-fits.left) k.admit_divided.ensures
+    meet-admitted s.args.p s.args.v s.requires.0 i.result i.ensures (not-false i.result.fits e.if-not-fits.left) k.admit_divided.ensures
 
 emit-kept-requires : tie.Need-emit_kept-requires
-emit-kept-requires c κs = let e = (plain c).before.before.before in (sound e, (start e).pre.1, (start e).pre.2)
+emit-kept-requires c κs = let e = (plain c).before.before.before in (sound e, (start e).requires.1, (start e).requires.2)
 
 same-length-5 : tie.Need-shape_of-out
 same-length-5 c = search rules
@@ -89,7 +89,7 @@ returns-3 c =
     let e = d.before.before.before in
     let s = start e in
     let i = e.before.both-c in
-    meet-admitted s.args.p s.args.v s.pre.0 i.result i.ensures (not-false i.result.fits e.if-not-fits.left) (admit-plain i.result.set (sym d.before.any_divisible.ensures ∙ d.if-any_divisible.left) k.emit_kept.ensures)
+    meet-admitted s.args.p s.args.v s.requires.0 i.result i.ensures (not-false i.result.fits e.if-not-fits.left) (admit-plain i.result.set (sym d.before.any_divisible.ensures ∙ d.if-any_divisible.left) k.emit_kept.ensures)
 
 pub meet_spec : {M : Type 1} → statement M
 meet_spec =

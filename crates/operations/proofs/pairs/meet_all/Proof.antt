@@ -64,12 +64,12 @@ end-of-requires : tie.Need-end_of-pos-requires invariant-loop decreases-loop
 end-of-requires c κs = along-opened c.before.before.before.before.before.before.before.before.before.before.before.before.before.before.before.loop-pos.invariant c.before.before.before.before.before.before.before.before.before.before.before.before.before.before.loop-pos-test.true
 
 loop-less : tie.Need-loop-pos-smaller invariant-loop decreases-loop
-loop-less c = let h = c.before.before.before.before.before.before.before.before.before.before.before.before.before.before.before.loop-pos-test.true in omega (arith, c.end_of_lem.ensures)
+loop-less c = let h = c.before.before.before.before.before.before.before.before.before.before.before.before.before.before.before.loop-pos-test.true in omega (arith, c.end_of-pos.ensures)
 
 loop-again : tie.Need-loop-pos-preserved invariant-loop decreases-loop
 loop-again c =
     let m = c.before.before.before.before.before.before.before.before.before.meet-t in
-    along-next c.before.before.before.before.before.before.before.before.before.before.before.before.before.before.before.before.loop-pos.invariant c.before.before.before.before.before.before.before.before.before.before.before.before.before.before.before.loop-pos-test.true c.before.before.before.before.before.before.before.before.before.before.before.before.before.before.decode_basic-v.ensures m.ensures _ c.end_of_lem.ensures m.auto.1.1.0 m.auto.1.1.1.1.0 m.auto.1.1.1.1.1.0 m.auto.1.1.1.1.1.1.0 (not-false m.result.fits c.before.if-not-on.false-raw)
+    along-next c.before.before.before.before.before.before.before.before.before.before.before.before.before.before.before.before.loop-pos.invariant c.before.before.before.before.before.before.before.before.before.before.before.before.before.before.before.loop-pos-test.true c.before.before.before.before.before.before.before.before.before.before.before.before.before.before.decode_basic-v.ensures m.ensures _ c.end_of-pos.ensures m.auto.1.1.0 m.auto.1.1.1.1.0 m.auto.1.1.1.1.1.0 m.auto.1.1.1.1.1.1.0 (not-false m.result.fits c.before.if-not-on.false-raw)
 
 same-length-5 : tie.Need-shape_of-out invariant-loop decreases-loop
 same-length-5 c = c.before.loop-pos.invariant.same

@@ -30,7 +30,7 @@ meet-all-requires c κs =
     let e = asked c in
     let s = start e in
     let t = e.before.tight_set-t in
-    (first-level s.args.p t.result t.ensures e.if-none.left s.pre.0, s.pre.1, s.pre.2)
+    (first-level s.args.p t.result t.ensures e.if-none.left s.requires.0, s.requires.1, s.requires.2)
 
 same_length : tie.Need-shape_of-out
 same_length c = search rules

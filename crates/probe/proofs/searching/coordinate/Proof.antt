@@ -14,8 +14,8 @@ returns c = search rules
 
 returns-2 : tie.Need-returns
 returns-2 c =
-    let h : length c.before.args.t1 ≡ 8 = search rules in
-    sym (get_or-eq_default c.before.args.t1 (pos 0) (omega arith))
+    let h : length c.before.args.p ≡ 8 = search rules in
+    sym (get_or-eq_default c.before.args.p (pos 0) (omega arith))
 
 pub coordinate_spec : {M : Type 1} → statement M
 coordinate_spec = tie.close (tie.spec mul-result array-copy-out-result returns returns-2)

@@ -29,7 +29,7 @@ start-of-requires c κs =
 returns-3 : tie.Need-returns-then-set-at
 returns-3 c =
     let s = c.before.before.before.before.before.before.args in
-    let o = c.before.start_of_lem in
+    let o = c.before.start_of-at in
     let z = sym c.before.before.before.before.check.ensures ∙ c.before.before.before.if-check-ne0.false in
     built-none s.n s.set.now z s.k c.before.before.if-k-eq0.false o.result o.ensures c.if-set-at.true
 
@@ -39,7 +39,7 @@ add-decode-basic c = search rules
 decode-basic-requires : tie.Need-decode_basic-requires
 decode-basic-requires c κs =
     let s = c.before.before.before.before.before.before.args in
-    let o = c.before.start_of_lem in
+    let o = c.before.start_of-at in
     let z = sym c.before.before.before.before.check.ensures ∙ c.before.before.before.if-check-ne0.false in
     asked-opened s.n s.set.now z s.k c.before.before.if-k-eq0.false o.result o.ensures c.if-set-at.false
 
@@ -56,7 +56,7 @@ returns-4 c =
     let s = i.before.before.before.args in
     let z = sym i.before.check.ensures ∙ i.if-check-ne0.false in
     c.built_alone.ensures
-    ∙ built-some s.n s.set.now z s.k t.if-k-eq0.false o.start_of_lem.result o.start_of_lem.ensures e.if-set-at.false
+    ∙ built-some s.n s.set.now z s.k t.if-k-eq0.false o.start_of-at.result o.start_of-at.ensures e.if-set-at.false
     d.decode_basic.result d.decode_basic.ensures
 
 pub probe_built_spec : {M : Type 1} → statement M

@@ -24,7 +24,7 @@ start-of-requires c κs =
 returns-2 : tie.Need-returns-then-set-at
 returns-2 c =
     let s = c.before.before.before.before.before.args in
-    let o = c.before.start_of_lem in
+    let o = c.before.start_of-at in
     let z = sym c.before.before.before.check.ensures ∙ c.before.before.if-check-ne0.false in
     unmade s.times
     (sym (ap pivots_number
@@ -36,7 +36,7 @@ add-decode-basic c = search rules
 decode-basic-requires : tie.Need-decode_basic-b-requires
 decode-basic-requires c κs =
     let s = c.before.before.before.before.before.args in
-    let o = c.before.start_of_lem in
+    let o = c.before.start_of-at in
     let z = sym c.before.before.before.check.ensures ∙ c.before.before.if-check-ne0.false in
     asked-opened s.n s.set.now z 1 (λ e. omega arith) o.result o.ensures c.if-set-at.false
 
@@ -62,7 +62,7 @@ returns-3 c =
     let b = d.decode_basic-b in
     c.before.before.before.tests.ensures
     ∙ ap (λ (p : ℕ). (s.times * p) % 2 ^ 64)
-    (first-pivots s.n s.set.now z o.start_of_lem.result o.start_of_lem.ensures e.if-set-at.false
+    (first-pivots s.n s.set.now z o.start_of-at.result o.start_of-at.ensures e.if-set-at.false
     b.result b.ensures)
 
 pub probe_tests_spec : {M : Type 1} → statement M

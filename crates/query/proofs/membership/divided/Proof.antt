@@ -33,11 +33,11 @@ module _ (t : tie.In-loop-e invariant-loop decreases-loop) where
   abbrev st : tie.Start invariant-loop decreases-loop
   st = m.before.before
 
-  code : is_division (get_or st.args.s.now m.loop.at 0) ≡ true
-  code = sym t.before.division-at.ensures ∙ t.if1.taken
+  code : is_division (get_or st.args.s.now m.loop-e.at 0) ≡ true
+  code = sym t.before.division_at.ensures ∙ t.loop-e-test.taken
 
-  here : DivisionAt m.loop.inv.n st.args.s.now m.loop.at m.loop.inv.k
-  here = dividing-at st.args.s.now st.args.start st.args.x.now m.loop.at m.loop.d m.loop.q m.loop.inv code
+  here : DivisionAt m.loop-e.inv.n st.args.s.now m.loop-e.at m.loop-e.inv.k
+  here = dividing-at st.args.s.now st.args.start st.args.x.now m.loop-e.at m.loop-e.d m.loop-e.q m.loop-e.inv code
 
 division-at-requires : tie.Need-division_at-requires invariant-loop decreases-loop
 division-at-requires c κs = search rules
@@ -50,7 +50,7 @@ body-requires c κs = (here c.before).whole
 
 quotient-at-requires : tie.Need-quotient_at-v-requires invariant-loop decreases-loop
 quotient-at-requires c κs =
-    let e = c.before in let h = here e.before in let p = (st e.before).pre.1 in
+    let e = c.before in let h = here e.before in let p = (st e.before).requires.1 in
     (subst (λ (t : List ℕ). division_body ≤ length t) (sym c.body-t.ensures) h.body, p.axes, p.point, subst (λ (d : ℕ). 0 < d) (sym e.head-e.ensures.0) h.divisor, e.head-e.ensures.1)
 
 mul-v : tie.Need-offset_bounds-q-d invariant-loop decreases-loop
@@ -58,11 +58,11 @@ mul-v c = search rules
 
 slice-set-from-v : tie.Need-bounds-q-d invariant-loop decreases-loop
 slice-set-from-v c =
-    let t = c.before.before.before in let i = (m t).loop.invariant in
+    let t = c.before.before.before in let i = (m t).loop-e.invariant in
     let f = (here t).few in let g = i.counts in let l = i.places in omega arith
 
 add-d : tie.Need-overflow_add-d invariant-loop decreases-loop
-add-d c = let f = (m c.before.before.before).loop.inv.few in omega arith
+add-d c = let f = (m c.before.before.before).loop-e.inv.few in omega arith
 
 next-requires : tie.Need-next-at-requires invariant-loop decreases-loop
 next-requires c κs = (here c.before.before.before).whole
@@ -72,7 +72,7 @@ loop-less c = let h = (here c.before.before.before.before).whole in let r = h.ro
 
 loop-again : tie.Need-loop-e-preserved invariant-loop decreases-loop
 loop-again c =
-    let v = c.before in let b = v.before in let e = b.before in let t = e.before in let a = (st t).args in let l = (m t).loop in
+    let v = c.before in let b = v.before in let e = b.before in let t = e.before in let a = (st t).args in let l = (m t).loop-e in
     let k = result_is w64 v.quotient_at-v.result v.quotient_at-v.type_inv in
     subst (λ (p : ℕ). Dividing a.s.now a.start a.x.now p (l.d + 1) (set l.q l.d (to_z w64 (of_z w64 v.quotient_at-v.result)))) (sym c.next-at.ensures)
     (dividing-next a.s.now a.start a.x.now l.at l.d l.q l.inv (code t) _

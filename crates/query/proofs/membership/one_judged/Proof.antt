@@ -18,8 +18,8 @@ module _ (st : tie.Start) where
   abbrev ok : M.Constraint → Bool
   ok = M.holds (pos 1) st.args.x.now st.args.q.now
 
-  here : ConstraintAt st.pre.0.n st.args.s.now st.args.at st.pre.0.k
-  here = judging-at st.args.s.now st.args.at ok st.pre.0 st.pre.1
+  here : ConstraintAt st.requires.0.n st.args.s.now st.args.at st.requires.0.k
+  here = judging-at st.args.s.now st.args.at ok st.requires.0 st.requires.1
 
 code-requires : tie.Need-code-b-requires
 code-requires c κs = search rules

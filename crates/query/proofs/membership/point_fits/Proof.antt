@@ -21,7 +21,7 @@ abbrev decreases-loop : tie.decreases-loop-i
 decreases-loop n point i₀ i = 8 - i
 
 loop-holds : tie.Need-loop-i-init invariant-loop decreases-loop
-loop-holds c = (search rules, search rules, fits-start c.args.n c.args.t2)
+loop-holds c = (search rules, search rules, fits-start c.args.n c.args.point)
 
 mul-z : tie.Need-offset_bounds-point-i invariant-loop decreases-loop
 mul-z c = search rules
@@ -35,8 +35,8 @@ coordinate-fits-requires c κs = search rules
 returns : tie.Need-returns-then-not-coordinate_fits invariant-loop decreases-loop
 returns c =
     let e = c.before in let i = e.before.before in let m = i.before in let st = m.before in let v = m.loop-i.invariant in
-    let z = to_z_of_z {w = w32} {z = get_or st.args.t2 m.loop-i.i (pos 0)} (record { sfits = e.before.z-1.given }) in
-    fits-stop st.args.n st.args.t2 m.loop-i.i v.2 (omega arith) (ap (coordinate_fits st.args.n m.loop-i.i) (sym z) ∙ sym e.coordinate_fits.ensures ∙ not-true _ c.if-not-coordinate_fits.true-raw)
+    let z = to_z_of_z {w = w32} {z = get_or st.args.point m.loop-i.i (pos 0)} (record { sfits = e.before.z-1.given }) in
+    fits-stop st.args.n st.args.point m.loop-i.i v.2 (omega arith) (ap (coordinate_fits st.args.n m.loop-i.i) (sym z) ∙ sym e.coordinate_fits.ensures ∙ not-true _ c.if-not-coordinate_fits.true-raw)
 
 add-i : tie.Need-overflow_add-i invariant-loop decreases-loop
 add-i c = search rules
@@ -47,11 +47,11 @@ loop-less c = omega arith
 loop-again : tie.Need-loop-i-preserved invariant-loop decreases-loop
 loop-again c =
     let e = c.before in let i = e.before.before in let m = i.before in let st = m.before in let v = m.loop-i.invariant in
-    let z = to_z_of_z {w = w32} {z = get_or st.args.t2 m.loop-i.i (pos 0)} (record { sfits = e.before.z-1.given }) in
-    (omega arith, v.1, fits_next st.args.n st.args.t2 m.loop-i.i v.2 (omega arith) (ap (coordinate_fits st.args.n m.loop-i.i) (sym z) ∙ sym e.coordinate_fits.ensures ∙ not-false _ c.if-not-coordinate_fits.false-raw))
+    let z = to_z_of_z {w = w32} {z = get_or st.args.point m.loop-i.i (pos 0)} (record { sfits = e.before.z-1.given }) in
+    (omega arith, v.1, fits_next st.args.n st.args.point m.loop-i.i v.2 (omega arith) (ap (coordinate_fits st.args.n m.loop-i.i) (sym z) ∙ sym e.coordinate_fits.ensures ∙ not-false _ c.if-not-coordinate_fits.false-raw))
 
 returns-2 : tie.Need-returns invariant-loop decreases-loop
-returns-2 c = let m = c.before in let st = m.before in let v = m.loop-i.invariant in fits-end st.args.n st.args.t2 m.loop-i.i v.2 (omega arith)
+returns-2 c = let m = c.before in let st = m.before in let v = m.loop-i.invariant in fits-end st.args.n st.args.point m.loop-i.i v.2 (omega arith)
 
 pub point_fits_spec : {M : Type 1} → statement M
 point_fits_spec =

@@ -59,7 +59,7 @@ wide-requires-8 c κs = search rules
 
 returns : tie.Need-returns
 returns c =
-    let st = c.before.before.before.before.before.before.before.before.before.before.before.before.before.before.before.before.args.t1 in
+    let st = c.before.before.before.before.before.before.before.before.before.before.before.before.before.before.before.before.args.p in
     let h : length st ≡ 8 = search rules in
     let e1 = result_is w64 c.before.before.before.before.before.before.before.before.before.before.before.before.before.before.wide.result c.before.before.before.before.before.before.before.before.before.before.before.before.before.before.wide.type_inv ∙ c.before.before.before.before.before.before.before.before.before.before.before.before.before.before.wide.ensures ∙ to_z_of_z {w = w32} {z = get_or st 0 (pos 0)} (record { sfits = c.before.before.before.before.before.before.before.before.before.before.before.before.before.before.before.wide-arg-1.given }) in
     let e2 = result_is w64 c.before.before.before.before.before.before.before.before.before.before.before.before.wide-2.result c.before.before.before.before.before.before.before.before.before.before.before.before.wide-2.type_inv ∙ c.before.before.before.before.before.before.before.before.before.before.before.before.wide-2.ensures ∙ to_z_of_z {w = w32} {z = get_or st 1 (pos 0)} (record { sfits = c.before.before.before.before.before.before.before.before.before.before.before.before.before.wide-arg-2-1.given }) in

@@ -47,16 +47,16 @@ module _ (t : tie.In-loop-e invariant-loop decreases-loop invariant-loop2 decrea
   s = (start m).args.s.now
 
   abbrev D : List S.Division
-  D = map division_of (take m.loop.d m.loop.ds)
+  D = map division_of (take m.loop-e.d m.loop-e.ds)
 
-  code : is_division (get_or s m.loop.at 0) ≡ true
-  code = sym t.before.division-at.ensures ∙ t.if1.taken
+  code : is_division (get_or s m.loop-e.at 0) ≡ true
+  code = sym t.before.division_at.ensures ∙ t.loop-e-test.taken
 
-  here : DivisionAt m.loop.inv.0.n s m.loop.at m.loop.inv.0.k
-  here = division-here s (start m).args.start m.loop.at D [] m.loop.inv.0 code
+  here : DivisionAt m.loop-e.inv.0.n s m.loop-e.at m.loop-e.inv.0.k
+  here = division-here s (start m).args.start m.loop-e.at D [] m.loop-e.inv.0 code
 
-  few : m.loop.d < 8
-  few = let f = here.few in let d = m.loop.inv.0.d in let e = m.loop.inv.1 in omega arith
+  few : m.loop-e.d < 8
+  few = let f = here.few in let d = m.loop-e.inv.0.d in let e = m.loop-e.inv.1 in omega arith
 
 head-requires : tie.Need-head-e-requires invariant-loop decreases-loop invariant-loop2 decreases-loop2
 head-requires c κs = (here c).whole
@@ -71,7 +71,7 @@ mul-ds : tie.Need-offset_bounds-ds-d invariant-loop decreases-loop invariant-loo
 mul-ds c = let f = few c.before.before.before in omega arith
 
 array-set-from-ds : tie.Need-bounds-ds-d invariant-loop decreases-loop invariant-loop2 decreases-loop2
-array-set-from-ds c = let t = c.before.before.before in let f = few t in let l = (m t).loop.invariant.2 in omega arith
+array-set-from-ds c = let t = c.before.before.before in let f = few t in let l = (m t).loop-e.invariant.2 in omega arith
 
 add-d : tie.Need-overflow_add-d invariant-loop decreases-loop invariant-loop2 decreases-loop2
 add-d c = let f = few c.before.before.before in omega arith
@@ -84,7 +84,7 @@ loop-less c = let h = (here c.before.before.before.before).whole in let r = h.ro
 
 loop-again : tie.Need-loop-e-preserved invariant-loop decreases-loop invariant-loop2 decreases-loop2
 loop-again c =
-    let v = c.before in let b = v.before in let e = b.before in let t = e.before in let l = (m t).loop in let first = (start (m t)).args.start in
+    let v = c.before in let b = v.before in let e = b.before in let t = e.before in let l = (m t).loop-e in let first = (start (m t)).args.start in
     let f = few t in let n = l.inv.2 in let h : l.d < length l.ds = omega arith in
     let w = stored division_of l.ds l.d v.read_division.result (division_at (s t) l.at) h (v.read_division.ensures ∙ ap₂ read_division e.head-e.ensures.0 b.body-t.ensures) in (
       subst₂ (λ (p : ℕ) (X : List S.Division). Filling (s t) first p X []) (sym c.next-at.ensures) (sym w) (fill-division (s t) first l.at (D t) [] l.inv.0 (code t)),
@@ -118,16 +118,16 @@ module _ (t : tie.In-loop-b invariant-loop decreases-loop invariant-loop2 decrea
   E = map division_of (take (earlier m2).loop-e.d (earlier m2).loop-e.ds)
 
   abbrev R : List S.Constraint
-  R = map constraint_of (take m2.loop2.r m2.loop2.rs)
+  R = map constraint_of (take m2.loop-b.r m2.loop-b.rs)
 
-  code2 : is_constraint (get_or s2 m2.loop2.at 0) ≡ true
-  code2 = sym t.before.constraint-at.ensures ∙ t.if2.taken
+  code2 : is_constraint (get_or s2 m2.loop-b.at 0) ≡ true
+  code2 = sym t.before.constraint_at.ensures ∙ t.loop-b-test.taken
 
-  here2 : ConstraintAt m2.loop2.inv.0.filling.n s2 m2.loop2.at m2.loop2.inv.0.filling.k
-  here2 = constraint-here s2 (start (earlier m2)).args.start m2.loop2.at E R m2.loop2.inv.0.filling code2
+  here2 : ConstraintAt m2.loop-b.inv.0.filling.n s2 m2.loop-b.at m2.loop-b.inv.0.filling.k
+  here2 = constraint-here s2 (start (earlier m2)).args.start m2.loop-b.at E R m2.loop-b.inv.0.filling code2
 
-  few2 : m2.loop2.r < 48
-  few2 = let f = here2.few in let d = m2.loop2.inv.0.filling.r in let e = m2.loop2.inv.1 in omega arith
+  few2 : m2.loop-b.r < 48
+  few2 = let f = here2.few in let d = m2.loop-b.inv.0.filling.r in let e = m2.loop-b.inv.1 in omega arith
 
 code-requires : tie.Need-code-b-requires invariant-loop decreases-loop invariant-loop2 decreases-loop2
 code-requires c κs = tt
@@ -145,7 +145,7 @@ mul-rs : tie.Need-offset_bounds-rs-r invariant-loop decreases-loop invariant-loo
 mul-rs c = let f = few2 c.before.before.before.before in omega arith
 
 array-set-from-rs : tie.Need-bounds-rs-r invariant-loop decreases-loop invariant-loop2 decreases-loop2
-array-set-from-rs c = let t = c.before.before.before.before in let f = few2 t in let l = (m2 t).loop2.invariant.2 in omega arith
+array-set-from-rs c = let t = c.before.before.before.before in let f = few2 t in let l = (m2 t).loop-b.invariant.2 in omega arith
 
 add_r : tie.Need-overflow_add-r invariant-loop decreases-loop invariant-loop2 decreases-loop2
 add_r c = let f = few2 c.before.before.before.before in omega arith
@@ -158,7 +158,7 @@ loop2-less c = let h = (here2 c.before.before.before.before.before).whole in let
 
 loop2-again : tie.Need-loop-b-preserved invariant-loop decreases-loop invariant-loop2 decreases-loop2
 loop2-again c =
-    let v = c.before in let b = v.before in let u = b.before in let e = u.before in let t = e.before in let l = (m2 t).loop2 in let first = (start (earlier (m2 t))).args.start in
+    let v = c.before in let b = v.before in let u = b.before in let e = u.before in let t = e.before in let l = (m2 t).loop-b in let first = (start (earlier (m2 t))).args.start in
     let f = few2 t in let n = l.inv.2 in let h : l.r < length l.rs = omega arith in
     let w = stored constraint_of l.rs l.r v.read_constraint.result (constraint_at (s2 t) l.at) h
     (v.read_constraint.ensures ∙ ap (λ (x : ℕ). numbered x (read_constraint (kind_of e.code-b.result) b.body-t-in-loop-b.result.now)) u.rule_number-m.ensures

@@ -37,14 +37,14 @@ module _ (c : tie.After-put_constraint-n) where
   abbrev bytes : List ℕ
   bytes = encode_command (constraint (constraint_of st.args.r))
 
-  size : c.put-constraint2.result ≡ length bytes
-  size = let x = c.put-constraint2.ensures.0.ends in omega arith
+  size : c.put_constraint-n.result ≡ length bytes
+  size = let x = c.put_constraint-n.ensures.0.ends in omega arith
 
   fits : length bytes ≤ 39
-  fits = let s = size in let y = c.put-constraint2.ensures.1 in omega arith
+  fits = let s = size in let y = c.put_constraint-n.ensures.1 in omega arith
 
-  front : take c.put-constraint2.result c.put-constraint2.new.0 ≡ bytes
-  front = ap₂ take size c.put-constraint2.ensures.0.bytes ∙ put_front bytes _ fits
+  front : take c.put_constraint-n.result c.put_constraint-n.new.0 ≡ bytes
+  front = ap₂ take size c.put_constraint-n.ensures.0.bytes ∙ put_front bytes _ fits
 
 array-share-prefix-b : tie.Need-slice_bounds-b-end
 array-share-prefix-b c = let s = size c.before in let f = fits c.before in search rules

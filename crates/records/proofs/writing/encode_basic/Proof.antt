@@ -32,10 +32,10 @@ mapped-length : (A B : Type 0) (f : A → B) (l : List A) (n : ℕ) → length (
 mapped-length A B f l n e = sym (length-map l f) ∙ e
 
 -- the tables of a value have their places
-divisions-known : (st : lts.Start (emit-opening-reads.Asked, emit-opening-reads.Learnt, emit-division-reads.Asked, emit-division-reads.Learnt, emit-constraint-reads.Asked, emit-constraint-reads.Learnt) reads.Pre reads.Post invariant-loop decreases-loop invariant-loop2 decreases-loop2) → length st.args.t1.divisions ≡ 8
+divisions-known : (st : lts.Start (emit-opening-reads.Asked, emit-opening-reads.Learnt, emit-division-reads.Asked, emit-division-reads.Learnt, emit-constraint-reads.Asked, emit-constraint-reads.Learnt) reads.Pre reads.Post invariant-loop decreases-loop invariant-loop2 decreases-loop2) → length st.args.b.divisions ≡ 8
 divisions-known st = search (rules, mapped-length)
 
-constraints-known : (st : lts.Start (emit-opening-reads.Asked, emit-opening-reads.Learnt, emit-division-reads.Asked, emit-division-reads.Learnt, emit-constraint-reads.Asked, emit-constraint-reads.Learnt) reads.Pre reads.Post invariant-loop decreases-loop invariant-loop2 decreases-loop2) → length st.args.t1.constraints ≡ 48
+constraints-known : (st : lts.Start (emit-opening-reads.Asked, emit-opening-reads.Learnt, emit-division-reads.Asked, emit-division-reads.Learnt, emit-constraint-reads.Asked, emit-constraint-reads.Learnt) reads.Pre reads.Post invariant-loop decreases-loop invariant-loop2 decreases-loop2) → length st.args.b.constraints ≡ 48
 constraints-known st = search (rules, mapped-length)
 
 emit-opening-requires : tie.Need-emit_opening-p-requires invariant-loop decreases-loop invariant-loop2 decreases-loop2
@@ -61,11 +61,11 @@ loop-less c = omega arith
 
 loop-again : tie.Need-loop-i-preserved invariant-loop decreases-loop invariant-loop2 decreases-loop2
 loop-again c = let w = c.before.before in let m = w.before.before.before.before in let o = m.before.before.before in let st = o.before.before.before in let i = m.loop-i.i in let v = m.loop-i.invariant in
-    let n = divisions-known st in let h = st.requires.divs in let l : i < length st.args.t1.divisions = omega arith in (
+    let n = divisions-known st in let h = st.requires.divs in let l : i < length st.args.b.divisions = omega arith in (
       omega arith,
       w.emit_division-p.auto.0 ∙ v.1,
       let e = w.emit_division-p.ensures.1 in omega arith,
-      emitted-next division_bytes st.args.t1.divisions _ i [] _ l refl v.3 w.emit_division-p.ensures.0,
+      emitted-next division_bytes st.args.b.divisions _ i [] _ l refl v.3 w.emit_division-p.ensures.0,
     )
 
 loop2-holds : tie.Need-loop-j-init invariant-loop decreases-loop invariant-loop2 decreases-loop2
@@ -89,18 +89,18 @@ loop2-less c = omega arith
 
 loop2-again : tie.Need-loop-j-preserved invariant-loop decreases-loop invariant-loop2 decreases-loop2
 loop2-again c = let w = c.before.before in let m = w.before.before.before.before in let st = m.before.before.before.before.before.before.before.before in let j = m.loop-j.j in let v = m.loop-j.invariant in
-    let n = constraints-known st in let h = st.requires.cons in let l : j < length st.args.t1.constraints = omega arith in (
+    let n = constraints-known st in let h = st.requires.cons in let l : j < length st.args.b.constraints = omega arith in (
       omega arith,
       w.emit_constraint-p.auto.0 ∙ v.1,
       let e = w.emit_constraint-p.ensures.1 in omega arith,
-      emitted-next constraint_bytes st.args.t1.constraints _ j [] _ l refl v.3 w.emit_constraint-p.ensures.0,
+      emitted-next constraint_bytes st.args.b.constraints _ j [] _ l refl v.3 w.emit_constraint-p.ensures.0,
     )
 
 same_length : tie.Need-shape_of-out invariant-loop decreases-loop invariant-loop2 decreases-loop2
 same_length c = let m₂ = c.before in let m = m₂.before.before in let o = m.before.before.before in m₂.loop-j.invariant.1 ∙ m.loop-i.invariant.1 ∙ o.emit_opening-p.auto.0
 
 returns : tie.Need-returns invariant-loop decreases-loop invariant-loop2 decreases-loop2
-returns c = let m₂ = c.before in let m = m₂.before.before in let o = m.before.before.before in let st = o.before.before.before in let b = st.args.t1 in
+returns c = let m₂ = c.before in let m = m₂.before.before in let o = m.before.before.before in let st = o.before.before.before in let b = st.args.b in
     let i : m.loop-i.i ≡ b.divs = omega arith in let j : m₂.loop-j.j ≡ b.cons = omega arith in
     let x = subst (λ (k : ℕ). Emitted (concat_map division_bytes (take k b.divisions)) o.emit_opening-p.new.0 o.emit_opening-p.result m.loop-i.p m.loop-i.out) i m.loop-i.invariant.3 in
     let y = subst (λ (k : ℕ). Emitted (concat_map constraint_bytes (take k b.constraints)) m.loop-i.out m.loop-i.p m₂.loop-j.p m₂.loop-j.out) j m₂.loop-j.invariant.3 in

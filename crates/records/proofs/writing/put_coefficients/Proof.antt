@@ -44,7 +44,7 @@ loop-less c = omega arith
 
 loop-again : tie.Need-loop-i-preserved invariant-loop decreases-loop
 loop-again c = let w = c.before.before in let h = w.before in let m = h.before.before.before.before in let st = m.before.before in
-    let a = st.args.t3 in let i = m.loop-i.i in
+    let a = st.args.a in let i = m.loop-i.i in
     let l : i < length a = search rules in
     let e = h.half.ensures ∙ ap (unsigned 2) (to_z_of_z {w = w16} {z = get_or a i (pos 0)} (record { sfits = h.before.half-arg-1.given })) in (
       omega arith,
@@ -58,7 +58,7 @@ same_length c = search rules
 
 returns : tie.Need-returns invariant-loop decreases-loop
 returns c = let m = c.before in let st = m.before.before in
-    let a = st.args.t3 in let i = m.loop-i.i in
+    let a = st.args.a in let i = m.loop-i.i in
     let l : length a ≤ i = search rules in
     (subst (λ (x : List ℤ). Emitted (concat_map (signed_bytes 2) x) st.args.out.now st.args.at m.loop-i.p m.loop-i.out) (take_all i a l) m.loop-i.invariant.3, omega arith)
 

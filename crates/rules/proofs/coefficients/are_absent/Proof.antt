@@ -36,7 +36,7 @@ returns c =
     let l = i.before.loop-i in
     let t = i.loop-i-test.true in
     let h = l.invariant.0 in
-    all-stop is_zero _ l.i _ l.invariant.1 (omega arith) (is_zero-no (get_or i.before.before.args.t2 l.i (pos 0)) (λ e. c.if-x-ne0.true (ap (of_z w32) e)))
+    all-stop is_zero _ l.i _ l.invariant.1 (omega arith) (is_zero-no (get_or i.before.before.args.a l.i (pos 0)) (λ e. c.if-x-ne0.true (ap (of_z w32) e)))
 
 add-i : tie.Need-overflow_add-i invariant-loop decreases-loop
 add-i c = search rules
@@ -50,7 +50,7 @@ loop-again c =
     let l = i.before.loop-i in
     let t = i.loop-i-test.true in
     let h = l.invariant.0 in
-    let z : get_or i.before.before.args.t2 l.i (pos 0) ≡ pos 0 = of_z-same {w = w32} (record { sfits = c.before.x-1.given }) (record { sfits = omega arith }) c.if-x-ne0.false in
+    let z : get_or i.before.before.args.a l.i (pos 0) ≡ pos 0 = of_z-same {w = w32} (record { sfits = c.before.x-1.given }) (record { sfits = omega arith }) c.if-x-ne0.false in
     (h, all-next is_zero _ l.i _ l.invariant.1 (omega arith) (ap is_zero z))
 
 returns-2 : tie.Need-returns invariant-loop decreases-loop

@@ -21,10 +21,10 @@ abbrev decreases-loop : tie.decreases-loop-i
 decreases-loop a i₀ i = 8 - i
 
 -- the number that was asked about
-asked : (c : tie.After-is_coefficient invariant-loop decreases-loop) → let m = c.before.before.before in coefficient (get_or m.before.args.t1 m.loop-i.i (pos 0)) ≡ c.is_coefficient.result
+asked : (c : tie.After-is_coefficient invariant-loop decreases-loop) → let m = c.before.before.before in coefficient (get_or m.before.args.a m.loop-i.i (pos 0)) ≡ c.is_coefficient.result
 asked c =
     let m = c.before.before.before in
-    ap coefficient (sym (to_z_of_z {w = w32} {z = get_or m.before.args.t1 m.loop-i.i (pos 0)} (record { sfits = c.before.x-1.given }))) ∙ sym c.is_coefficient.ensures
+    ap coefficient (sym (to_z_of_z {w = w32} {z = get_or m.before.args.a m.loop-i.i (pos 0)} (record { sfits = c.before.x-1.given }))) ∙ sym c.is_coefficient.ensures
 
 loop-holds : tie.Need-loop-i-init invariant-loop decreases-loop
 loop-holds c = (search rules, refl)

@@ -20,7 +20,7 @@ abbrev decreases-loop : tie.decreases-loop-i
 decreases-loop a r₀ i₀ r i = 8 - i
 
 -- the number at the turn's place
-number : (c : tie.After-x-1 invariant-loop decreases-loop) → let m = c.before.before in to_z w32 (of_z w32 (get_or m.before.args.t1 m.loop-i.i (pos 0))) ≡ get_or m.before.args.t1 m.loop-i.i (pos 0)
+number : (c : tie.After-x-1 invariant-loop decreases-loop) → let m = c.before.before in to_z w32 (of_z w32 (get_or m.before.args.a m.loop-i.i (pos 0))) ≡ get_or m.before.args.a m.loop-i.i (pos 0)
 number c = to_z_of_z {w = w32} (record { sfits = c.x-1.given })
 
 loop-holds : tie.Need-loop-i-init invariant-loop decreases-loop
@@ -37,7 +37,7 @@ cast-r c =
     let m = c.before.before in
     let t = c.before.loop-i-test.true in
     let h = m.loop-i.invariant.1 in
-    rw (number c) (coefficient-fits m.before.args.t1 m.loop-i.i (omega arith) m.before.requires)
+    rw (number c) (coefficient-fits m.before.args.a m.loop-i.i (omega arith) m.before.requires)
 
 mul-r : tie.Need-offset_bounds-r-i invariant-loop decreases-loop
 mul-r c = search rules
@@ -55,7 +55,7 @@ loop-again : tie.Need-loop-i-preserved invariant-loop decreases-loop
 loop-again c =
     let m = c.before.before in
     let l = m.loop-i in
-    let a = m.before.args.t1 in
+    let a = m.before.args.a in
     let t = c.before.loop-i-test.true in
     let h = l.invariant.1 in
     let f = coefficient-fits a l.i (omega arith) m.before.requires in

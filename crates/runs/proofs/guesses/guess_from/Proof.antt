@@ -50,14 +50,14 @@ module _ (c : tie.Else-j-gt-NONE) where
   abbrev st : tie.Start
   st = g.before.before.before.before.before.before
 
-  one : g.helping-division.result.number < 8
-  one = let a = c.if2.false in let b = c.before.if1.false in omega arith
+  one : g.helping_division-g.result.number < 8
+  one = let a = c.if-j-gt-NONE.false in let b = c.before.if-j-eq-NONE.false in omega arith
 
-  whole : Whole st.args.s.now g.helping-division.result.place
-  whole = g.helping-division.ensures.whole one
+  whole : Whole st.args.s.now g.helping_division-g.result.place
+  whole = g.helping_division-g.ensures.whole one
 
-  long : division_body ≤ length (body_at st.args.s.now g.helping-division.result.place)
-  long = g.helping-division.ensures.body one
+  long : division_body ≤ length (body_at st.args.s.now g.helping_division-g.result.place)
+  long = g.helping_division-g.ensures.body one
 
 head-requires : tie.Need-head-e-requires
 head-requires c κs = whole c.before
@@ -85,7 +85,7 @@ add-s16-at-2 : tie.Need-overflow_add-k-2
 add-s16-at-2 c = search rules
 
 s16-at-requires-2 : tie.Need-s16_at-b-requires
-s16-at-requires-2 c κs = let h = after c in let a = (st (apart c.before)).pre.1.axis in omega arith
+s16-at-requires-2 c κs = let h = after c in let a = (st (apart c.before)).requires.1.axis in omega arith
 
 mul-remains : tie.Need-offset_bounds-r-j
 mul-remains c = let h = one (apart c.before.before) in omega arith
@@ -104,14 +104,14 @@ element-copy-out-remains-2 c = let h = one (apart c.before.before.before) in ome
 
 remains-requires : tie.Need-remains-m-requires
 remains-requires c κs =
-    let x = c.before.before.before in let e5 = x.before in let e4 = e5.before in let y = apart e5 in let p = (st y).pre in let i = one y in
+    let x = c.before.before.before in let e5 = x.before in let e4 = e5.before in let y = apart e5 in let p = (st y).requires in let i = one y in
     let u = e5.if-e-gt65535.false in let v = e4.if-e-eq0.false in (
       after x,
       omega arith,
       omega arith,
       record { axis = p.1.axis; from_size = back-within (omega arith) p.1.from_size; to_size = back-within (omega arith) p.1.to_size },
-      back-within (omega arith) (p.0.least (g y).helping-division.result.number (omega arith)),
-      back-within (omega arith) (p.0.greatest (g y).helping-division.result.number (omega arith)),
+      back-within (omega arith) (p.0.least (g y).helping_division-g.result.number (omega arith)),
+      back-within (omega arith) (p.0.greatest (g y).helping_division-g.result.number (omega arith)),
     )
 
 mul-s16-at-3 : tie.Need-overflow_mul-j
@@ -121,7 +121,7 @@ add-s16-at-3 : tie.Need-overflow_add-j-2
 add-s16-at-3 c = let h = one (apart c.before.before.before.before.before) in omega arith
 
 s16-at-requires-3 : tie.Need-s16_at-requires-2
-s16-at-requires-3 c κs = let y = apart c.before.before.before.before.before in let h = one y in let l = (st y).pre.2 in omega arith
+s16-at-requires-3 c κs = let y = apart c.before.before.before.before.before in let h = one y in let l = (st y).requires.2 in omega arith
 
 magnitude-requires : tie.Need-magnitude-c-requires
 magnitude-requires c κs = search rules
@@ -131,7 +131,7 @@ magnitude-requires-2 c κs = search rules
 
 stepped-requires : tie.Need-stepped-requires
 stepped-requires c κs =
-    let e5 = c.before.before.before.before.before.before.before.before in let u = e5.if-e-gt65535.false in ((st (apart e5)).pre.3, omega arith)
+    let e5 = c.before.before.before.before.before.before.before.before in let u = e5.if-e-gt65535.false in ((st (apart e5)).requires.3, omega arith)
 
 returns-6 : tie.Need-returns
 returns-6 c = search rules

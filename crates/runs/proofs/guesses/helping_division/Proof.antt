@@ -28,11 +28,11 @@ module _ (t : tie.In-loop-u invariant-loop decreases-loop) where
   abbrev st : tie.Start invariant-loop decreases-loop
   st = m.before.before.before
 
-  here : DivisionAt m.loop.inv.n st.args.s.now m.loop.at m.loop.inv.k
-  here = division-at m.loop.inv.n st.args.s.now m.loop.at m.loop.inv.k m.loop.inv.here (sym t.before.division-at.ensures ∙ t.if1.taken)
+  here : DivisionAt m.loop-u.inv.n st.args.s.now m.loop-u.at m.loop-u.inv.k
+  here = division-at m.loop-u.inv.n st.args.s.now m.loop-u.at m.loop-u.inv.k m.loop-u.inv.here (sym t.before.division_at.ensures ∙ t.loop-u-test.taken)
 
-  few : m.loop.j < 8
-  few = let f = here.few in let e = m.loop.inv.counts in omega arith
+  few : m.loop-u.j < 8
+  few = let f = here.few in let e = m.loop-u.inv.counts in omega arith
 
 division-at-requires : tie.Need-division_at-requires invariant-loop decreases-loop
 division-at-requires c κs = search rules
@@ -47,13 +47,13 @@ add-s16-at : tie.Need-overflow_add-j invariant-loop decreases-loop
 add-s16-at c = let f = few c.before in omega arith
 
 s16-at-requires : tie.Need-s16_at-a-requires invariant-loop decreases-loop
-s16-at-requires c κs = let f = few c.before in let l = (st c.before).pre.2 in omega arith
+s16-at-requires c κs = let f = few c.before in let l = (st c.before).requires.2 in omega arith
 
 mul-s16-at-2 : tie.Need-overflow_mul-k invariant-loop decreases-loop
-mul-s16-at-2 c = let k = (st c.before.before).pre.1 in omega arith
+mul-s16-at-2 c = let k = (st c.before.before).requires.1 in omega arith
 
 add-s16-at-2 : tie.Need-overflow_add-k invariant-loop decreases-loop
-add-s16-at-2 c = let k = (st c.before.before).pre.1 in omega arith
+add-s16-at-2 c = let k = (st c.before.before).requires.1 in omega arith
 
 s16-at-requires-2 : tie.Need-s16_at-b-requires invariant-loop decreases-loop
 s16-at-requires-2 c κs =
@@ -77,7 +77,7 @@ loop-less c = let h = (here c.before.before.before.before.before.before).whole i
 
 loop-again : tie.Need-loop-u-preserved invariant-loop decreases-loop
 loop-again c =
-    let n = c.before in let y = n.before in let t = y.before.before.before.before in let l = (m t).loop in
+    let n = c.before in let y = n.before in let t = y.before.before.before.before in let l = (m t).loop-u in
     subst₂ (λ (p : ℕ) (g : Helper). Seeking (st t).args.s.now p (l.j + 1) g) (sym c.next-at.ensures) (sym n.noted-g.ensures)
     (seeking-next (st t).args.s.now l.at l.j l.g y.division_helps.result l.inv (here t))
 

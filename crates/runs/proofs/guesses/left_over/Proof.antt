@@ -31,18 +31,18 @@ module _ (c : tie.After-floor_div-q) where
   st = x.before.before
 
   divisor : Bits w64 st.args.e (pos st.args.e)
-  divisor = b-nat w64 st.args.e 65536 st.pre.2 tt
+  divisor = b-nat w64 st.args.e 65536 st.requires.2 tt
 
   divisor-size : Within 65536 (pos st.args.e)
-  divisor-size = let h = st.pre.2 in record { size = omega arith }
+  divisor-size = let h = st.requires.2 in record { size = omega arith }
 
-  quotient : Bits w64 (of_z w64 c.floor-div.result) c.floor-div.result
-  quotient = b-of (record { sfits = c.floor-div.type-inv })
+  quotient : Bits w64 (of_z w64 c.floor_div-q.result) c.floor_div-q.result
+  quotient = b-of (record { sfits = c.floor_div-q.type_inv })
 
-  quotient-size : Within 549755813888 c.floor-div.result
-  quotient-size = subst (Within 549755813888) (sym c.floor-div.ensures) (floor-within 549755813888 _ _ (back-within (omega arith) x.end-at.ensures.1))
+  quotient-size : Within 549755813888 c.floor_div-q.result
+  quotient-size = subst (Within 549755813888) (sym c.floor_div-q.ensures) (floor-within 549755813888 _ _ (back-within (omega arith) x.end_at-n.ensures.1))
 
-  product : SFits w64 (c.floor-div.result *ℤ pos st.args.e)
+  product : SFits w64 (c.floor_div-q.result *ℤ pos st.args.e)
   product = within-fits (omega arith) (within-mul quotient-size divisor-size)
 
 mul-magnitude : tie.Need-overflow_mul-q
@@ -50,8 +50,8 @@ mul-magnitude c = ask (quotient c) (divisor c) ◌*ℤ◌ (product c)
 
 sub-magnitude : tie.Need-overflow_sub-n
 sub-magnitude c =
-    ask (b-of {z = (x c).end-at.result} (record { sfits = (x c).end-at.type_inv })) (b-op (quotient c) (divisor c) ◌*ℤ◌ (product c)) ◌-ℤ◌
-    (within-fits (omega arith) (within-sub (x c).end-at.ensures.1 (within-mul (quotient-size c) (divisor-size c))))
+    ask (b-of {z = (x c).end_at-n.result} (record { sfits = (x c).end_at-n.type_inv })) (b-op (quotient c) (divisor c) ◌*ℤ◌ (product c)) ◌-ℤ◌
+    (within-fits (omega arith) (within-sub (x c).end_at-n.ensures.1 (within-mul (quotient-size c) (divisor-size c))))
 
 magnitude-requires : tie.Need-magnitude-requires
 magnitude-requires c κs = search rules

@@ -30,7 +30,7 @@ module _ (st : tie.Start) where
 
   -- each constraint by itself is the whole
   whole : all (can_stand xs qs) (basic_at s start).constraints ≡ can_hold xs (basic_at s start)
-  whole = ap (λ (y : List Interval). all (can_stand xs y) (basic_at s start).constraints) st.pre.5
+  whole = ap (λ (y : List Interval). all (can_stand xs y) (basic_at s start).constraints) st.requires.5
 
 first-failing-requires : tie.Need-first_failing-p-requires
 first-failing-requires c κs = search rules

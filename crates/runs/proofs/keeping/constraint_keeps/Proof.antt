@@ -65,7 +65,7 @@ is-equality-requires c κs = search rules
 guess-from-requires-2 : tie.Need-guess_from-requires
 guess-from-requires-2 c κs =
     let g = c.before.before.before in let y = st g in
-    (y.pre.0, record { axis = y.pre.2.axis; from_size = back-within (omega arith) y.pre.2.from_size; to_size = back-within (omega arith) y.pre.2.to_size }, after (there g), g.guess_from-m.ensures.0)
+    (y.requires.0, record { axis = y.requires.2.axis; from_size = back-within (omega arith) y.requires.2.from_size; to_size = back-within (omega arith) y.requires.2.to_size }, after (there g), g.guess_from-m.ensures.0)
 
 returns : tie.Need-returns-then-is_equality
 returns c = let a = c.guess_from.ensures.1 in let g = c.before.before.before.before in let b = g.guess_from-m.ensures.1 in (c.guess_from.ensures.0, omega arith)

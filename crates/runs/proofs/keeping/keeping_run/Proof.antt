@@ -38,26 +38,26 @@ module _ (e : tie.Else-m-eq1) where
   st = settled.before.before.before
 
   abbrev m : ℕ
-  m = guessed.keeps.result
+  m = guessed.keeps-m.result
 
   reach : Reach st.args.k st.args.low.now (m - 1 + 1)
   reach =
-      let h = guessed.keeps.ensures.0 in let q : m ≡ m - 1 + 1 = omega arith in
-      subst (Reach st.args.k st.args.low.now) q (reach-less st.args.k st.args.low.now m st.args.most guessed.keeps.ensures.1 st.pre.3)
+      let h = guessed.keeps-m.ensures.0 in let q : m ≡ m - 1 + 1 = omega arith in
+      subst (Reach st.args.k st.args.low.now) q (reach-less st.args.k st.args.low.now m st.args.most guessed.keeps-m.ensures.1 st.requires.3)
 
 sub-raised : tie.Need-overflow_sub-m
-sub-raised c = let h = (guessed c).keeps.ensures.0 in omega arith
+sub-raised c = let h = (guessed c).keeps-m.ensures.0 in omega arith
 
 raised-requires : tie.Need-raised-w-requires
 raised-requires c κs =
     let p = (st c).requires in let a = (st c).args in let f = p.1.few in let k = p.2 in
-    let h = reach-most a.k a.low.now a.most p.1.lows p.3 in let g = (guessed c).keeps.ensures.1 in (f, k, p.1.lows, omega arith)
+    let h = reach-most a.k a.low.now a.most p.1.lows p.3 in let g = (guessed c).keeps-m.ensures.1 in (f, k, p.1.lows, omega arith)
 
 array-share-prefix-w : tie.Need-slice_bounds-w-end
-array-share-prefix-w c = let f = (st c.before).pre.1.few in let l = c.raised-w.ensures.1 in omega arith
+array-share-prefix-w c = let f = (st c.before).requires.1.few in let l = c.raised-w.ensures.1 in omega arith
 
 slice-aggregate-can-hold : tie.Need-slice_bounds-can_hold-end
-slice-aggregate-can-hold c = let x = c.before in let f = (st x.before).pre.1.few in omega (arith, length-take (length (st x.before).args.low.now) x.raised-w.result, x.raised-w.ensures.1)
+slice-aggregate-can-hold c = let x = c.before in let f = (st x.before).requires.1.few in omega (arith, length-take (length (st x.before).args.low.now) x.raised-w.result, x.raised-w.ensures.1)
 
 lows-are : (x : tie.After-raised-w) → let a = (st x.before).args in take (length a.low.now) x.raised-w.result ≡ widened a.k (m x.before - 1) a.low.now
 lows-are x = x.raised-w.ensures.0
@@ -72,8 +72,8 @@ can-hold-requires c κs =
 returns-2 : tie.Need-returns-then-can_hold
 returns-2 c =
     let f = c.before in let x = f.before.before.before in let e = x.before in let a = (st e).args in let y = (settled e).settle.ensures in record {
-      some = (guessed e).keeps.ensures.0;
-      few = (guessed e).keeps.ensures.1;
+      some = (guessed e).keeps-m.ensures.0;
+      few = (guessed e).keeps-m.ensures.1;
       is = λ _. sym
           (sym c.if-can_hold.true ∙ f.can_hold.ensures
           ∙ ap₂ (λ (u : List ℤ) (i : ℕ). can_hold (box_of u a.high.now) (basic_at a.s.now i)) (lows-are x) y.1);

@@ -28,8 +28,8 @@ module _ (c : tie.After-is_opening) where
   abbrev b : ℕ
   b = get_or s at 0
 
-  opening : c.is-opening.result ≡ is_opening b
-  opening = c.is-opening.ensures ∙ ap is_opening c.before.code.ensures
+  opening : c.is_opening.result ≡ is_opening b
+  opening = c.is_opening.ensures ∙ ap is_opening c.before.code-b.ensures
 
 division : (c : tie.After-is_division) → c.is_division.result ≡ is_division (b c.before.before.before)
 division c = c.is_division.ensures ∙ ap is_division c.before.before.before.before.code-b.ensures
@@ -58,13 +58,13 @@ returns c =
     writes-same (omega arith) (line-basic a.axes a.c (b o) (drop (at o + 1) (s o)) (sym (opening o) ∙ y.if1.true)) c.before.before.counted_line.ensures
 
 body-requires : tie.Need-body-t-requires
-body-requires c κs = (st c.before).pre.whole
+body-requires c κs = (st c.before).requires.whole
 
 is-division-requires : tie.Need-is_division-requires
 is-division-requires c κs = search rules
 
 head-requires : tie.Need-head-requires
-head-requires c κs = (st c.before.before.before.before.before).pre.whole
+head-requires c κs = (st c.before.before.before.before.before).requires.whole
 
 division-line-requires : tie.Need-division_line-requires
 division-line-requires c κs =

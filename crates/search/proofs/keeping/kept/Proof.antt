@@ -44,29 +44,29 @@ module _ (y : tie.After-row_keeps-m invariant-loop decreases-loop) where
   st = m.before.before
 
 same_length : tie.Need-shape_of-rows-then-m-gt1 invariant-loop decreases-loop
-same_length c = let y = c.before in length-set (m y).loop.rows (m y).loop.b _ ∙ (m y).loop.invariant.1
+same_length c = let y = c.before in length-set (m y).loop-b.rows (m y).loop-b.b _ ∙ (m y).loop-b.invariant.1
 
 returns : tie.Need-returns-then-m-gt1 invariant-loop decreases-loop
 returns c =
-    let y = c.before in let a = (st y).args in let e = y.row_keeps-m.ensures in let n = y.row_keeps-m.result in let h = (lp y).loop-test.true in (
+    let y = c.before in let a = (st y).args in let e = y.row_keeps-m.ensures in let n = y.row_keeps-m.result in let h = (lp y).loop-b-test.true in (
       record {
         some = e.some;
         few = e.few;
-        is = λ l. rows-any a.s.now (length a.low.now) (m y).loop.rows (m y).loop.invariant.0 (box_of (widened a.k (n - 1) a.low.now) a.high.now) (m y).loop.b h (e.is l);
+        is = λ l. rows-any a.s.now (length a.low.now) (m y).loop-b.rows (m y).loop-b.invariant.0 (box_of (widened a.k (n - 1) a.low.now) a.high.now) (m y).loop-b.b h (e.is l);
       },
-      rows-set a.s.now (length a.low.now) (m y).loop.rows (m y).loop.invariant.0 (m y).loop.b _ h e.row e.place,
+      rows-set a.s.now (length a.low.now) (m y).loop-b.rows (m y).loop-b.invariant.0 (m y).loop-b.b _ h e.row e.place,
     )
 
 add-b : tie.Need-overflow_add-b invariant-loop decreases-loop
-add-b c = let y = c.before in let f = (m y).loop.invariant.0.few in let h = (lp y).loop-test.true in omega arith
+add-b c = let y = c.before in let f = (m y).loop-b.invariant.0.few in let h = (lp y).loop-b-test.true in omega arith
 
 loop-less : tie.Need-loop-b-smaller invariant-loop decreases-loop
-loop-less c = let y = c.before in let e = (m y).loop.invariant.1 in let h = (lp y).loop-test.true in omega arith
+loop-less c = let y = c.before in let e = (m y).loop-b.invariant.1 in let h = (lp y).loop-b-test.true in omega arith
 
 loop-again : tie.Need-loop-b-preserved invariant-loop decreases-loop
 loop-again c =
     let y = c.before in let a = (st y).args in let e = y.row_keeps-m.ensures in
-    (rows-set a.s.now (length a.low.now) (m y).loop.rows (m y).loop.invariant.0 (m y).loop.b _ (lp y).loop-test.true e.row e.place, length-set (m y).loop.rows (m y).loop.b _ ∙ (m y).loop.invariant.1)
+    (rows-set a.s.now (length a.low.now) (m y).loop-b.rows (m y).loop-b.invariant.0 (m y).loop-b.b _ (lp y).loop-b-test.true e.row e.place, length-set (m y).loop-b.rows (m y).loop-b.b _ ∙ (m y).loop-b.invariant.1)
 
 same-length-2 : tie.Need-shape_of-rows invariant-loop decreases-loop
 same-length-2 c = c.before.loop-b.invariant.1

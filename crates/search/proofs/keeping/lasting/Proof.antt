@@ -56,10 +56,10 @@ module _ (x : tie.After-span_of-span) where
   i = st.args.i
 
   abbrev g : Standing s p.n p.k p.low p.high
-  g = st.pre.0.standing
+  g = st.requires.0.standing
 
-  span-is : x.Span-of.result ≡ span_at p
-  span-is = x.Span-of.ensures.0
+  span-is : x.span_of-span.result ≡ span_at p
+  span-is = x.span_of-span.ensures.0
 
 sub-fewer : tie.Need-overflow_sub-span
 sub-fewer c = let e = span-is c in let h = (st c).requires.2 in omega arith
@@ -79,20 +79,20 @@ module _ (f : tie.After-fewer-most) where
   x = f.before
 
   abbrev most : ℕ
-  most = f.fewer.result
+  most = f.fewer-most.result
 
   on-side : i x + most ≤ suc (span_at (p x))
-  on-side = let e = span-is x in let h = (st x).pre.2 in let a : most ≤ x.Span-of.result - i x + 1 = f.fewer.ensures.0 in omega arith
+  on-side = let e = span-is x in let h = (st x).requires.2 in let a : most ≤ x.span_of-span.result - i x + 1 = f.fewer-most.ensures.0 in omega arith
 
   in-limit : (st x).args.tested + most ≤ (p x).limit
-  in-limit = let h = (st x).pre.3 in let a : most ≤ (p x).limit - (st x).args.tested = f.fewer.ensures.1 in omega arith
+  in-limit = let h = (st x).requires.3 in let a : most ≤ (p x).limit - (st x).args.tested = f.fewer-most.ensures.1 in omega arith
 
   some : 0 < most
-  some = let h = (st x).pre.3 in f.fewer.ensures.2 (omega arith) (omega arith)
+  some = let h = (st x).requires.3 in f.fewer-most.ensures.2 (omega arith) (omega arith)
 
 value-at-requires : tie.Need-value_at-v-requires
 value-at-requires c κs =
-    let y = x c in let h = (st y).pre.2 in let e = span-is y in let o = y.Span-of.ensures.1 in (axis-of (g y), omega arith, (g y).low_size)
+    let y = x c in let h = (st y).requires.2 in let e = span-is y in let o = y.span_of-span.ensures.1 in (axis-of (g y), omega arith, (g y).low_size)
 
 -- at the value: its sides
 module _ (y : tie.After-value_at-v) where
@@ -103,13 +103,13 @@ module _ (y : tie.After-value_at-v) where
   z = x f
 
   abbrev lows : List ℤ
-  lows = set (p z).low (p z).k (to_z w64 (of_z w64 y.value-at.result))
+  lows = set (p z).low (p z).k (to_z w64 (of_z w64 y.value_at-v.result))
 
   abbrev highs : List ℤ
-  highs = set (p z).high (p z).k (to_z w64 (of_z w64 y.value-at.result))
+  highs = set (p z).high (p z).k (to_z w64 (of_z w64 y.value_at-v.result))
 
-  value-is : to_z w64 (of_z w64 y.value-at.result) ≡ value_at (p z) (i z)
-  value-is = result_is w64 y.value-at.result y.value-at.ok ∙ y.value-at.ensures
+  value-is : to_z w64 (of_z w64 y.value_at-v.result) ≡ value_at (p z) (i z)
+  value-is = result_is w64 y.value_at-v.result y.value_at-v.ok ∙ y.value_at-v.ensures
 
   lows-are : lows ≡ lows_at (p z) (i z)
   lows-are = ap (set (p z).low (p z).k) value-is
@@ -124,13 +124,13 @@ module _ (y : tie.After-value_at-v) where
   highs-fit = let a = (g z).axes in let e = (g z).highs in omega (arith, ap length highs-are, length-set (p z).high (p z).k (value_at (p z) (i z)))
 
   lows-length : (p z).n ≡ length (take (p z).n lows)
-  lows-length = axes-length (s z) (p z).n (p z).k (p z).low (p z).high (g z) (i z) (st z).pre.2 lows highs lows-are highs-are (p z).low lows (g z).lows lows-are
+  lows-length = axes-length (s z) (p z).n (p z).k (p z).low (p z).high (g z) (i z) (st z).requires.2 lows highs lows-are highs-are (p z).low lows (g z).lows lows-are
 
   highs-length : (p z).n ≡ length (take (p z).n highs)
-  highs-length = axes-length (s z) (p z).n (p z).k (p z).low (p z).high (g z) (i z) (st z).pre.2 lows highs lows-are highs-are (p z).high highs (g z).highs highs-are
+  highs-length = axes-length (s z) (p z).n (p z).k (p z).low (p z).high (g z) (i z) (st z).requires.2 lows highs lows-are highs-are (p z).high highs (g z).highs highs-are
 
   sided : Sided (s z) (p z).k (take (p z).n lows) (take (p z).n highs) (p z).live (most f)
-  sided = next_fits (s z) (p z).n (p z).k (p z).low (p z).high (g z) (i z) (st z).pre.2 lows highs lows-are highs-are (p z).live (most f) (st z).pre.0.lives (some f) (on-side f)
+  sided = next_fits (s z) (p z).n (p z).k (p z).low (p z).high (g z) (i z) (st z).requires.2 lows highs lows-are highs-are (p z).live (most f) (st z).requires.0.lives (some f) (on-side f)
 
 mul_low : tie.Need-offset_bounds-low-k
 mul_low c = let a = axis-of (g (z c)) in omega arith
@@ -159,10 +159,10 @@ slice-aggregate-kept-in-2 c = highs-length c.before.before
 kept-in-requires : tie.Need-kept_in-requires
 kept-in-requires c κs =
     let v = c.before.before.before in let y = z v in let d = sided v in (
-      subst (λ (j : ℕ). Rowed (s y) j (p y).count (st y).args.rows.now) (lows-length v) (st y).pre.1,
+      subst (λ (j : ℕ). Rowed (s y) j (p y).count (st y).args.rows.now) (lows-length v) (st y).requires.1,
       d.ends,
       d.axis,
-      reach-low (s y) (p y).n (p y).k (p y).low (p y).high (g y) (i y) (st y).pre.2 (lows v) (highs v) (lows-are v) (highs-are v) (most (f v)) d.reach,
+      reach-low (s y) (p y).n (p y).k (p y).low (p y).high (g y) (i y) (st y).requires.2 (lows v) (highs v) (lows-are v) (highs-are v) (most (f v)) d.reach,
       some (f v),
     )
 
@@ -174,8 +174,8 @@ returns-2 c =
         inside = omega arith;
         room = omega arith;
         passed = λ j o. by (λ (x : Bool). passes_at (s y) (p y) (i y + j) ≡ true) (ltb 1 m)
-            (λ x. value_passes (s y) (p y).n (p y).k (p y).low (p y).high (g y) (i y) (st y).pre.2 m (lows v) (highs v) (lows-are v) (highs-are v) (e.is (ltb-true 1 m x)) j o)
-            (λ x. let l = ltb-false 1 m x in let w : i y ≡ i y + j = omega arith in subst (λ (w : ℕ). passes_at (s y) (p y) w ≡ true) w (st y).pre.4);
+            (λ x. value_passes (s y) (p y).n (p y).k (p y).low (p y).high (g y) (i y) (st y).requires.2 m (lows v) (highs v) (lows-are v) (highs-are v) (e.is (ltb-true 1 m x)) j o)
+            (λ x. let l = ltb-false 1 m x in let w : i y ≡ i y + j = omega arith in subst (λ (w : ℕ). passes_at (s y) (p y) w ≡ true) w (st y).requires.4);
       },
       subst (λ (j : ℕ). Rowed (s y) j (p y).count c.kept_in.new.1.1.1.1.1.1.0) (sym (lows-length v)) c.kept_in.ensures.1,
     )

@@ -27,13 +27,13 @@ array-copy-out-b : tie.Need-bounds-high-k
 array-copy-out-b c = search rules
 
 abbrev diff : tie.Start → ℤ
-diff st = get_or st.args.t2 st.args.k (pos 0) -ℤ get_or st.args.t1 st.args.k (pos 0)
+diff st = get_or st.args.high st.args.k (pos 0) -ℤ get_or st.args.low st.args.k (pos 0)
 
 size : (c : tie.After-b-1) → Within 2097152 (diff c.before.before)
 size c = let st = c.before.before in within-mono (omega arith) (within-sub (st.requires.2.at st.args.k) (st.requires.1.at st.args.k))
 
 back : (c : tie.After-b-1) → let st = c.before.before in
-    to_z w64 (of_z w64 (get_or st.args.t2 st.args.k (pos 0))) -ℤ to_z w64 (of_z w64 (get_or st.args.t1 st.args.k (pos 0))) ≡ diff st
+    to_z w64 (of_z w64 (get_or st.args.high st.args.k (pos 0))) -ℤ to_z w64 (of_z w64 (get_or st.args.low st.args.k (pos 0))) ≡ diff st
 back c =
     let st = c.before.before in
     ap₂ ◌-ℤ◌ (to_z_of_z (within-fits (omega arith) (st.requires.2.at st.args.k))) (to_z_of_z (within-fits (omega arith) (st.requires.1.at st.args.k)))
@@ -41,7 +41,7 @@ back c =
 nonneg : (c : tie.After-b-1) → pos 0 ≤ℤ diff c.before.before
 nonneg c =
     let st = c.before.before in
-    lia-le (get_or st.args.t1 st.args.k (pos 0) ∷ get_or st.args.t2 st.args.k (pos 0) ∷ []) (le st.requires.3 ∷ []) (search lin depth 30) (omega arith)
+    lia-le (get_or st.args.low st.args.k (pos 0) ∷ get_or st.args.high st.args.k (pos 0) ∷ []) (le st.requires.3 ∷ []) (search lin depth 30) (omega arith)
 
 sub-result : tie.Need-overflow_sub-result
 sub-result c = rw (back c) (within-fits (omega arith) (size c))

@@ -41,12 +41,12 @@ add-b : tie.Need-overflow_add-b invariant-loop decreases-loop
 add-b c = let f = free c.before.before in omega arith
 
 loop-less : tie.Need-loop-at-smaller invariant-loop decreases-loop
-loop-less c = let h = c.before.before.loop-at-test.true in let e = c.end_of_lem.ensures in omega arith
+loop-less c = let h = c.before.before.loop-at-test.true in let e = c.end_of-at.ensures in omega arith
 
 loop-again : tie.Need-loop-at-preserved invariant-loop decreases-loop
 loop-again c =
     let f = c.before in let lp = f.before in let m = lp.before in let s = m.before.before.args.s.now in let h = lp.loop-at-test.true in
-    laying-next s m.loop-at.rows m.loop-at.at m.loop-at.b m.loop-at.invariant h f.fresh.result f.fresh.ensures.0 (λ n o. f.fresh.ensures.1 s n o (laying-opened s m.loop-at.rows m.loop-at.at m.loop-at.b m.loop-at.invariant h)) c.end_of_lem.result c.end_of_lem.ensures
+    laying-next s m.loop-at.rows m.loop-at.at m.loop-at.b m.loop-at.invariant h f.fresh.result f.fresh.ensures.0 (λ n o. f.fresh.ensures.1 s n o (laying-opened s m.loop-at.rows m.loop-at.at m.loop-at.b m.loop-at.invariant h)) c.end_of-at.result c.end_of-at.ensures
 
 same_length : tie.Need-shape_of-rows invariant-loop decreases-loop
 same_length c = let m = c.before in m.loop-at.invariant.places ∙ sym m.before.before.requires.1

@@ -37,8 +37,8 @@ array-copy-out-b c = search rules
 returns : tie.Need-returns-then-b-a invariant-loop decreases-loop
 returns c =
     let b = c.before in let a = b.before in let m = a.before.before in let st = m.before in let v = m.loop-i.invariant in let i = m.loop-i.i in
-    let fa : SFits w32 (get_or st.args.t1 i (pos 0)) = record { sfits = a.a-1.given } in let fb : SFits w32 (get_or st.args.t2 i (pos 0)) = record { sfits = b.b-1.given } in
-    sides-stop st.args.t1 st.args.t2 i v.3 (omega arith) (omega arith) (le-no (get_or st.args.t1 i (pos 0)) (get_or st.args.t2 i (pos 0)) (is_lt (b-of fb) (b-of fa) c.if-b-a.true))
+    let fa : SFits w32 (get_or st.args.low i (pos 0)) = record { sfits = a.a-1.given } in let fb : SFits w32 (get_or st.args.high i (pos 0)) = record { sfits = b.b-1.given } in
+    sides-stop st.args.low st.args.high i v.3 (omega arith) (omega arith) (le-no (get_or st.args.low i (pos 0)) (get_or st.args.high i (pos 0)) (is_lt (b-of fb) (b-of fa) c.if-b-a.true))
 
 add-i : tie.Need-overflow_add-i invariant-loop decreases-loop
 add-i c = search rules
@@ -49,11 +49,11 @@ loop-less c = omega arith
 loop-again : tie.Need-loop-i-preserved invariant-loop decreases-loop
 loop-again c =
     let b = c.before in let a = b.before in let m = a.before.before in let st = m.before in let v = m.loop-i.invariant in let i = m.loop-i.i in
-    let fa : SFits w32 (get_or st.args.t1 i (pos 0)) = record { sfits = a.a-1.given } in let fb : SFits w32 (get_or st.args.t2 i (pos 0)) = record { sfits = b.b-1.given } in
-    (omega arith, v.1, v.2, sides-next st.args.t1 st.args.t2 i v.3 (omega arith) (omega arith) (le_yes (get_or st.args.t1 i (pos 0)) (get_or st.args.t2 i (pos 0)) (is_ge (b-of fb) (b-of fa) c.if-b-a.false)))
+    let fa : SFits w32 (get_or st.args.low i (pos 0)) = record { sfits = a.a-1.given } in let fb : SFits w32 (get_or st.args.high i (pos 0)) = record { sfits = b.b-1.given } in
+    (omega arith, v.1, v.2, sides-next st.args.low st.args.high i v.3 (omega arith) (omega arith) (le_yes (get_or st.args.low i (pos 0)) (get_or st.args.high i (pos 0)) (is_ge (b-of fb) (b-of fa) c.if-b-a.false)))
 
 returns-2 : tie.Need-returns invariant-loop decreases-loop
-returns-2 c = let m = c.before in let st = m.before in let v = m.loop-i.invariant in sides-end st.args.t1 st.args.t2 m.loop-i.i v.3 (omega arith)
+returns-2 c = let m = c.before in let st = m.before in let v = m.loop-i.invariant in sides-end st.args.low st.args.high m.loop-i.i v.3 (omega arith)
 
 pub upright_spec : {M : Type 1} → statement M
 upright_spec =

@@ -49,31 +49,31 @@ same-length-3 : tie.Need-shape_of-kinds-then-not-is_violated
 same-length-3 c = search rules
 
 returns : tie.Need-returns-then-not-is_violated
-returns c = appended-still c.before.before.before.before.before.before.args.n c.before.before.before.before.before.before.args.m c.before.before.before.before.before.before.args.v c.before.before.before.before.before.before.args.t5 c.before.before.before.before.before.before.args.rows.now c.before.before.before.before.before.before.args.place.now c.before.before.before.before.before.before.args.kinds.now c.before.before.before.before.before.before.requires.0 c.before.before.before.before.before.before.args.kind c.before.before.before.before.before.before.args.made c.before.before.before.before.before.before.args.past.now c.before.before.before.before.before.before.args.columns.now (ap (violated_by c.before.before.before.before.before.before.args.kind) (sym (to_z-of_z {w = w64} {z = get_or c.before.before.before.before.before.before.args.t5 1 (pos 0)} (record { sfits = c.before.before.e-1.given }))) ∙ sym c.before.is_violated.ensures ∙ not-true _ c.if-not-is_violated.true-raw)
+returns c = appended-still c.before.before.before.before.before.before.args.n c.before.before.before.before.before.before.args.m c.before.before.before.before.before.before.args.v c.before.before.before.before.before.before.args.r c.before.before.before.before.before.before.args.rows.now c.before.before.before.before.before.before.args.place.now c.before.before.before.before.before.before.args.kinds.now c.before.before.before.before.before.before.requires.0 c.before.before.before.before.before.before.args.kind c.before.before.before.before.before.before.args.made c.before.before.before.before.before.before.args.past.now c.before.before.before.before.before.before.args.columns.now (ap (violated_by c.before.before.before.before.before.before.args.kind) (sym (to_z-of_z {w = w64} {z = get_or c.before.before.before.before.before.before.args.r 1 (pos 0)} (record { sfits = c.before.before.e-1.given }))) ∙ sym c.before.is_violated.ensures ∙ not-true _ c.if-not-is_violated.true-raw)
 
 add-go-from : tie.Need-overflow_add-m
 add-go-from c = search rules
 
 slice-relend-prefix-go-from : tie.Need-slice_bounds-go_from-end
-slice-relend-prefix-go-from c = (rows-count c.before.before.before.before.before.before.args.n c.before.before.before.before.before.before.args.m c.before.before.before.before.before.before.args.v c.before.before.before.before.before.before.args.t5 c.before.before.before.before.before.before.args.rows.now c.before.before.before.before.before.before.args.place.now c.before.before.before.before.before.before.args.kinds.now c.before.before.before.before.before.before.requires.0 c.before.before.before.before.before.before.args.kind).0
+slice-relend-prefix-go-from c = (rows-count c.before.before.before.before.before.before.args.n c.before.before.before.before.before.before.args.m c.before.before.before.before.before.before.args.v c.before.before.before.before.before.before.args.r c.before.before.before.before.before.before.args.rows.now c.before.before.before.before.before.before.args.place.now c.before.before.before.before.before.before.args.kinds.now c.before.before.before.before.before.before.requires.0 c.before.before.before.before.before.before.args.kind).0
 
 slice-aggregate-go-from : tie.Need-slice_bounds-go_from-end-2
-slice-aggregate-go-from c = sym (rows-count c.before.before.before.before.before.before.before.args.n c.before.before.before.before.before.before.before.args.m c.before.before.before.before.before.before.before.args.v c.before.before.before.before.before.before.before.args.t5 c.before.before.before.before.before.before.before.args.rows.now c.before.before.before.before.before.before.before.args.place.now c.before.before.before.before.before.before.before.args.kinds.now c.before.before.before.before.before.before.before.requires.0 c.before.before.before.before.before.before.before.args.kind).1
+slice-aggregate-go-from c = sym (rows-count c.before.before.before.before.before.before.before.args.n c.before.before.before.before.before.before.before.args.m c.before.before.before.before.before.before.before.args.v c.before.before.before.before.before.before.before.args.r c.before.before.before.before.before.before.before.args.rows.now c.before.before.before.before.before.before.before.args.place.now c.before.before.before.before.before.before.before.args.kinds.now c.before.before.before.before.before.before.before.requires.0 c.before.before.before.before.before.before.before.args.kind).1
 
 add-go-from-2 : tie.Need-overflow_add-v
 add-go-from-2 c = search rules
 
 slice-relend-prefix-go-from-2 : tie.Need-slice_bounds-go_from-end-3
-slice-relend-prefix-go-from-2 c = (place-count c.before.before.before.before.before.before.before.args.n c.before.before.before.before.before.before.before.args.m c.before.before.before.before.before.before.before.args.v c.before.before.before.before.before.before.before.args.t5 c.before.before.before.before.before.before.before.args.rows.now c.before.before.before.before.before.before.before.args.place.now c.before.before.before.before.before.before.before.args.kinds.now c.before.before.before.before.before.before.before.requires.0 c.before.before.before.before.before.before.before.args.kind).0
+slice-relend-prefix-go-from-2 c = (place-count c.before.before.before.before.before.before.before.args.n c.before.before.before.before.before.before.before.args.m c.before.before.before.before.before.before.before.args.v c.before.before.before.before.before.before.before.args.r c.before.before.before.before.before.before.before.args.rows.now c.before.before.before.before.before.before.before.args.place.now c.before.before.before.before.before.before.before.args.kinds.now c.before.before.before.before.before.before.before.requires.0 c.before.before.before.before.before.before.before.args.kind).0
 
 slice-aggregate-go-from-2 : tie.Need-slice_bounds-go_from-end-4
-slice-aggregate-go-from-2 c = sym (place-count c.before.before.before.before.before.before.before.before.args.n c.before.before.before.before.before.before.before.before.args.m c.before.before.before.before.before.before.before.before.args.v c.before.before.before.before.before.before.before.before.args.t5 c.before.before.before.before.before.before.before.before.args.rows.now c.before.before.before.before.before.before.before.before.args.place.now c.before.before.before.before.before.before.before.before.args.kinds.now c.before.before.before.before.before.before.before.before.requires.0 c.before.before.before.before.before.before.before.before.args.kind).1
+slice-aggregate-go-from-2 c = sym (place-count c.before.before.before.before.before.before.before.before.args.n c.before.before.before.before.before.before.before.before.args.m c.before.before.before.before.before.before.before.before.args.v c.before.before.before.before.before.before.before.before.args.r c.before.before.before.before.before.before.before.before.args.rows.now c.before.before.before.before.before.before.before.before.args.place.now c.before.before.before.before.before.before.before.before.args.kinds.now c.before.before.before.before.before.before.before.before.requires.0 c.before.before.before.before.before.before.before.before.args.kind).1
 
 add-go-from-3 : tie.Need-overflow_add-v-2
 add-go-from-3 c = search rules
 
 slice-reshare-prefix-go-from : tie.Need-slice_bounds-go_from-end-5
-slice-reshare-prefix-go-from c = (kinds-count c.before.before.before.before.before.before.before.before.args.n c.before.before.before.before.before.before.before.before.args.m c.before.before.before.before.before.before.before.before.args.v c.before.before.before.before.before.before.before.before.args.t5 c.before.before.before.before.before.before.before.before.args.rows.now c.before.before.before.before.before.before.before.before.args.place.now c.before.before.before.before.before.before.before.before.args.kinds.now c.before.before.before.before.before.before.before.before.requires.0 c.before.before.before.before.before.before.before.before.args.kind).0
+slice-reshare-prefix-go-from c = (kinds-count c.before.before.before.before.before.before.before.before.args.n c.before.before.before.before.before.before.before.before.args.m c.before.before.before.before.before.before.before.before.args.v c.before.before.before.before.before.before.before.before.args.r c.before.before.before.before.before.before.before.before.args.rows.now c.before.before.before.before.before.before.before.before.args.place.now c.before.before.before.before.before.before.before.before.args.kinds.now c.before.before.before.before.before.before.before.before.requires.0 c.before.before.before.before.before.before.before.before.args.kind).0
 
 slice-aggregate-go-from-3 : tie.Need-slice_bounds-go_from-end-6
 slice-aggregate-go-from-3 c = sym (kinds-count c.before.before.before.before.before.before.before.before.before.args.n c.before.before.before.before.before.before.before.before.before.args.m c.before.before.before.before.before.before.before.before.before.args.v c.before.before.before.before.before.before.before.before.before.args.t5 c.before.before.before.before.before.before.before.before.before.args.rows.now c.before.before.before.before.before.before.before.before.before.args.place.now c.before.before.before.before.before.before.before.before.before.args.kinds.now c.before.before.before.before.before.before.before.before.before.requires.0 c.before.before.before.before.before.before.before.before.before.args.kind).1

@@ -29,7 +29,7 @@ is-violated-requires : tie.Need-is_violated-requires
 is-violated-requires c κs = search rules
 
 returns : tie.Need-returns-then-not-is_violated
-returns c = sym (point-more c.before.before.before.before.before.args.n c.before.before.before.before.before.args.m c.before.before.before.before.before.args.v c.before.before.before.before.before.args.t5 c.before.before.before.before.before.args.rows.now c.before.before.before.before.before.args.place.now c.before.before.before.before.before.args.kinds.now c.before.before.before.before.before.requires.0 1 c.before.before.before.before.before.args.left (ap (violated_by 1) (sym (to_z-of_z {w = w64} {z = get_or c.before.before.before.before.before.args.t5 1 (pos 0)} (record { sfits = c.before.before.e-1.given }))) ∙ sym c.before.is_violated.ensures ∙ not-true _ c.if-not-is_violated.true-raw))
+returns c = sym (point-more c.before.before.before.before.before.args.n c.before.before.before.before.before.args.m c.before.before.before.before.before.args.v c.before.before.before.before.before.args.r c.before.before.before.before.before.args.rows.now c.before.before.before.before.before.args.place.now c.before.before.before.before.before.args.kinds.now c.before.before.before.before.before.requires.0 1 c.before.before.before.before.before.args.left (ap (violated_by 1) (sym (to_z-of_z {w = w64} {z = get_or c.before.before.before.before.before.args.r 1 (pos 0)} (record { sfits = c.before.before.e-1.given }))) ∙ sym c.before.is_violated.ensures ∙ not-true _ c.if-not-is_violated.true-raw))
 
 slice-aggregate-helping : tie.Need-slice_bounds-helping-end
 slice-aggregate-helping c = sym (lp c.before.before.before.before.before.before.before.args.n c.before.before.before.before.before.before.before.args.m c.before.before.before.before.before.before.before.args.v c.before.before.before.before.before.before.before.args.t5 c.before.before.before.before.before.before.before.args.rows.now c.before.before.before.before.before.before.before.args.place.now c.before.before.before.before.before.before.before.args.kinds.now c.before.before.before.before.before.before.before.requires.0)

@@ -52,11 +52,11 @@ loop-again : tie.Need-loop-i-preserved invariant-loop decreases-loop
 loop-again c =
     let s = c.before.before.before.before in
     let l = c.before.before.before.loop-i in
-    let x = to_z-of_z {w = w16} {z = get_or s.args.t4 l.i (pos 0)} (record { sfits = c.before.x-1.given }) in
+    let x = to_z-of_z {w = w16} {z = get_or s.args.a l.i (pos 0)} (record { sfits = c.before.x-1.given }) in
     let h = s.requires.0 in
     let b = s.requires.1.0 in (
       omega arith,
-      copied_more s.args.base _ l.i s.args.t4 s.args.r.now l.r _ (omega arith)
+      copied_more s.args.base _ l.i s.args.a s.args.r.now l.r _ (omega arith)
           (to_z-of_z (record { sfits = c.times.type_inv }) ∙ c.times.ensures ∙ ap (λ z. to_z w64 (of_z w64 s.args.s) *ℤ z) x) l.invariant.1,
     )
 
@@ -65,7 +65,7 @@ returns c =
     let s = c.before.before in
     let l = c.before.loop-i in
     let e : l.i ≡ s.args.n = let h = l.invariant.0 in omega arith in
-    subst₂ (λ z n. Copied s.args.base z n s.args.t4 s.args.r.now l.r) (to_z-of_z s.ranges.s) e l.invariant.1
+    subst₂ (λ z n. Copied s.args.base z n s.args.a s.args.r.now l.r) (to_z-of_z s.ranges.s) e l.invariant.1
 
 pub copy_spec : {M : Type 1} → statement M
 copy_spec =

@@ -28,7 +28,7 @@ begun c = start (naming c)
 -- the table at a turn of the loop, and its room for one more
 filling : (c : tie.At-loop-i invariant-loop decreases-loop) →
     let s = begun c in
-    Filling s.args.t1 c.loop-i.i s.args.rows.now c.loop-i.rows s.args.place.now (naming c).name_variables.new.1.1.0 s.args.kinds.now c.loop-i.kinds
+    Filling s.args.b c.loop-i.i s.args.rows.now c.loop-i.rows s.args.place.now (naming c).name_variables.new.1.1.0 s.args.kinds.now c.loop-i.kinds
 filling c =
     record {
       valid = (begun c).requires.0;
@@ -40,10 +40,10 @@ filling c =
     }
 
 room : (c : tie.In-loop-i invariant-loop decreases-loop) →
-    let b = (begun c.before).args.t1 in
+    let b = (begun c.before).args.b in
     let l = c.before.loop-i in
     (2 * b.divs + l.i < length l.rows) × (8 + 3 * b.divs + l.i < length l.kinds) × (l.i < length b.constraints)
-room c = let p = (begun c.before).pre.1 in filling-room (filling c.before) c.loop-i-test.true p.0 p.1.1
+room c = let p = (begun c.before).requires.1 in filling-room (filling c.before) c.loop-i-test.true p.0 p.1.1
 
 add-n : tie.Need-overflow_add-n invariant-loop decreases-loop
 add-n c = search rules
@@ -66,7 +66,7 @@ name-variables-requires c κs =
     (v.divs, (omega (arith, s.requires.1.1.0), omega (arith, s.requires.1.1.1)))
 
 fill-bounds-requires : tie.Need-fill_bounds-requires invariant-loop decreases-loop
-fill-bounds-requires c κs = let s = start c.before.before.before.before.before.before in let v = s.pre.0 in let d = v.divs in (v.divs, (v.divisions, omega (arith, s.pre.1.0)))
+fill-bounds-requires c κs = let s = start c.before.before.before.before.before.before in let v = s.requires.0 in let d = v.divs in (v.divs, (v.divisions, omega (arith, s.requires.1.0)))
 
 loop-holds : tie.Need-loop-i-init invariant-loop decreases-loop
 loop-holds c = (omega arith, ruled-none _ _ _)
@@ -90,7 +90,7 @@ index-1-constraint-row : tie.Need-bounds-rows-k invariant-loop decreases-loop
 index-1-constraint-row c = (room c.before).0
 
 constraint-row-requires : tie.Need-constraint_row-requires invariant-loop decreases-loop
-constraint-row-requires c κs = (begun c.before.before.before).pre.0.divs
+constraint-row-requires c κs = (begun c.before.before.before).requires.0.divs
 
 kind-of-requires : tie.Need-kind_of-requires invariant-loop decreases-loop
 kind-of-requires c κs = search rules

@@ -76,7 +76,7 @@ loop-again c =
     let n = s.requires.1.0 in
     let d = s.requires.0 in
     let h = s.requires.1.1 in
-    (omega arith, bounded-more s.args.t1 s.args.k l.i _ s.args.rows.now l.rows _ _ (omega arith) (omega arith) c.before.before.lower_row.ensures c.upper_row.ensures l.invariant.1)
+    (omega arith, bounded-more s.args.ds s.args.k l.i _ s.args.rows.now l.rows _ _ (omega arith) (omega arith) c.before.before.lower_row.ensures c.upper_row.ensures l.invariant.1)
 
 same_length : tie.Need-shape_of-rows invariant-loop decreases-loop
 same_length c = c.before.loop-i.invariant.1.long
@@ -86,7 +86,7 @@ returns c =
     let s = c.before.before in
     let l = c.before.loop-i in
     let e : l.i ≡ s.args.k = let h = l.invariant.0 in let k = c.loop-i-test.false in omega arith in
-    subst (λ n. Bounded s.args.t1 s.args.k n s.args.rows.now l.rows) e l.invariant.1
+    subst (λ n. Bounded s.args.ds s.args.k n s.args.rows.now l.rows) e l.invariant.1
 
 pub fill_bounds_spec : {M : Type 1} → statement M
 fill_bounds_spec =

@@ -97,7 +97,7 @@ pivot-counted-requires c κs = crosses c.before.before.before
 add-built : tie.Need-overflow_add-built invariant-loop decreases-loop
 add-built c =
     let a = turn (choice c) in let s = begun a in
-    let h = built-le (bound 64) s.args.kinds.now 200 s.args.t.now s.args.place.now s.pre.count in
+    let h = built-le (bound 64) s.args.kinds.now 200 s.args.t.now s.args.place.now s.requires.count in
     record { fits = omega (arith, h, a.loop-x.inv.5, builds (choice c), c.before.before.before.pivot_counted-built.ensures.2) }
 
 sub-left : tie.Need-overflow_sub-left invariant-loop decreases-loop

@@ -44,7 +44,7 @@ slice-relend-prefix-go-on : tie.Need-slice_bounds-go_on-end
 slice-relend-prefix-go-on c = simp length-set (let r = rows_room (start c).requires.0 in omega arith)
 
 slice-aggregate-go-on : tie.Need-slice_bounds-go_on-end-2
-slice-aggregate-go-on c = let s = start c.before in sym (more-long s.args.rows.now s.args.m s.args.row (rows_room s.pre.0))
+slice-aggregate-go-on c = let s = start c.before in sym (more-long s.args.rows.now s.args.m s.args.row (rows_room s.requires.0))
 
 add-go-on-2 : tie.Need-overflow_add-k
 add-go-on-2 c = search rules
@@ -56,7 +56,7 @@ slice-relend-prefix-go-on-2 : tie.Need-slice_bounds-go_on-end-3
 slice-relend-prefix-go-on-2 c = simp length-set (let r = place_room (start c.before).requires.0 in omega arith)
 
 slice-aggregate-go-on-2 : tie.Need-slice_bounds-go_on-end-4
-slice-aggregate-go-on-2 c = let s = start c.before.before in sym (more-long s.args.place.now (8 + s.args.k + s.args.m) s.args.m (place_room s.pre.0))
+slice-aggregate-go-on-2 c = let s = start c.before.before in sym (more-long s.args.place.now (8 + s.args.k + s.args.m) s.args.m (place_room s.requires.0))
 
 add-go-on-4 : tie.Need-overflow_add-v-4
 add-go-on-4 c = search rules
@@ -65,10 +65,10 @@ slice-reshare-prefix-go-on : tie.Need-slice_bounds-go_on-end-5
 slice-reshare-prefix-go-on c = simp length-set (let r = kinds_room (start c.before.before).requires.0 in omega arith)
 
 slice-aggregate-go-on-3 : tie.Need-slice_bounds-go_on-end-6
-slice-aggregate-go-on-3 c = let s = start (lent c) in sym (more-long s.args.kinds.now (8 + s.args.k + s.args.m) s.args.kind (kinds_room s.pre.0))
+slice-aggregate-go-on-3 c = let s = start (lent c) in sym (more-long s.args.kinds.now (8 + s.args.k + s.args.m) s.args.kind (kinds_room s.requires.0))
 
 go-on-requires : tie.Need-go_on-e-requires
-go-on-requires c κs = let s = start (lent c) in (sheets-more s.pre.0 s.args.row s.args.kind s.pre.1, fine_more s.pre.0 s.args.row s.args.kind s.pre.1, omega arith)
+go-on-requires c κs = let s = start (lent c) in (sheets-more s.requires.0 s.args.row s.args.kind s.requires.1, fine_more s.requires.0 s.args.row s.args.kind s.requires.1, omega arith)
 
 word-of-requires : tie.Need-word_of-requires
 word-of-requires c κs = search rules
@@ -85,7 +85,7 @@ same-length-3 c = search rules
 returns : tie.Need-returns
 returns c =
     let g = c.before.before.before.before.before in let s = start (lent g.before) in
-    let r = ran g.go_on-e.ensures (run_more s.pre.0 s.args.row s.args.kind s.pre.1) c.word_of.ensures in
+    let r = ran g.go_on-e.ensures (run_more s.requires.0 s.args.row s.args.kind s.requires.1) c.word_of.ensures in
     record { word = r.word; rows_are = ap₂ ◌++◌ r.rows (set_rest s.args.rows.now s.args.m s.args.row); place_is = ap₂ ◌++◌ r.place_is (set_rest s.args.place.now (8 + s.args.k + s.args.m) s.args.m); kinds_are = refl }
 
 pub go_with_spec : {M : Type 1} → statement M

@@ -33,7 +33,7 @@ drafts c = let d = c.before in d.draft.ensures.is ∙ ap (λ b. cond b (some (ce
 
 joins : (c : tie.Else-not-draft) → Joins (start c.before).args.k c.before.draft.new.1.1.1.1.0
 joins c =
-    let d = c.before in let s = start d in let e = d.draft.ensures in let o = s.pre.0 in
+    let d = c.before in let s = start d in let e = d.draft.ensures in let o = s.requires.0 in
     let w = rule-whole s.args.k (rows_of (take s.args.m s.args.rows.now)) (take (8 + s.args.k + s.args.m) s.args.place.now) (open-laid o) (bound 128) (constraint_of s.args.c) (cells d.draft.new.1.1.1.1.0) (drafts c) in
     record { sheet = e.sheet; line = w.0; over = w.1 }
 
@@ -86,7 +86,7 @@ add-heads : tie.Need-overflow_add-heads
 add-heads c = search rules
 
 slice-write-heads-3 : tie.Need-bounds-heads-3
-slice-write-heads-3 c = let s = start c.before.before.before.before.before.before.before.before.before.before.before in simp length-set (omega (arith, s.pre.1))
+slice-write-heads-3 c = let s = start c.before.before.before.before.before.before.before.before.before.before.before in simp length-set (omega (arith, s.requires.1))
 
 same-length-4 : tie.Need-shape_of-rows
 same-length-4 c = search rules

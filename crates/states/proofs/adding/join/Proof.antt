@@ -59,7 +59,7 @@ returns c = let t = c.before in let s = start t.before in joined-other (constrai
 grow-requires : tie.Need-grow-requires
 grow-requires c κs =
     let e = c.before.before.before.before in let s = start e.before in let h = s.args.heads.now in
-    (opened (first s) s.pre.0 s.pre.1 s.pre.2, omega (arith, length-set h 2 (get_or h 2 0 + 1), s.pre.0.heads))
+    (opened (first s) s.requires.0 s.requires.1 s.requires.2, omega (arith, length-set h 2 (get_or h 2 0 + 1), s.requires.0.heads))
 
 slice-read-now : tie.Need-bounds-heads-4-2
 slice-read-now c = let a = c.before.before in omega (arith, long a, (start (point (grew a)).before).requires.0.heads)

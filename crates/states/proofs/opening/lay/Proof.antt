@@ -29,12 +29,12 @@ abbrev filled : (c : tie.After-fill_bounds) → List (List ℤ)
 filled c = take (2 * (start c).args.k) c.fill_bounds.new.1.1.0
 
 filled-long : (c : tie.After-fill_bounds) → length (filled c) ≡ 2 * (start c).args.k
-filled-long c = let s = start c in ap length c.fill_bounds.ensures.firsts ∙ rows_long s.args.k (divisions s) s.pre.few (divisions-are s)
+filled-long c = let s = start c in ap length c.fill_bounds.ensures.firsts ∙ rows_long s.args.k (divisions s) s.requires.few (divisions-are s)
 
 each_long : (c : tie.After-fill_bounds) (i : ℕ) → i < length (filled c) → length (get_or (filled c) i []) ≡ 18
 each_long c i h =
     let s = start c in let e = c.fill_bounds.ensures.firsts in
-    ap (λ t. length (get_or t i [])) e ∙ ((first_fine s.args.k (divisions s) s.pre.few (divisions-are s)).line i (subst (λ t. i < length t) e h)).long
+    ap (λ t. length (get_or t i [])) e ∙ ((first_fine s.args.k (divisions s) s.requires.few (divisions-are s)).line i (subst (λ t. i < length t) e h)).long
 
 mul-m : tie.Need-overflow_mul-m
 mul-m c = search rules
@@ -75,7 +75,7 @@ same-length-3 c = search rules
 returns : tie.Need-returns
 returns c =
     let v = c.before.before.before.before in let a = v.before.before.before.before in let f = a.before.before.before.before in let s = start f in
-    record { rows = subst (Turns _) f.fill_bounds.ensures.firsts a.carry.ensures; place_is = named-place v.name_variables.ensures s.pre.names; kinds_are = named-kinds v.name_variables.ensures s.pre.sames }
+    record { rows = subst (Turns _) f.fill_bounds.ensures.firsts a.carry.ensures; place_is = named-place v.name_variables.ensures s.requires.names; kinds_are = named-kinds v.name_variables.ensures s.requires.sames }
 
 pub lay_spec : {M : Type 1} → statement M
 lay_spec =

@@ -59,15 +59,15 @@ slice-aggregate-tested-3 c = sym (kinds-taken (start c.before.before.before))
 tested-requires : tie.Need-tested-w-requires
 tested-requires c κs =
     let d = c.before.before.before in let s = start d in
-    record { few = s.pre.1.few; divisions = d.divisions_of-ds.ensures.long; rows = rows_taken s; names = place-taken s; sames = kinds-taken s }
+    record { few = s.requires.1.few; divisions = d.divisions_of-ds.ensures.long; rows = rows_taken s; names = place-taken s; sames = kinds-taken s }
 
 write-head-requires : tie.Need-write_head-requires
-write-head-requires c κs = let s = start c.before.before.before.before.before.before.before.before.before.before in let h = s.pre.0.heads in (omega arith, s.pre.1.few)
+write-head-requires c κs = let s = start c.before.before.before.before.before.before.before.before.before.before in let h = s.requires.0.heads in (omega arith, s.requires.1.few)
 
 forget-after-requires : tie.Need-forget_after-requires
 forget-after-requires c κs =
     let w = c.before.before.before in let t = w.before.before.before.before.before.before.before in let s = start t.before.before.before.before in
-    ap length w.write_head.ensures ∙ head-long s.args.n s.args.k t.tested-w.result s.args.heads.now s.pre.0.heads
+    ap length w.write_head.ensures ∙ head-long s.args.n s.args.k t.tested-w.result s.args.heads.now s.requires.0.heads
 
 said-of-requires : tie.Need-said_of-requires
 said-of-requires c κs = search rules

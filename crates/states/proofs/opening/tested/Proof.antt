@@ -23,7 +23,7 @@ add-go-on : tie.Need-overflow_add-k
 add-go-on c = search rules
 
 go-on-requires : tie.Need-go_on-e-requires
-go-on-requires c κs = let l = c.before.before.before.before.before.before.before.before in let b = l.lay.ensures in let s = start l in (b.rows.sheets, begun-fine b s.pre.few (divisions-are s), omega arith)
+go-on-requires c κs = let l = c.before.before.before.before.before.before.before.before in let b = l.lay.ensures in let s = start l in (b.rows.sheets, begun-fine b s.requires.few (divisions-are s), omega arith)
 
 word-of-requires : tie.Need-word_of-requires
 word-of-requires c κs = search rules

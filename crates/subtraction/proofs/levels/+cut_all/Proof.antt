@@ -43,14 +43,14 @@ decreases-loop left b pos out₀ rows₀ place₀ kinds₀ past₀ spare₀ next
 
 -- the cut, where it fits
 pieced : (t : ℕ) (c : lts.After-w-1 (callees t) (at t) Cut-all.Post invariant-loop decreases-loop)
-    → Pieced c.before.before.before.before.before.before.before.before.before.before.before.before.before.before.before.before.before.before.before.before.before.before.args.left c.before.before.before.before.before.before.before.before.before.before.before.before.before.before.before.before.before.before.before.before.before.before.args.p c.before.before.before.before.before.before.before.before.before.before.before.before.before.before.before.before.before.before.before.before.before.before.args.b.now c.before.before.before.before.before.before.before.before.before.before.before.before.before.before.before.before.before.before.before.before.before.before.args.pos c.before.before.before.before.before.before.before.before.before.before.before.before.before.before.before.before.decode_basic-v.result c.before.before.before.before.before.before.before.before.before.before.before.before.before.before.before.end_of_lem.result c.before.before.before.before.before.before.before.before.before.cut-c.result
+    → Pieced c.before.before.before.before.before.before.before.before.before.before.before.before.before.before.before.before.before.before.before.before.before.before.args.left c.before.before.before.before.before.before.before.before.before.before.before.before.before.before.before.before.before.before.before.before.before.before.args.p c.before.before.before.before.before.before.before.before.before.before.before.before.before.before.before.before.before.before.before.before.before.before.args.b.now c.before.before.before.before.before.before.before.before.before.before.before.before.before.before.before.before.before.before.before.before.before.before.args.pos c.before.before.before.before.before.before.before.before.before.before.before.before.before.before.before.before.decode_basic-v.result c.before.before.before.before.before.before.before.before.before.before.before.before.before.before.before.end_of-end.result c.before.before.before.before.before.before.before.before.before.cut-c.result
 pieced t c =
     let k = c.before.before.before.before.before.before.before.before.before.cut-c in
     record {
       level = c.before.before.before.before.before.before.before.before.before.before.before.before.before.before.before.before.before.before.before.before.before.before.requires.1.0;
       some = c.before.before.before.before.before.before.before.before.before.before.before.before.before.before.before.before.before.if-left-eq0.false;
       decoded = c.before.before.before.before.before.before.before.before.before.before.before.before.before.before.before.before.decode_basic-v.ensures;
-      ends = c.before.before.before.before.before.before.before.before.before.before.before.before.before.before.before.end_of_lem.ensures;
+      ends = c.before.before.before.before.before.before.before.before.before.before.before.before.before.before.before.end_of-end.ensures;
       cuts = c.before.before.before.before.before.before.before.before.before.before.before.before.before.before.before.before.before.before.before.before.before.before.requires.1.4;
       tight = k.ensures;
       fits = not-false k.result.fits c.before.if-not-fits.false-raw;

@@ -33,7 +33,7 @@ cut-divided-requires : tie.Need-cut_divided-requires
 cut-divided-requires c κs =
     let e = c.before.before.before.before.before.before.before.before in
     let s = start e in
-    (s.pre.0, s.pre.1, s.pre.2, s.pre.3, e.if-left-eq0.false)
+    (s.requires.0, s.requires.1, s.requires.2, s.requires.3, e.if-left-eq0.false)
 
 same-length-2 : tie.Need-shape_of-out-then-any_divisible
 same-length-2 c = search rules
@@ -60,7 +60,7 @@ cut-all-requires : tie.Need-cut_all-requires
 cut-all-requires c κs =
     let d = c.before.before.before.before.before.before in
     let s = start d.before.before in
-    (s.pre.0, s.pre.1, s.pre.2, s.pre.3, λ z. sym d.before.any_divisible.ensures ∙ d.if-any_divisible.false)
+    (s.requires.0, s.requires.1, s.requires.2, s.requires.3, λ z. sym d.before.any_divisible.ensures ∙ d.if-any_divisible.false)
 
 same-length-8 : tie.Need-shape_of-out
 same-length-8 c = search rules

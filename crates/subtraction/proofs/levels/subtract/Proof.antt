@@ -75,13 +75,13 @@ end-of-requires : tie.Need-end_of-pos-requires invariant-loop decreases-loop
 end-of-requires c κs = along-opened c.before.before.before.before.before.before.before.before.before.before.before.before.before.before.before.before.before.loop-pos.invariant.0 c.before.before.before.before.before.before.before.before.before.before.before.before.before.before.before.before.loop-pos-test.true
 
 loop-less : tie.Need-loop-pos-smaller invariant-loop decreases-loop
-loop-less c = let h = c.before.before.before.before.before.before.before.before.before.before.before.before.before.before.before.before.before.loop-pos-test.true in omega (arith, c.end_of_lem.ensures)
+loop-less c = let h = c.before.before.before.before.before.before.before.before.before.before.before.before.before.before.before.before.before.loop-pos-test.true in omega (arith, c.end_of-pos.ensures)
 
 loop-again : tie.Need-loop-pos-preserved invariant-loop decreases-loop
 loop-again c =
     let st = c.before.before.before.before.before.before.before.before.before.before.before.before.before.before.before.before.before.before in
     let m = c.before.before.before.before.before.before.before.before.before.cut_first-t in
-    (along-next st.loop-pos.invariant.0 c.before.before.before.before.before.before.before.before.before.before.before.before.before.before.before.before.before.loop-pos-test.true c.before.before.before.before.before.before.before.before.before.before.before.before.before.before.before.before.decode_basic-p.ensures m.ensures _ c.end_of_lem.ensures m.auto.1.1.1.0 m.auto.1.1.1.1.1.0 m.auto.1.1.1.1.1.1.0 m.auto.1.1.1.1.1.1.1.0 (not-false m.result.fits c.before.if-not-on.false-raw), record { many = m.auto.1.1.1.1.1.1.1.1.0 ∙ st.loop-pos.invariant.1.many; high = m.auto.1.1.1.1.1.1.1.1.1.0 ∙ st.loop-pos.invariant.1.high })
+    (along-next st.loop-pos.invariant.0 c.before.before.before.before.before.before.before.before.before.before.before.before.before.before.before.before.before.loop-pos-test.true c.before.before.before.before.before.before.before.before.before.before.before.before.before.before.before.before.decode_basic-p.ensures m.ensures _ c.end_of-pos.ensures m.auto.1.1.1.0 m.auto.1.1.1.1.1.0 m.auto.1.1.1.1.1.1.0 m.auto.1.1.1.1.1.1.1.0 (not-false m.result.fits c.before.if-not-on.false-raw), record { many = m.auto.1.1.1.1.1.1.1.1.0 ∙ st.loop-pos.invariant.1.many; high = m.auto.1.1.1.1.1.1.1.1.1.0 ∙ st.loop-pos.invariant.1.high })
 
 same-length-2 : tie.Need-shape_of-out invariant-loop decreases-loop
 same-length-2 c = c.before.loop-pos.invariant.0.same

@@ -33,7 +33,7 @@ slice-aggregate-cut-first-5 c = search rules
 
 cut-first-requires : tie.Need-cut_first-requires
 cut-first-requires c κs =
-    let k = counted c in let st = begun k in let f = st.pre in (
+    let k = counted c in let st = begun k in let f = st.requires in (
       level-start (bytes_of st.args.b.now (λ i. (k.before.before.shared_slice_known-1.given i).fits)) (record { zero = f.cutters }) f.valid f.divs f.cons k.count-left.ensures,
       nothing-ready,
       record { high = refl; long = refl; wide = refl },

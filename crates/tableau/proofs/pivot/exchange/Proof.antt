@@ -34,7 +34,7 @@ module _ (o : tie.After-solve) where
   j = o.before.before.args.j
 
   abbrev d : Ready n t i j
-  d = o.before.before.pre
+  d = o.before.before.requires
 
   abbrev p : List ℤ
   p = o.solve.last.0

@@ -40,20 +40,20 @@ module _ (c : tie.In-loop-k invariant-loop decreases-loop) where
   f = rebuild_of j (to_z w64 (of_z w64 c.before.before.args.m)) c.before.before.args.q.now
 
   abbrev t : List (List ℤ)
-  t = c.before.loop.t
+  t = c.before.loop-k.t
 
   abbrev k : ℕ
-  k = c.before.loop.k
+  k = c.before.loop-k.k
 
   long : length t ≡ length t₀
-  long = ap length c.before.loop.invariant.1 ∙ up_to-length (but i f) k t₀
+  long = ap length c.before.loop-k.invariant.1 ∙ up_to-length (but i f) k t₀
 
   within : k < length t₀
-  within = omega (arith, long, c.loop-test.true)
+  within = omega (arith, long, c.loop-k-test.true)
 
   -- it is as it was
   same : get_or t k [] ≡ get_or t₀ k []
-  same = ap (λ u. get_or u k []) c.before.loop.invariant.1 ∙ up_to-next (but i f) k t₀ []
+  same = ap (λ u. get_or u k []) c.before.loop-k.invariant.1 ∙ up_to-next (but i f) k t₀ []
 
   step : rebuilt j (get_or (set t₀ i []) k []) + touched j (drop (k + 1) (set t₀ i [])) ≡ touched j (drop k (set t₀ i []))
   step = touched-step j k (set t₀ i []) (omega (arith, length-set t₀ i [], within))
@@ -63,7 +63,7 @@ module _ (c : tie.In-loop-k invariant-loop decreases-loop) where
   passed e =
       let r = get_or t k [] in
       sym (set-get_or t k [])
-      ∙ up_to-more [] (but i f) k t₀ t r within c.before.loop.invariant.1 (but-own k f r ∙ ap (λ (n : ℕ). but n f k r) e)
+      ∙ up_to-more [] (but i f) k t₀ t r within c.before.loop-k.invariant.1 (but-own k f r ∙ ap (λ (n : ℕ). but n f k r) e)
 
   uncounted : k ≡ i → rebuilt j (get_or (set t₀ i []) k []) ≡ 0
   uncounted e =
@@ -75,9 +75,9 @@ module _ (c : tie.After-rebuild-built invariant-loop decreases-loop) where
   abbrev u : tie.In-loop-k invariant-loop decreases-loop
   u = c.before.before.before
 
-  counted : c.rebuild.result ≡ rebuilt (j u) (get_or (set (t₀ u) (i u) []) (k u) [])
+  counted : c.rebuild-built.result ≡ rebuilt (j u) (get_or (set (t₀ u) (i u) []) (k u) [])
   counted =
-      c.rebuild.ensures.1 ∙ ap (rebuilt (j u)) (same u ∙ sym (get_or-set_other (t₀ u) (i u) (k u) [] [] c.before.before.if1.true))
+      c.rebuild-built.ensures.1 ∙ ap (rebuilt (j u)) (same u ∙ sym (get_or-set_other (t₀ u) (i u) (k u) [] [] c.before.before.if-k-i.true))
 
 loop-holds : tie.Need-loop-k-init invariant-loop decreases-loop
 loop-holds c = (omega arith, up_to-none _ _, omega arith)
@@ -97,7 +97,7 @@ rebuild-requires c κs =
 add-built : tie.Need-overflow_add-built invariant-loop decreases-loop
 add-built c =
     let v = u c in
-    record { fits = omega (arith, counted c, step v, touched-le (j v) (set (t₀ v) (i v) []), length-set (t₀ v) (i v) [], v.before.before.pre.1, v.before.loop.inv.2) }
+    record { fits = omega (arith, counted c, step v, touched-le (j v) (set (t₀ v) (i v) []), length-set (t₀ v) (i v) [], v.before.before.requires.1, v.before.loop-k.inv.2) }
 
 add-k : tie.Need-overflow_add-k invariant-loop decreases-loop
 add-k c = search rules

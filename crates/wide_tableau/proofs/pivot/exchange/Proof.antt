@@ -37,7 +37,7 @@ module _ (s : tie.Start) where
   j = s.args.j
 
   abbrev d : R.ReadyAt (bound 128) n (rows_of t) i j
-  d = s.pre.1
+  d = s.requires.1
 
   row : i < length t
   row = let e = rows-length t in omega (arith, d.row)
@@ -76,7 +76,7 @@ module _ (x : tie.After-wipe) where
   s = o.before.before
 
   abbrev m : ℤ
-  m = value_of x.before.before.Cell-at.result
+  m = value_of x.before.before.cell_at-m.result
 
   abbrev q : List ℕ
   q = x.wipe.last.0
@@ -88,7 +88,7 @@ module _ (x : tie.After-wipe) where
       (L.solve-sound_at (bound 128) (n s) (cells (get_or (t s) (i s) [])) (j s) (d s).col w.line (w.small (cross s)) (cross s))
 
   m-is : m ≡ get_or (cells (p o)) 0 (pos 0)
-  m-is = x.before.before.Cell-at.ensures.0 ∙ ap (λ (r : List ℕ). get_or (cells r) 0 (pos 0)) (copied o)
+  m-is = x.before.before.cell_at-m.ensures.0 ∙ ap (λ (r : List ℕ). get_or (cells r) 0 (pos 0)) (copied o)
 
   q-is : cells q ≡ set (cells (p o)) 0 (pos 0)
   q-is = x.wipe.ensures.is ∙ ap (λ (r : List ℕ). set (cells r) 0 (pos 0)) (copied o)
@@ -144,7 +144,7 @@ sweep-requires c κs =
     let v = (d s).count in
     let z = (d s).col in
     let w = (fits s (i s) (row s)).line.fit in (
-      sheets-set (t s) (i s) r s.pre.0 (o x).solve.ensures.sheet,
+      sheets-set (t s) (i s) r s.requires.0 (o x).solve.ensures.sheet,
       x.wipe.ensures.sheet,
       omega arith,
       omega arith,

@@ -44,20 +44,20 @@ module _ (c : tie.In-loop-k invariant-loop decreases-loop) where
   f = R.rebuild_row j (value_of c.before.before.args.m) (cells c.before.before.args.q.now)
 
   abbrev t : List (List ℕ)
-  t = c.before.loop.t
+  t = c.before.loop-k.t
 
   abbrev k : ℕ
-  k = c.before.loop.k
+  k = c.before.loop-k.k
 
   within : k < length t₀
-  within = omega (arith, c.loop-test.true, c.before.loop.invariant.1)
+  within = omega (arith, c.loop-k-test.true, c.before.loop-k.invariant.1)
 
   there : k < length (rows_of t₀)
   there = omega (arith, within, rows-length t₀)
 
   -- it is as it was
   same : get_or t k [] ≡ get_or t₀ k []
-  same = c.before.loop.invariant.3.at k (le_refl _)
+  same = c.before.loop-k.invariant.3.at k (le_refl _)
 
   step : R.rebuilt j (get_or (set (rows_of t₀) i []) k []) + R.touched j (drop (k + 1) (set (rows_of t₀) i [])) ≡ R.touched j (drop k (set (rows_of t₀) i []))
   step = L.touched-step j k (set (rows_of t₀) i []) (omega (arith, length-set (rows_of t₀) i [], there))
@@ -67,7 +67,7 @@ module _ (c : tie.In-loop-k invariant-loop decreases-loop) where
   passed e =
       let r = get_or (rows_of t) k [] in
       sym (set-get_or (rows_of t) k [])
-      ∙ L.up_to-more [] (L.but i f) k (rows_of t₀) (rows_of t) r there c.before.loop.invariant.4 (L.but-own k f r ∙ ap (λ (n : ℕ). L.but n f k r) e)
+      ∙ L.up_to-more [] (L.but i f) k (rows_of t₀) (rows_of t) r there c.before.loop-k.invariant.4 (L.but-own k f r ∙ ap (λ (n : ℕ). L.but n f k r) e)
 
   uncounted : k ≡ i → R.rebuilt j (get_or (set (rows_of t₀) i []) k []) ≡ 0
   uncounted e =
@@ -75,18 +75,18 @@ module _ (c : tie.In-loop-k invariant-loop decreases-loop) where
       ap (λ (n : ℕ). R.rebuilt j (get_or (set (rows_of t₀) i []) n [])) e ∙ ap (R.rebuilt j) (get_or-set_same (rows_of t₀) i [] [] (omega arith))
 
   rest-passed : Rest (k + 1) t₀ t
-  rest-passed = record { at = λ m h. c.before.loop.invariant.3.at m (omega arith) }
+  rest-passed = record { at = λ m h. c.before.loop-k.invariant.3.at m (omega arith) }
 
 -- it is another than row i
 module _ (c : tie.After-rebuild-built invariant-loop decreases-loop) where
   abbrev u : tie.In-loop-k invariant-loop decreases-loop
   u = c.before.before.before
 
-  counted : c.rebuild.result ≡ R.rebuilt (j u) (get_or (set (rows_of (t₀ u)) (i u) []) (k u) [])
+  counted : c.rebuild-built.result ≡ R.rebuilt (j u) (get_or (set (rows_of (t₀ u)) (i u) []) (k u) [])
   counted =
-      c.rebuild.ensures.1
+      c.rebuild-built.ensures.1
       ∙ ap (λ (r : List ℕ). R.rebuilt (j u) (cells r)) (same u)
-      ∙ sym (ap (R.rebuilt (j u)) (get_or-set_other (rows_of (t₀ u)) (i u) (k u) [] [] c.before.before.if1.true ∙ rows_at (t₀ u) (k u)))
+      ∙ sym (ap (R.rebuilt (j u)) (get_or-set_other (rows_of (t₀ u)) (i u) (k u) [] [] c.before.before.if-k-i.true ∙ rows_at (t₀ u) (k u)))
 
 loop-holds : tie.Need-loop-k-init invariant-loop decreases-loop
 loop-holds c = (omega arith, refl, c.requires.0, rest-none _, L.up_to-none _ _, omega arith)
@@ -112,7 +112,7 @@ add-built : tie.Need-overflow_add-built invariant-loop decreases-loop
 add-built c =
     let v = u c in
     let r = rows_of (t₀ v) in
-    record { fits = omega (arith, counted c, step v, L.touched-le (j v) (set r (i v) []), length-set r (i v) [], rows-length (t₀ v), v.before.before.pre.3, v.before.loop.inv.5) }
+    record { fits = omega (arith, counted c, step v, L.touched-le (j v) (set r (i v) []), length-set r (i v) [], rows-length (t₀ v), v.before.before.requires.3, v.before.loop-k.inv.5) }
 
 add-k : tie.Need-overflow_add-k invariant-loop decreases-loop
 add-k c = search rules

@@ -67,10 +67,10 @@ reduce-by-requires c κs =
     let m = c.before in let s = start m in
     let r = cells s.args.r.now in let q = cells s.args.q.now in let j = s.args.j in let n = s.args.n in
     let l = set r (j + 2) (pos 0) in let b = pos 0 -ℤ R.entry r j in
-    let hl = L.clear-line n r (j + 2) s.pre.3 in (
+    let hl = L.clear-line n r (j + 2) s.requires.3 in (
       m.combine-g.ensures.sheet,
-      subst (R.Line n) (sym (full m)) (L.combine-line n (value_of s.args.m) b l q hl s.pre.4),
-      subst (λ (x : List ℤ). pos 0 <ℤ R.den x) (sym (full m)) (L.combine-den n (value_of s.args.m) b l q hl s.pre.4 s.pre.9 (subst (λ (x : ℤ). pos 0 <ℤ x) (sym (L.set-den r j (pos 0))) s.pre.10) s.pre.7),
+      subst (R.Line n) (sym (full m)) (L.combine-line n (value_of s.args.m) b l q hl s.requires.4),
+      subst (λ (x : List ℤ). pos 0 <ℤ R.den x) (sym (full m)) (L.combine-den n (value_of s.args.m) b l q hl s.requires.4 s.requires.9 (subst (λ (x : ℤ). pos 0 <ℤ x) (sym (L.set-den r j (pos 0))) s.requires.10) s.requires.7),
       m.combine-g.ensures.divisor_is ∙ ap R.divisor (sym m.combine-g.ensures.is),
     )
 

@@ -39,30 +39,30 @@ module _ (c : tie.After-narrow-d) where
   q = cells st.args.q.now
 
   abbrev s : List ℤ
-  s = taken.all-narrow.last.1.1.1.1.0
+  s = taken.all_narrow.last.1.1.1.1.0
 
   abbrev p : List ℤ
-  p = taken.all-narrow.last.1.1.1.1.1.0
+  p = taken.all_narrow.last.1.1.1.1.1.0
 
   rows : Narrows r s × Narrows q p × Within (bound 64) (value_of st.args.m)
-  rows = taken.all-narrow.ensures c.before.if1.true
+  rows = taken.all_narrow.ensures c.before.if-all_narrow.true
 
-  divisor_is : to_z w64 (of_z w64 c.narrow.result) ≡ value_of st.args.m
-  divisor_is = result_is w64 c.narrow.result c.narrow.type-inv ∙ c.narrow.ensures
+  divisor_is : to_z w64 (of_z w64 c.narrow-d.result) ≡ value_of st.args.m
+  divisor_is = result_is w64 c.narrow-d.result c.narrow-d.type_inv ∙ c.narrow-d.ensures
 
 replace-requires : tie.Need-replace-requires
 replace-requires c κs =
     let k = c.before.before in let a = st k in let h = rows k in let es = sym h.0.is in let ep = sym h.1.is in let em = sym (divisor_is k) in (
-      a.pre.2,
+      a.requires.2,
       (
-        subst (R.Line a.args.n) es a.pre.3,
+        subst (R.Line a.args.n) es a.requires.3,
         (
-          subst (R.Line a.args.n) ep a.pre.4,
+          subst (R.Line a.args.n) ep a.requires.4,
           (
             subst (R.Small (bound 64)) es h.0.small,
             (
               subst (R.Small (bound 64)) ep h.1.small,
-              (subst (λ (l : List ℤ). get_or l 0 (pos 0) ≡ pos 0) ep a.pre.7, (subst (Within (bound 64)) em h.2, (subst (λ (z : ℤ). pos 0 <ℤ z) em a.pre.9, subst (λ (l : List ℤ). pos 0 <ℤ R.den l) es a.pre.10))),
+              (subst (λ (l : List ℤ). get_or l 0 (pos 0) ≡ pos 0) ep a.requires.7, (subst (Within (bound 64)) em h.2, (subst (λ (z : ℤ). pos 0 <ℤ z) em a.requires.9, subst (λ (l : List ℤ). pos 0 <ℤ R.den l) es a.requires.10))),
             ),
           ),
         ),
@@ -84,7 +84,7 @@ eighteen n j m x y h k =
 carry-row-requires : tie.Need-carry_row-requires
 carry-row-requires c κs =
     let e = c.before.before in let k = e.before.before.before in let a = st k in
-    ap length (replaced e) ∙ eighteen a.args.n a.args.j (value_of a.args.m) (r k) (q k) a.pre.3 a.pre.4
+    ap length (replaced e) ∙ eighteen a.args.n a.args.j (value_of a.args.m) (r k) (q k) a.requires.3 a.requires.4
 
 returns : tie.Need-returns-then-all_narrow
 returns c = let e = c.before.before.before in subst (Becomes _) (replaced e) c.carry_row.ensures
