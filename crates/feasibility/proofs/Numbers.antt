@@ -1,14 +1,14 @@
 -- "Numbers alter neither membership nor what is dropped" (document 02, request 6): the test for fractions of a basic set without its
 -- rules' numbers is the same test, pivot by pivot.
-use mathlib.Core.Path.{◌≡◌, refl, ap, ap₂, ◌∙◌}
+use mathlib.Core.Path.{◌≡◌, refl, ap, ap₂}
 use mathlib.Core.List.{List, [], ◌∷◌, ◌++◌, map}
 use mathlib.Core.Option.{Option, none, some}
 use Prim.Native.Nat.{ℕ, suc, ◌+◌, ◌-◌}
 use lib.ListN.{length, get_or, replicate}
 use Rattle.model.specs.Limits.{most_axes, most_pivots}
-use Rattle.model.specs.Sets.{Kind, Constraint, BasicSet, bounds, conditions}
+use Rattle.model.specs.Sets.{Kind, Constraint, BasicSet, bounds}
 use Rattle.model.specs.Numbers.{plain_rule, plain_basic}
-use Rattle.feasibility.specs.Tableau.{Verdict, Row, Tableau, bound, narrow, Ending, reach, carried, built, carried_built, first_rows, from, sorts, begin, ends_at, test_at, test_ends, test, pivots_made, rows_built}
+use Rattle.feasibility.specs.Tableau.{Row, Tableau, bound, narrow, Ending, reach, carried, built, carried_built, first_rows, from, sorts, begin, ends_at, test_ends, test, pivots_made, rows_built}
 
 -- ---- the first tableau and the conditions of its variables: l is what stands before the rules, the bounds of the divisions
 rows-plain : (k v : ℕ) (l rs : List Constraint) → first_rows k v (l ++ map plain_rule rs) ≡ first_rows k v (l ++ rs)

@@ -3,16 +3,16 @@ use mathlib.Core.Path.{◌≡◌, refl, sym, ap, ap₂, ◌∙◌, subst}
 use mathlib.Core.Bool.{Bool, true, false, not, ◌&&◌, cond}
 use mathlib.Core.List.{List, [], ◌∷◌, ◌++◌, map}
 use mathlib.Core.Option.{Option, none, some}
-use Prim.Native.Nat.{ℕ, zero, suc, ◌+◌, ◌*◌, ◌-◌, ◌≤◌, ◌<◌, suc-le-suc}
+use Prim.Native.Nat.{ℕ, zero, suc, ◌+◌, ◌-◌, ◌<◌, suc-le-suc}
 use native.Mathlib.Nat.{le_of_eq, le_of_suc-le-suc, not-suc-le-zero, zero-lt-suc, add-zero, zero-add, add-suc, suc-add}
 use native.Mathlib.Omega.{arith}
 use lib.Dec.{T, lt→ltb, ltb, ltb→lt, eqb, eqb→eq, eqb_refl}
 use lib.IntN.{ℤ, pos, negsuc, neg_ℤ, nat_abs, ◌+ℤ◌, ◌-ℤ◌, ◌*ℤ◌}
-use lib.Signed.{non_neg, ◌≤ℤ◌, ◌<ℤ◌, yes_non_neg}
+use lib.Signed.{non_neg, ◌<ℤ◌, yes_non_neg}
 use lib.ListN.{length, get_or, set, replicate, length-set, length-map}
 use lib.Seq.{get_or-set_same, get_or-set_other}
 use Rattle.integers.specs.Ring.{ring, quote}
-use Rattle.integers.specs.Lin.{lt, eq, lin, lia-eq}
+use Rattle.integers.specs.Lin.{eq, lin, lia-eq}
 use Rattle.integers.specs.Order.{mul-nonneg, mul-pos-pos, <ℤ-≤ℤ}
 use Rattle.integers.specs.Size.{nat_abs-nonneg}
 use Rattle.model.specs.Lists.{all}

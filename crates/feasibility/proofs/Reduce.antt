@@ -1,20 +1,20 @@
 -- A reduced row has the same solutions: its numbers are those of the row over one nonzero factor.
 use mathlib.Core.Path.{◌≡◌, refl, sym, ap, ap₂, ◌∙◌, subst}
 use mathlib.Core.List.{List, [], ◌∷◌, map}
-use Prim.Native.Nat.{ℕ, zero, suc, ◌+◌, ◌*◌, ◌/◌, ◌%◌, ◌<◌, ◌∣◌}
+use Prim.Native.Nat.{ℕ, zero, suc, ◌*◌, ◌/◌, ◌%◌, ◌<◌, ◌∣◌}
 use native.Mathlib.Nat.{dvd_refl, dvd-zero, mod-lt, mod-eq-zero_of_dvd, pos_of_dvd_of_pos, zero-lt-suc, mul-pos, not-suc-le-zero}
 use native.Mathlib.Omega.{arith}
-use lib.Dec.{ltb, lt→ltb}
+use lib.Dec.{lt→ltb}
 use lib.IntN.{ℤ, pos, negsuc, neg_ℤ, nat_abs, ◌+ℤ◌, ◌-ℤ◌, ◌*ℤ◌, *ℤ-zero}
 use lib.Signed.{◌<ℤ◌, quot_z, rem_z}
 use lib.ListN.{length, length-map}
 use Rattle.integers.specs.Ring.{ring, quote}
 use Rattle.integers.specs.Lin.{lt, eq, lin, lia-le, lia-lt, lia-eq}
 use Rattle.integers.specs.Div.{floor-unique, floor_z-is, exact}
-use Rattle.integers.specs.Size.{nat_abs-neg, nat_abs_mul, nat_abs-zero}
+use Rattle.integers.specs.Size.{nat_abs_mul, nat_abs-zero}
 use Rattle.integers.specs.Gcd.{IsGcd, step_is, Divides, divides-trans, divides-neg}
 use Rattle.model.specs.Sets.{dot, floor_div}
-use Rattle.feasibility.specs.Tableau.{Row, positive, reduced, common_divisor, gcd, gcd_fuel}
+use Rattle.feasibility.specs.Tableau.{Row, reduced, common_divisor, gcd, gcd_fuel}
 use Rattle.model.proofs.Values.{dot-neg}
 use Rattle.feasibility.proofs.Rows.{rest}
 
