@@ -2,11 +2,11 @@
 use mathlib.Core.Path.{◌≡◌, refl, sym, ap, ap₂, ◌∙◌, subst}
 use mathlib.Core.List.{List, [], ◌∷◌, map}
 use mathlib.Core.Bool.{Bool, true, false, not, cond}
-use Prim.Native.Nat.{ℕ, zero, suc, ◌+◌, ◌-◌, ◌*◌, ◌/◌, ◌^◌, ◌≤◌, ◌<◌, zero-le}
+use Prim.Native.Nat.{ℕ, zero, suc, ◌+◌, ◌-◌, ◌/◌, ◌^◌, ◌≤◌, ◌<◌, zero-le}
 use native.Mathlib.Nat.{le_of_suc-le-suc, le_refl, le_trans, not-suc-le-zero, mod-one, div-le_self, le-div_iff_mul-le, le_of_dvd, pos_of_dvd_of_pos}
 use native.Mathlib.Omega.{arith}
 use native.Mathlib.Numerals.{add-one}
-use lib.Dec.{T, ltb, ltb→lt, lt→ltb}
+use lib.Dec.{T, ltb→lt, lt→ltb}
 use lib.ListN.{length, get_or, set, drop, replicate, length-set, length-map, drop_of_length-le, get_or-map}
 use lib.Seq.{drop-cons, get_or-drop, get_or-set_other, get_or-set_same}
 use lib.IntN.{ℤ, pos, negsuc, neg_ℤ, nat_abs, ◌+ℤ◌, ◌-ℤ◌, ◌*ℤ◌, +ℤ_idl, +ℤ_idr, *ℤ-zero}
@@ -379,7 +379,7 @@ module _ (n : ℕ) (r : List ℤ) (j : ℕ) (jn : j + 2 < n) (f : Line n r) (w :
 
 -- ---- the test for 0, on a number and on its bits
 pub bits-zero : (z : ℤ) → mag z < 9223372036854775808 → of_z w64 z ≡ 0 → z ≡ pos 0
-bits-zero z h e = sym (to_z-of_z (record { sfits = h })) ∙ ap (to_z w64) e
+bits-zero z h e = sym (to_z-of_z {w = w64} (record { sfits = h })) ∙ ap (to_z w64) e
 
 -- ---- the count of the rows with an entry
 rebuilt-le : (b : Bool) → cond {A = ℕ} b 0 1 ≤ 1

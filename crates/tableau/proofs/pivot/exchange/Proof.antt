@@ -1,6 +1,6 @@
 use mathlib.Core.Path.{◌≡◌, sym, ap, ◌∙◌, subst}
 use mathlib.Core.List.{List, [], map}
-use Prim.Native.Nat.{ℕ, ◌+◌, ◌≤◌}
+use Prim.Native.Nat.{ℕ, ◌+◌}
 use native.Mathlib.Omega.{arith}
 use lib.ListN.{length, get_or, set, length-set}
 use lib.Seq.{get_or-set_same, get_or-set_other, set-set}
@@ -8,16 +8,12 @@ use lib.IntN.{ℤ, pos}
 use mir.Syntax.{w64}
 use mir.Val.{to_z, of_z}
 use Rattle.integers.specs.Size.{bound}
-use Rattle.tableau.specs.Rows.{exchange_rows as exchange_of, rebuild_row as rebuild_of, touched, Fit, Ready}
+use Rattle.tableau.specs.Rows.{rebuild_row as rebuild_of, touched, Fit, Ready}
 use Rattle.tableau.proofs.Lines.{Sound, solve-sound, divisor-of, touched-others, touched-le, exchanged-others, back, wider}
 use Rattle.tableau.proofs.Searches.{exchange-length}
 use borrow.Author.Rules.{rules}
 use Rattle.tableau.proofs.pivot.exchange.Statement.{statement}
 use Rattle.tableau.proofs.pivot.exchange.Tie as tie
-use Rattle.tableau.proofs.pivot.exchange.Reads as reads
-use Rattle.tableau.proofs.pivot.exchange.Lts as lts
-use Rattle.tableau.proofs.pivot.sweep.Reads as sweep-reads
-use Rattle.tableau.proofs.row.solve.Reads as solve-reads
 
 -- row i is solved: p
 module _ (o : tie.After-solve) where
@@ -37,7 +33,7 @@ module _ (o : tie.After-solve) where
   d = o.before.before.requires
 
   abbrev p : List ℤ
-  p = o.solve.last.0
+  p = o.solve.new.r
 
   solved : Sound n (bound 64) p
   solved =

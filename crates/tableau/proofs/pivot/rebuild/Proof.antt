@@ -13,9 +13,6 @@ use Rattle.tableau.proofs.Lines.{bits-zero}
 use borrow.Author.Rules.{rules}
 use Rattle.tableau.proofs.pivot.rebuild.Statement.{statement}
 use Rattle.tableau.proofs.pivot.rebuild.Tie as tie
-use Rattle.tableau.proofs.pivot.rebuild.Reads as reads
-use Rattle.tableau.proofs.pivot.rebuild.Lts as lts
-use Rattle.tableau.proofs.row.replace.Reads as replace-reads
 
 add-b : tie.Need-overflow_add-b
 add-b c = search rules

@@ -1,6 +1,5 @@
-use mathlib.Core.Path.{◌≡◌, refl, sym, ap, ◌∙◌, subst}
+use mathlib.Core.Path.{◌≡◌, sym, ap, ◌∙◌}
 use mathlib.Core.List.{List, [], map}
-use mathlib.Core.Logic.{⊎_elim}
 use Prim.Native.Nat.{ℕ, ◌+◌, ◌-◌, ◌≤◌, ◌<◌}
 use borrow.Author.Rules.{rules}
 use native.Mathlib.Omega.{arith}
@@ -14,9 +13,7 @@ use Rattle.tableau.specs.Rows.{rebuild_row as rebuild_of, touched, rebuilt}
 use Rattle.tableau.proofs.Lines.{up_to, but, but-own, but-other, up_to-none, up_to-more, up_to-next, up_to-length, up_to-but, touched-le, touched-step, touched-end}
 use Rattle.tableau.proofs.pivot.sweep.Statement.{statement}
 use Rattle.tableau.proofs.pivot.sweep.Tie as tie
-use Rattle.tableau.proofs.pivot.sweep.Reads as reads
-use Rattle.tableau.proofs.pivot.sweep.Lts as lts
-use Rattle.tableau.proofs.pivot.rebuild.Reads as rebuild-reads
+use Rattle.tableau.proofs.pivot.sweep.Lts.{then-k-i, else-k-i}
 
 abbrev invariant-loop : tie.invariant-loop-k
 invariant-loop t₀ n i j m q built₀ k₀ t built k =
@@ -97,7 +94,7 @@ rebuild-requires c κs =
 add-built : tie.Need-overflow_add-built invariant-loop decreases-loop
 add-built c =
     let v = u c in
-    record { fits = omega (arith, counted c, step v, touched-le (j v) (set (t₀ v) (i v) []), length-set (t₀ v) (i v) [], v.before.before.requires.1, v.before.loop-k.inv.2) }
+    record { fits = omega (arith, counted c, step v, touched-le (j v) (set (t₀ v) (i v) []), length-set (t₀ v) (i v) [], v.before.before.requires.1, v.before.loop-k.invariant.2) }
 
 add-k : tie.Need-overflow_add-k invariant-loop decreases-loop
 add-k c = search rules
@@ -110,19 +107,19 @@ loop-again c =
     let v = c.before in
     let l = v.before.loop-k in
     let h = within v in
-    ⊎_elim
-    (λ w.
-    let g = counted (record { before = record { before = record { before = v; if1 = w.0 }; rebuild-arg = w.1 }; rebuild = w.2 }) in (
-      omega arith,
-      w.3 ∙ up_to-more [] (but (i v) (f v)) (k v) (t₀ v) (t v) _ h l.invariant.1 (w.2.ensures.0 ∙ but-other (i v) (k v) (f v) _ w.0.taken),
-      ap (λ (b : ℕ). b + touched (j v) (drop (k v + 1) (set (t₀ v) (i v) []))) w.4 ∙ omega (arith, g, step v, l.invariant.2),
-    ))
-    (λ w. (
-      omega arith,
-      w.1 ∙ passed v w.0.left,
-      omega (arith, w.2, uncounted v w.0.left, step v, l.invariant.2),
-    ))
-    c.if-k-i.branch
+    elim c.if-k-i.branch [
+      | then-k-i w ↦
+          let g = counted (record { before = record { before = record { before = v; if-k-i = w.if-k-i }; rebuild-arg-1 = w.rebuild-arg-1 }; rebuild-built = w.rebuild-built }) in (
+            omega arith,
+            w.t-is ∙ up_to-more [] (but (i v) (f v)) (k v) (t₀ v) (t v) _ h l.invariant.1 (w.rebuild-built.ensures.0 ∙ but-other (i v) (k v) (f v) _ w.if-k-i.true),
+            ap (λ (b : ℕ). b + touched (j v) (drop (k v + 1) (set (t₀ v) (i v) []))) w.built-is ∙ omega (arith, g, step v, l.invariant.2),
+          )
+      | else-k-i w ↦ (
+        omega arith,
+        w.t-is ∙ passed v w.if-k-i.false,
+        omega (arith, w.built-is, uncounted v w.if-k-i.false, step v, l.invariant.2),
+      )
+    ]
 
 same_length : tie.Need-shape_of-t invariant-loop decreases-loop
 same_length c = ap length c.before.loop-k.invariant.1 ∙ up_to-length _ c.before.loop-k.k c.before.before.args.t.now

@@ -8,11 +8,6 @@ use Rattle.tableau.specs.Rows.{combine_rows}
 use Rattle.tableau.proofs.Lines.{whole-line, minus-back, back, wider, fits, within-minus}
 use Rattle.tableau.proofs.row.add.Statement.{statement}
 use Rattle.tableau.proofs.row.add.Tie as tie
-use Rattle.tableau.proofs.row.add.Reads as reads
-use Rattle.tableau.proofs.row.add.Lts as lts
-use Rattle.tableau.proofs.row.combine.Reads as combine-reads
-use Rattle.tableau.proofs.row.minus.Reads as minus-reads
-use Rattle.tableau.proofs.row.plus.Reads as plus-reads
 
 plus-requires : tie.Need-plus-requires
 plus-requires c κs = let p = c.before.before.requires in (whole-line p.0, whole-line p.1, p.2, p.3)

@@ -6,8 +6,6 @@ use borrow.Author.Tests.{eqb-true}
 use Rattle.integers.specs.Mach.{clash}
 use Rattle.tableau.proofs.row.both_one.Statement.{statement}
 use Rattle.tableau.proofs.row.both_one.Tie as tie
-use Rattle.tableau.proofs.row.both_one.Reads as reads
-use Rattle.tableau.proofs.row.both_one.Lts as lts
 
 returns : tie.Need-returns-then-m-ne1
 returns c e = clash e refl

@@ -11,10 +11,6 @@ use Rattle.tableau.specs.Rows.{combine_rows, divisor, divisor_from}
 use Rattle.tableau.proofs.Lines.{up_to, up_to-none, up_to-more, up_to-next, up_to-combine, mul_sub, divisor-more, divisor-all}
 use Rattle.tableau.proofs.row.combine.Statement.{statement}
 use Rattle.tableau.proofs.row.combine.Tie as tie
-use Rattle.tableau.proofs.row.combine.Reads as reads
-use Rattle.tableau.proofs.row.combine.Lts as lts
-use Rattle.integers.proofs.determinant.Reads as determinant-reads
-use Rattle.tableau.proofs.row.divisor_with.Reads as divisor-with-reads
 
 abbrev invariant-loop : tie.invariant-loop-i
 invariant-loop r₀ n m b q g₀ i₀ r g i =
@@ -75,7 +71,7 @@ loop-again c =
     let b = to_z w64 (of_z w64 s.args.b) in
     let x = to_z-of_z {w = w64} {z = get_or l.r l.i (pos 0)} (record { sfits = c.before.before.before.x-1.given }) in
     let y = to_z-of_z {w = w64} {z = get_or q l.i (pos 0)} (record { sfits = c.before.before.y-1.given }) in
-    let z = to_z-of_z (record { sfits = c.before.determinant-z.type_inv }) ∙ c.before.determinant-z.ensures ∙ ap₂ (λ x y. x *ℤ m -ℤ b *ℤ y) x y in
+    let z = to_z-of_z {w = w64} (record { sfits = c.before.determinant-z.type_inv }) ∙ c.before.determinant-z.ensures ∙ ap₂ (λ x y. x *ℤ m -ℤ b *ℤ y) x y in
     let e : get_or l.r l.i (pos 0) ≡ get_or r l.i (pos 0) = ap (λ t. get_or t l.i (pos 0)) l.invariant.1 ∙ up_to-next _ l.i r (pos 0) in
     let f = s.requires.0 in (
       omega arith,

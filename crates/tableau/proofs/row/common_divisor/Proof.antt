@@ -11,8 +11,6 @@ use Rattle.integers.specs.Gcd.{gcd}
 use Rattle.tableau.specs.Rows.{divisor_from}
 use Rattle.tableau.proofs.row.common_divisor.Statement.{statement}
 use Rattle.tableau.proofs.row.common_divisor.Tie as tie
-use Rattle.tableau.proofs.row.common_divisor.Reads as reads
-use Rattle.tableau.proofs.row.common_divisor.Lts as lts
 
 abbrev invariant-loop : tie.invariant-loop-at
 invariant-loop r n g₀ at₀ g at = (at ≤ n) × (divisor_from g (drop at r) ≡ divisor_from 0 r)

@@ -12,9 +12,6 @@ use mir.Facts.{to_z-of_z}
 use Rattle.tableau.proofs.Lines.{up_to, up_to-none, up_to-more, up_to-line, each, quot-zero}
 use Rattle.tableau.proofs.row.divide.Statement.{statement}
 use Rattle.tableau.proofs.row.divide.Tie as tie
-use Rattle.tableau.proofs.row.divide.Reads as reads
-use Rattle.tableau.proofs.row.divide.Lts as lts
-use Rattle.tableau.proofs.row.quotient.Reads as quotient-reads
 
 by : ℤ → ℤ → ℤ
 by d x = quot_z x d
@@ -58,7 +55,7 @@ loop-again c =
     let f = s.requires.0 in (
       omega arith,
       up_to-more (pos 0) (each (by (to_z w64 (of_z w64 s.args.d)))) l.i s.args.r.now l.r _ (omega (arith, f.fit, f.long)) l.invariant.1
-          (to_z-of_z (record { sfits = c.quotient.type_inv }) ∙ c.quotient.ensures ∙ ap (λ z. quot_z z (to_z w64 (of_z w64 s.args.d))) x),
+          (to_z-of_z {w = w64} (record { sfits = c.quotient.type_inv }) ∙ c.quotient.ensures ∙ ap (λ z. quot_z z (to_z w64 (of_z w64 s.args.d))) x),
     )
 
 returns : tie.Need-returns invariant-loop decreases-loop

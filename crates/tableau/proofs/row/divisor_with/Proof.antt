@@ -6,10 +6,6 @@ use Rattle.integers.specs.Gcd.{gcd}
 use Rattle.tableau.proofs.Lines.{gcd-one}
 use Rattle.tableau.proofs.row.divisor_with.Statement.{statement}
 use Rattle.tableau.proofs.row.divisor_with.Tie as tie
-use Rattle.tableau.proofs.row.divisor_with.Reads as reads
-use Rattle.tableau.proofs.row.divisor_with.Lts as lts
-use Rattle.integers.proofs.gcd.Reads as gcd-reads
-use Rattle.integers.proofs.magnitude.Reads as magnitude-reads
 
 returns : tie.Need-returns-then-g-eq1
 returns c = let s = c.before in sym (gcd-one (nat_abs s.args.x)) ∙ ap (gcd (nat_abs s.args.x)) (sym c.if-g-eq1.true)

@@ -7,8 +7,6 @@ use lib.IntN.{ℤ, pos, ◌-ℤ◌}
 use Rattle.tableau.proofs.Lines.{up_to, up_to-none, up_to-more, up_to-next, up_to-line, each, back, fits, wider, within-minus}
 use Rattle.tableau.proofs.row.negate.Statement.{statement}
 use Rattle.tableau.proofs.row.negate.Tie as tie
-use Rattle.tableau.proofs.row.negate.Reads as reads
-use Rattle.tableau.proofs.row.negate.Lts as lts
 
 minus : ℤ → ℤ
 minus x = pos 0 -ℤ x

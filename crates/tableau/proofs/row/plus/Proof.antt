@@ -9,8 +9,6 @@ use mir.Facts.{to_z-of_z}
 use Rattle.tableau.proofs.Lines.{up_to, up_to-none, up_to-more, up_to-next, up_to-combine, mul_sub, plus_step, sum_fits}
 use Rattle.tableau.proofs.row.plus.Statement.{statement}
 use Rattle.tableau.proofs.row.plus.Tie as tie
-use Rattle.tableau.proofs.row.plus.Reads as reads
-use Rattle.tableau.proofs.row.plus.Lts as lts
 
 abbrev invariant-loop : tie.invariant-loop-i
 invariant-loop r₀ q i₀ r i = (i ≤ 18) × (r ≡ up_to (mul_sub (pos 1) (negsuc 0) q) i r₀)

@@ -4,8 +4,6 @@ use Rattle.integers.specs.Div.{quot_fits}
 use Rattle.integers.specs.Mach.{divisor-pos}
 use Rattle.tableau.proofs.row.quotient.Statement.{statement}
 use Rattle.tableau.proofs.row.quotient.Tie as tie
-use Rattle.tableau.proofs.row.quotient.Reads as reads
-use Rattle.tableau.proofs.row.quotient.Lts as lts
 
 div-result : tie.Need-nonzero_div-result
 div-result c = simp (to_z-of_z c.ranges.x, to_z-of_z c.ranges.d) (divisor-pos w64 c.requires, quot_fits c.ranges.x c.requires)

@@ -7,9 +7,6 @@ use Rattle.tableau.specs.Rows.{reduce_row as reduce_of, divide_row as divide_of,
 use Rattle.tableau.proofs.Lines.{row-divisor, map-quot-one, signed_of, positive}
 use Rattle.tableau.proofs.row.reduce_by.Statement.{statement}
 use Rattle.tableau.proofs.row.reduce_by.Tie as tie
-use Rattle.tableau.proofs.row.reduce_by.Reads as reads
-use Rattle.tableau.proofs.row.reduce_by.Lts as lts
-use Rattle.tableau.proofs.row.divide.Reads as divide-reads
 
 cast-divide : tie.Need-overflow_cast-g
 cast-divide c =

@@ -9,12 +9,6 @@ use Rattle.tableau.specs.Rows.{combine_rows as combine_of, reduce_row as reduce_
 use Rattle.tableau.proofs.Lines.{set-small, clear-line, combine-line, combine-small, combine-den, combine-one, one-lowest, set-den, within-minus, minus-back, back, wider, fits}
 use Rattle.tableau.proofs.row.replace.Statement.{statement}
 use Rattle.tableau.proofs.row.replace.Tie as tie
-use Rattle.tableau.proofs.row.replace.Reads as reads
-use Rattle.tableau.proofs.row.replace.Lts as lts
-use Rattle.tableau.proofs.row.add.Reads as add_reads
-use Rattle.tableau.proofs.row.both_one.Reads as both-one-reads
-use Rattle.tableau.proofs.row.combine.Reads as combine-reads
-use Rattle.tableau.proofs.row.reduce_by.Reads as reduce-by-reads
 
 add-b : tie.Need-overflow_add-b
 add-b c = search rules
@@ -90,7 +84,7 @@ reduce-by-requires c κs =
     let l = set s.args.r.now (s.args.j + 2) (pos 0) in
     let q = s.args.q.now in
     let hl = clear-line s.args.n s.args.r.now (s.args.j + 2) hr in
-    let e : c.before.combine-g.new.0 ≡ combine_of m b l q =
+    let e : c.before.combine-g.new.r ≡ combine_of m b l q =
     c.before.combine-g.ensures.0 ∙ ap₂ (λ m b. combine_of m b l q) (to_z-of_z s.ranges.m) (minus-back (get_or s.args.r.now (s.args.j + 2) (pos 0)) h) in
     let g : c.before.combine-g.result ≡ divisor (combine_of m b l q) = c.before.combine-g.ensures.1 ∙ ap divisor e in
     rw e (

@@ -4,10 +4,6 @@ use native.Mathlib.Omega.{arith}
 use mathlib.Core.Path.{ap, ◌∙◌}
 use Rattle.tableau.proofs.row.solve.Statement.{statement}
 use Rattle.tableau.proofs.row.solve.Tie as tie
-use Rattle.tableau.proofs.row.solve.Reads as reads
-use Rattle.tableau.proofs.row.solve.Lts as lts
-use Rattle.tableau.proofs.row.reduce.Reads as reduce-reads
-use Rattle.tableau.proofs.row.turn.Reads as turn-reads
 
 turn-requires : tie.Need-turn-requires
 turn-requires c κs = let s = c.before in (omega (arith, s.requires.1.0.fit, s.requires.0), (s.requires.1.0, s.requires.1.1.0))

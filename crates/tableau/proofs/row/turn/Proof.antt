@@ -9,9 +9,6 @@ use Rattle.tableau.proofs.Lines.{back, fits, wider, within-minus}
 use borrow.Author.Rules.{rules}
 use Rattle.tableau.proofs.row.turn.Statement.{statement}
 use Rattle.tableau.proofs.row.turn.Tie as tie
-use Rattle.tableau.proofs.row.turn.Reads as reads
-use Rattle.tableau.proofs.row.turn.Lts as lts
-use Rattle.tableau.proofs.row.negate.Reads as negate-reads
 
 add_a : tie.Need-overflow_add-a
 add_a c = search rules

@@ -11,9 +11,6 @@ use mathlib.Core.Bool.{cond}
 use Rattle.tableau.specs.Rows.{helps_by, helps_at}
 use Rattle.tableau.proofs.search.column_helps.Statement.{statement}
 use Rattle.tableau.proofs.search.column_helps.Tie as tie
-use Rattle.tableau.proofs.search.column_helps.Reads as reads
-use Rattle.tableau.proofs.search.column_helps.Lts as lts
-use Rattle.tableau.proofs.search.is_helping.Reads as is-helping-reads
 
 mul-i : tie.Need-offset_bounds-place-v
 mul-i c = search rules

@@ -7,9 +7,6 @@ use Rattle.tableau.specs.Rows.{first, helps_at, helping as helping_of}
 use Rattle.tableau.proofs.Searches.{first-start, first-yes, first-no, first-end}
 use Rattle.tableau.proofs.search.helping.Statement.{statement}
 use Rattle.tableau.proofs.search.helping.Tie as tie
-use Rattle.tableau.proofs.search.helping.Reads as reads
-use Rattle.tableau.proofs.search.helping.Lts as lts
-use Rattle.tableau.proofs.search.column_helps.Reads as column-helps-reads
 
 abbrev invariant-loop : tie.invariant-loop-v
 invariant-loop r place kinds v₀ v = (v ≤ length place) × (first (helps_at (r) (place) (kinds)) (length place - v) v ≡ first (helps_at (r) (place) (kinds)) (length place) 0)

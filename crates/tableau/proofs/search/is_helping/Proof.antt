@@ -11,8 +11,6 @@ use Rattle.tableau.specs.Rows.{helps_by}
 use Rattle.tableau.proofs.Searches.{bits-test}
 use Rattle.tableau.proofs.search.is_helping.Statement.{statement}
 use Rattle.tableau.proofs.search.is_helping.Tie as tie
-use Rattle.tableau.proofs.search.is_helping.Reads as reads
-use Rattle.tableau.proofs.search.is_helping.Lts as lts
 
 returns : tie.Need-returns-then-kind-eq0
 returns c =

@@ -10,8 +10,6 @@ use Rattle.tableau.specs.Rows.{violated_by}
 use Rattle.tableau.proofs.Searches.{bits-test}
 use Rattle.tableau.proofs.search.is_violated.Statement.{statement}
 use Rattle.tableau.proofs.search.is_violated.Tie as tie
-use Rattle.tableau.proofs.search.is_violated.Reads as reads
-use Rattle.tableau.proofs.search.is_violated.Lts as lts
 
 returns : tie.Need-returns-then-kind-eq1
 returns c =

@@ -10,9 +10,6 @@ use Rattle.integers.specs.Size.{bound}
 use Rattle.tableau.proofs.Searches.{narrow_step, narrow-end}
 use Rattle.tableau.proofs.search.narrow.Statement.{statement}
 use Rattle.tableau.proofs.search.narrow.Tie as tie
-use Rattle.tableau.proofs.search.narrow.Reads as reads
-use Rattle.tableau.proofs.search.narrow.Lts as lts
-use Rattle.tableau.proofs.search.row_narrow.Reads as row-narrow-reads
 
 abbrev invariant-loop : tie.invariant-loop-k
 invariant-loop t n j k₀ k = (k ≤ length t) × (narrow_of j (drop k t) ≡ narrow_of j t)
@@ -30,13 +27,13 @@ shared-slice-element-row-narrow : tie.Need-bounds-t-k invariant-loop decreases-l
 shared-slice-element-row-narrow c = c.loop-k-test.true
 
 row-narrow-requires : tie.Need-row_narrow-requires invariant-loop decreases-loop
-row-narrow-requires c κs = (c.before.before.before.requires.0, c.before.before.before.requires.1 c.before.before.loop.k c.before.loop-test.true)
+row-narrow-requires c κs = (c.before.before.requires.0, c.before.before.requires.1 c.before.loop-k.k c.loop-k-test.true)
 
 returns : tie.Need-returns-then-not-row_narrow invariant-loop decreases-loop
 returns c =
-    let s = c.before.before.before.before.before in
-    let l = c.before.before.before.before.loop in
-    let h : l.k < length s.args.t.now = c.before.before.before.loop-test.true in
+    let s = c.before.before.before.before in
+    let l = c.before.before.before.loop-k in
+    let h : l.k < length s.args.t.now = c.before.before.loop-k-test.true in
     sym (narrow_step (bound 64) s.args.j s.args.t.now l.k false h (sym c.before.row_narrow.ensures ∙ not-true _ c.if-not-row_narrow.true-raw)) ∙ l.invariant.1
 
 add-k : tie.Need-overflow_add-k invariant-loop decreases-loop
@@ -47,9 +44,9 @@ loop-less c = search rules
 
 loop-again : tie.Need-loop-k-preserved invariant-loop decreases-loop
 loop-again c =
-    let s = c.before.before.before.before.before in
-    let l = c.before.before.before.before.loop in
-    let h : l.k < length s.args.t.now = c.before.before.before.loop-test.true in
+    let s = c.before.before.before.before in
+    let l = c.before.before.before.loop-k in
+    let h : l.k < length s.args.t.now = c.before.before.loop-k-test.true in
     (omega arith, sym (narrow_step (bound 64) s.args.j s.args.t.now l.k true h (sym c.before.row_narrow.ensures ∙ not-false _ c.if-not-row_narrow.false-raw)) ∙ l.invariant.1)
 
 returns-2 : tie.Need-returns invariant-loop decreases-loop

@@ -11,9 +11,6 @@ use Rattle.tableau.specs.Rows.{small as small_of}
 use Rattle.tableau.proofs.Searches.{bits-test}
 use Rattle.tableau.proofs.search.row_narrow.Statement.{statement}
 use Rattle.tableau.proofs.search.row_narrow.Tie as tie
-use Rattle.tableau.proofs.search.row_narrow.Reads as reads
-use Rattle.tableau.proofs.search.row_narrow.Lts as lts
-use Rattle.tableau.proofs.search.small.Reads as small-reads
 
 add-e : tie.Need-overflow_add-e
 add-e c = search rules

@@ -11,9 +11,6 @@ use mathlib.Core.Bool.{cond}
 use Rattle.tableau.specs.Rows.{violated_by, violated_at}
 use Rattle.tableau.proofs.search.row_violated.Statement.{statement}
 use Rattle.tableau.proofs.search.row_violated.Tie as tie
-use Rattle.tableau.proofs.search.row_violated.Reads as reads
-use Rattle.tableau.proofs.search.row_violated.Lts as lts
-use Rattle.tableau.proofs.search.is_violated.Reads as is-violated-reads
 
 mul-i : tie.Need-offset_bounds-place-v
 mul-i c = search rules

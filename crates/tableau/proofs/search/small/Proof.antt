@@ -10,13 +10,10 @@ use lib.IntN.{pos, nat_abs}
 use mir.Syntax.{w64}
 use mir.Facts.{to_z-of_z}
 use Rattle.integers.specs.Size.{bound}
-use Rattle.integers.proofs.magnitude.Reads as magnitude-reads
 use Rattle.tableau.specs.Rows.{small as small_of}
 use Rattle.tableau.proofs.Searches.{small-more, small-end, cond-self}
 use Rattle.tableau.proofs.search.small.Statement.{statement}
 use Rattle.tableau.proofs.search.small.Tie as tie
-use Rattle.tableau.proofs.search.small.Reads as reads
-use Rattle.tableau.proofs.search.small.Lts as lts
 
 abbrev invariant-loop : tie.invariant-loop-i
 invariant-loop r n b₀ i₀ b i = (i ≤ 18) × (cond (leb b (bound 64)) (small_of (drop i r)) false ≡ small_of r)

@@ -7,9 +7,6 @@ use Rattle.tableau.specs.Rows.{first, violated_at, violated as violated_of}
 use Rattle.tableau.proofs.Searches.{first-start, first-yes, first-no, first-end}
 use Rattle.tableau.proofs.search.violated.Statement.{statement}
 use Rattle.tableau.proofs.search.violated.Tie as tie
-use Rattle.tableau.proofs.search.violated.Reads as reads
-use Rattle.tableau.proofs.search.violated.Lts as lts
-use Rattle.tableau.proofs.search.row_violated.Reads as row-violated-reads
 
 abbrev invariant-loop : tie.invariant-loop-v
 invariant-loop t place kinds v₀ v = (v ≤ length place) × (first (violated_at (t) (place) (kinds)) (length place - v) v ≡ first (violated_at (t) (place) (kinds)) (length place) 0)
