@@ -7,7 +7,7 @@ use lib.IntN.{ℤ}
 use lib.ListN.{length, length-append}
 use Rattle.model.specs.Lists.{concat_map}
 use Rattle.model.specs.Sets.{Set}
-use Rattle.codec.specs.Bytes.{signed_bytes, encode_command, commands, encode}
+use Rattle.codec.specs.Bytes.{opens, division, constraint, signed_bytes, encode_command, commands, encode}
 
 pub concat-more : {A B : Type 0} (f : A → List B) (l m : List A) → concat_map f (l ++ m) ≡ concat_map f l ++ concat_map f m
 concat-more f [] m = refl
@@ -29,4 +29,4 @@ coefficients-length = concat-length (signed_bytes 2) 2 (λ z. refl)
 
 pub encode-more : (s t : Set) → encode (s ++ t) ≡ encode s ++ encode t
 unfolding encode
-encode-more s t = ap (concat_map encode_command) (concat-more _ s t) ∙ concat-more encode_command (commands s) (commands t)
+encode-more s t = ap (concat_map encode_command) (concat-more (λ b. opens ∷ map division b.divisions ++ map constraint b.constraints) s t) ∙ concat-more encode_command (commands s) (commands t)

@@ -1,6 +1,6 @@
 -- What a decoded set has: every command accepted, well-formed basic sets, and the bytes it came from as its encoding.
 use mathlib.Core.Path.{◌≡◌, refl, sym, ap, ap₂, ◌∙◌, subst}
-use mathlib.Core.Bool.{Bool, true, false, ◌||◌, cond}
+use mathlib.Core.Bool.{Bool, true, false, cond}
 use mathlib.Core.List.{List, [], ◌∷◌, ◌++◌, map, append_assoc}
 use Prim.Native.Nat.{ℕ, zero, suc, ◌+◌, ◌-◌, ◌^◌, ◌≤◌, ◌<◌, zero-le, suc-le-suc}
 use native.Mathlib.Nat.{le_of_suc-le-suc, not-suc-le-zero, le_refl}
@@ -91,10 +91,8 @@ Unrefused n k [] = Unit {0}
 Unrefused n k (c ∷ cs) = (refusal n k c ≡ 0) × Unrefused n (counted k c) cs
 
 pub unrefused : (n : ℕ) (k : Counts) (s : List ℕ) (cs : List Command) → Parsed n k s cs → Unrefused n k cs
-unrefused n k [] (_ ∷ cs) x4 = elim x4 [ ]
-unrefused n k (_ ∷ _) [] x8 = elim x8 [ ]
-unrefused n k [] [] done = tt
-unrefused n k (_ ∷ _) (_ ∷ cs) (next b s w l z p) = (z, unrefused n (counted k (read_command b s)) (drop (width_of b - 1) s) cs p)
+unrefused n k _ _ done = tt
+unrefused n k _ _ (next b s w l z p) = (z, unrefused n (counted k (read_command b s)) (drop (width_of b - 1) s) _ p)
 
 pub formed : (n : ℕ) (k : Counts) (cs : List Command) → Unrefused n k cs → Formed k (build cs)
 formed n k [] u = record { positive = tt; absents = tt; ordered = λ h. refl; others = tt }
@@ -307,11 +305,9 @@ encode-read n k b s w l z p = at₁ (eqb b 0x11) refl
     at₁ false e = at₂ (eqb b 0x12) refl e
 
 pub bytes_back : (n : ℕ) (k : Counts) (s : List ℕ) (cs : List Command) → Parsed n k s cs → Bytes s → concat_map encode_command cs ≡ s
-bytes_back n k [] (_ ∷ cs) x7 p = elim x7 [ ]
-bytes_back n k (_ ∷ _) [] x10 p = elim x10 [ ]
-bytes_back n k [] [] done p = refl
-bytes_back n k (_ ∷ _) (_ ∷ cs) (next b s w l z q) p =
-    ap (λ (t : List ℕ). encode_command (read_command b s) ++ t) (bytes_back n (counted k (read_command b s)) (drop (width_of b - 1) s) cs q (bytes_drop (width_of b - 1) s p.1))
+bytes_back n k _ _ done p = refl
+bytes_back n k _ _ (next b s w l z q) p =
+    ap (λ (t : List ℕ). encode_command (read_command b s) ++ t) (bytes_back n (counted k (read_command b s)) (drop (width_of b - 1) s) _ q (bytes_drop (width_of b - 1) s p.1))
     ∙ encode-read n k b s w l z p.1
 
 -- what is decoded encodes to its bytes

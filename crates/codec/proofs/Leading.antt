@@ -1,13 +1,13 @@
 -- From place to place of bytes that are accepted by the way: what one command that is not refused adds.
 use mathlib.Core.Path.{◌≡◌, refl, sym, ap, ap₂, ◌∙◌, subst}
 use mathlib.Core.Bool.{Bool, true, false, not, ◌&&◌}
-use mathlib.Core.List.{List, [], ◌∷◌}
+use mathlib.Core.List.{List, ◌∷◌}
 use mathlib.Core.Logic.{⊎_elim}
-use Prim.Native.Nat.{ℕ, zero, suc, ◌+◌, ◌-◌, ◌*◌, ◌≤◌, ◌<◌}
+use Prim.Native.Nat.{ℕ, suc, ◌+◌, ◌-◌, ◌≤◌, ◌<◌}
 use native.Mathlib.Numerals.{add-one}
 use native.Mathlib.Nat.{le_refl}
 use native.Mathlib.Omega.{arith}
-use borrow.Author.Tests.{lt-ltb, le-leb}
+use borrow.Author.Tests.{lt-ltb}
 use lib.Dec.{T, ltb, leb, eqb, lt→ltb, le→leb}
 use lib.IntN.{ℤ, pos, negsuc}
 use lib.Signed.{◌≤ℤ◌}
@@ -16,7 +16,7 @@ use lib.Seq.{drop-cons, drop-drop}
 use Rattle.integers.specs.Mach.{clash}
 use Rattle.model.specs.Lists.{all}
 use Rattle.model.specs.Sets.{absent, equality}
-use Rattle.codec.specs.Bytes.{value_of, signed, signed_list, coefficient, within, constant_fits, Command, opens, misnumbered, division, constraint, is_division, is_constraint, body_of, head_of, body_in, constant_in, Counts, refusal, counted, width_of, kind_of, is_misnumbered, read_command, Built, parse, decode, number, axes_fit}
+use Rattle.codec.specs.Bytes.{value_of, signed, signed_list, coefficient, within, constant_fits, Command, opens, misnumbered, division, constraint, is_division, is_constraint, body_of, head_of, body_in, constant_in, Counts, refusal, counted, width_of, kind_of, is_misnumbered, read_command, Built, parse, number}
 use Rattle.codec.specs.Places.{commands_of, built, set_from, body_at, division_at, constraint_at, Checked, opened}
 use Rattle.codec.specs.Accepting.{Over, Upto, InRange, DivisionThere, CommandThere, ConstraintThere, Leads, in_basic, Under, DivisionsTo, Joined, Further, ConstraintsTo, Ends, Accepts}
 use Rattle.codec.specs.declared.accepting.ConstraintRun.{ConstraintRun}

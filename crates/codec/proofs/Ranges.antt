@@ -17,7 +17,7 @@ use Rattle.integers.specs.Part.{lt-or-le}
 use Rattle.model.specs.Lists.{all}
 use Rattle.model.specs.Sets.{is_zero, absent}
 use Rattle.model.proofs.Count.{from-T}
-use Rattle.codec.specs.Bytes.{value_of, signed, signed_list, coefficient}
+use Rattle.codec.specs.Bytes.{value_of, signed_list, coefficient}
 use Rattle.codec.specs.Accepting.{number_at, Under, Over, Upto, ranges_allowed, InRange}
 use Rattle.codec.proofs.Parsing.{both, absent-of}
 use Rattle.codec.proofs.Flags.{from, from_start, from_end, passed}

@@ -1,11 +1,11 @@
 -- What a decoded set is: valid basic sets over n axes, at most 32; and what is valid decodes from its encoding.
 use mathlib.Core.Path.{◌≡◌, refl, sym, ap, ◌∙◌, subst}
-use mathlib.Core.Bool.{Bool, true, false, ◌&&◌, ◌||◌, cond}
+use mathlib.Core.Bool.{Bool, true, false, ◌&&◌, cond}
 use mathlib.Core.List.{List, [], ◌∷◌, ◌++◌, map, append_assoc}
 use Prim.Native.Nat.{ℕ, zero, suc, ◌+◌, ◌-◌, ◌≤◌, ◌<◌, zero-le}
 use native.Mathlib.Nat.{zero-add, add-zero}
 use native.Mathlib.Omega.{arith}
-use lib.Dec.{T, leb, ltb, eqb, leb→le, lt→ltb, ltb→lt, eqb→eq}
+use lib.Dec.{T, leb, ltb, leb→le, lt→ltb, ltb→lt, eqb→eq}
 use lib.IntN.{ℤ, pos, negsuc}
 use lib.ListN.{length, take, drop, get_or}
 use Rattle.integers.specs.LittleEndian.{bytes_drop, signed-mag}
@@ -170,10 +170,8 @@ Sound n k [] = Unit {0}
 Sound n k (c ∷ cs) = Read c × (refusal n k c ≡ 0) × Sound n (counted k c) cs
 
 sound : (n : ℕ) (k : Counts) (s : List ℕ) (cs : List Command) → Parsed n k s cs → Bytes s → Sound n k cs
-sound n k [] (_ ∷ cs) x7 p = elim x7 [ ]
-sound n k (_ ∷ _) [] x10 p = elim x10 [ ]
-sound n k [] [] done p = tt
-sound n k (_ ∷ _) (_ ∷ cs) (next b s w l z q) p = (read-shape b s p.1, z, sound n (counted k (read_command b s)) (drop (width_of b - 1) s) cs q (bytes_drop (width_of b - 1) s p.1))
+sound n k _ _ done p = tt
+sound n k _ _ (next b s w l z q) p = (read-shape b s p.1, z, sound n (counted k (read_command b s)) (drop (width_of b - 1) s) _ q (bytes_drop (width_of b - 1) s p.1))
 
 record Made (n : ℕ) (k : Counts) (b : Built) : Type 0 where
   divisions : All (ValidDivision n) b.divisions

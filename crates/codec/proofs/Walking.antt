@@ -112,6 +112,8 @@ module _ (n : ℕ) (s : List ℕ) (at : ℕ) (k : Counts) (w : ℕ) where
 
       go : (l : List ℕ) (cs : List Command) → drop at s ≡ l → Parsed n k l cs → Head n s at k w
       go [] [] q done = absurd (omega (arith, length-drop at s, ap length q))
+      go [] (_ ∷ cs) q h = elim h [ ]
+      go (_ ∷ _) [] q h = elim h [ ]
       go (_ ∷ _) (_ ∷ cs) q (next b t x y z r) =
           let f : get_or s at 0 ∷ drop (at + 1) s ≡ b ∷ t = sym split ∙ q in
           made b t cs (cc) (cc) x y z r

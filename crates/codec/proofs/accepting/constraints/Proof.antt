@@ -2,7 +2,6 @@ use mathlib.Core.Path.{refl}
 use Prim.Native.Nat.{◌-◌, ◌≤◌}
 use native.Mathlib.Omega.{arith}
 use lib.ListN.{length}
-use borrow.Author.Rules.{rules}
 use Rattle.codec.specs.Accepting.{Further}
 use Rattle.codec.proofs.Leading.{further-none, further_then, further-few}
 use Rattle.codec.proofs.accepting.constraints.Statement.{statement}

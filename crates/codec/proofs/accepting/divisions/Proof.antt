@@ -1,6 +1,5 @@
 use Prim.Native.Nat.{◌-◌}
 use native.Mathlib.Omega.{arith}
-use borrow.Author.Rules.{rules}
 use lib.ListN.{length}
 use Rattle.codec.specs.Accepting.{DivisionsTo}
 use Rattle.codec.proofs.Leading.{divisions-none, divisions-next}

@@ -1,6 +1,6 @@
+use Rattle.codec.proofs.accepting.in_range.Lts.{then-not-between, else-not-between}
 use mathlib.Core.Path.{◌≡◌, sym, ap, ◌∙◌, subst₂}
 use mathlib.Core.Bool.{true}
-use mathlib.Core.Logic.{⊎_elim}
 use mathlib.Core.List.{List}
 use Prim.Native.Nat.{ℕ, ◌+◌, ◌-◌, ◌≤◌, ◌<◌}
 use native.Mathlib.Omega.{arith}
@@ -81,10 +81,10 @@ loop-again c =
       subst₂ ◌≤ℤ◌ (result_is w16 _ y.between-arg-in-loop-i-1.given) (result_is w16 _ h.h-1.given ∙ f) (c.before.between.ensures g).1,
     ) in (
       omega arith,
-      ⊎_elim
-          (λ w g. clash g w.1)
-          (λ w g. next-each (Between n st.args.low st.args.high) i (m.loop-i.invariant.1 (sym w.1 ∙ g)) (d (not-false _ w.0.left)))
-          c.if-not-between.branch,
+      elim c.if-not-between.branch [
+        | then-not-between w ↦ λ g. clash g w.ok-is
+        | else-not-between w ↦ λ g. next-each (Between n st.args.low st.args.high) i (m.loop-i.invariant.1 (sym w.ok-is ∙ g)) (d (not-false _ w.if-not-between.false-raw))
+      ],
     )
 
 returns : tie.Need-returns invariant-loop decreases-loop

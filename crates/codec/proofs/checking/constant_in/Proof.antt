@@ -1,5 +1,4 @@
 use mathlib.Core.Path.{sym}
-use Prim.Native.Nat.{◌-◌}
 use Rattle.codec.proofs.Parsing.{constant-low, constant-high}
 use Rattle.codec.proofs.checking.constant_in.Statement.{statement}
 use Rattle.codec.proofs.checking.constant_in.Tie as tie

@@ -1,5 +1,4 @@
 use mathlib.Core.Path.{sym, ap, ◌∙◌}
-use Prim.Native.Nat.{◌-◌}
 use borrow.Author.Rules.{rules}
 use Rattle.codec.specs.Bytes.{counted}
 use Rattle.codec.specs.Checking.{counts_of}

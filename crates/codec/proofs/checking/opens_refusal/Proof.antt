@@ -1,5 +1,4 @@
 use borrow.Author.Tests.{lt-ltb, le-ltb}
-use Prim.Native.Nat.{◌-◌}
 use Rattle.codec.proofs.checking.opens_refusal.Statement.{statement}
 use Rattle.codec.proofs.checking.opens_refusal.Tie as tie
 

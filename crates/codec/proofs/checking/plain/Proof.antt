@@ -1,6 +1,6 @@
+use Rattle.codec.proofs.checking.plain.Lts.{then-v-eq32768, else-v-eq32768}
 use borrow.Author.Rules.{rules}
 use mathlib.Core.Path.{◌≡◌, sym, ap, ◌∙◌}
-use mathlib.Core.Logic.{⊎_elim}
 use mathlib.Core.Bool.{Bool, ◌&&◌}
 use Prim.Native.Nat.{◌+◌, ◌-◌, ◌≤◌}
 use native.Mathlib.Omega.{arith}
@@ -47,10 +47,10 @@ loop-again : tie.Need-loop-i-preserved invariant-loop decreases-loop
 loop-again c =
     let u = c.before in let b = u.before in let m = b.before in let a = m.before.before.args in let h = b.loop-i-test.true in let e = u.u16_at-v.ensures.0 in (
       omega arith,
-      ⊎_elim
-          (λ w. ap (λ (o : Bool). o && from coefficient a.t.now a.p (m.loop-i.i + 1)) w.1 ∙ sym (failed coefficient a.t.now a.p m.loop-i.i _ h e m.loop-i.ok (coefficient-not _ w.0.taken)) ∙ m.loop-i.invariant.1)
-          (λ w. ap (λ (o : Bool). o && from coefficient a.t.now a.p (m.loop-i.i + 1)) w.1 ∙ sym (passed coefficient a.t.now a.p m.loop-i.i _ h e m.loop-i.ok (coefficient-yes _ u.u16_at-v.ensures.1 w.0.left)) ∙ m.loop-i.invariant.1)
-          c.if-v-eq32768.branch,
+      elim c.if-v-eq32768.branch [
+        | then-v-eq32768 w ↦ ap (λ (o : Bool). o && from coefficient a.t.now a.p (m.loop-i.i + 1)) w.ok-is ∙ sym (failed coefficient a.t.now a.p m.loop-i.i _ h e m.loop-i.ok (coefficient-not _ w.if-v-eq32768.true)) ∙ m.loop-i.invariant.1
+        | else-v-eq32768 w ↦ ap (λ (o : Bool). o && from coefficient a.t.now a.p (m.loop-i.i + 1)) w.ok-is ∙ sym (passed coefficient a.t.now a.p m.loop-i.i _ h e m.loop-i.ok (coefficient-yes _ u.u16_at-v.ensures.1 w.if-v-eq32768.false)) ∙ m.loop-i.invariant.1
+      ],
     )
 
 -- src/checking.rt:26:1

@@ -1,7 +1,7 @@
+use Rattle.codec.proofs.checking.zeros.Lts.{then-most-v, else-most-v}
 use borrow.Author.Rules.{rules}
 use mathlib.Core.Path.{◌≡◌, sym, ap, ◌∙◌, subst}
 use mathlib.Core.List.{List}
-use mathlib.Core.Logic.{⊎_elim}
 use mathlib.Core.Bool.{Bool, ◌&&◌}
 use Prim.Native.Nat.{ℕ, ◌+◌, ◌-◌, ◌*◌, ◌≤◌, ◌<◌}
 use native.Mathlib.Omega.{arith}
@@ -69,10 +69,10 @@ loop-again c =
     let u = c.before.before in let b = u.before in let m = b.before in let st = m.before.before.before in let a = st.args in let h = b.loop-i-test.true in let e = u.u16_at-v.ensures.0 in
     let q = st.requires.2 in (
       omega arith,
-      ⊎_elim
-          (λ w. ap (λ (o : Bool). o && from is_zero a.t.now a.p (later a.n (m.loop-i.i + 1))) w.1 ∙ sym (over-allowed a.t.now a.p a.n m.loop-i.i _ st.requires.1 h e u.u16_at-v.ensures.1 m.loop-i.ok (subst (λ (l : List ℕ). get_or l (8 - a.n + m.loop-i.i) 0 < u.u16_at-v.result) q w.0.taken)) ∙ m.loop-i.invariant.1)
-          (λ w. ap (λ (o : Bool). o && from is_zero a.t.now a.p (later a.n (m.loop-i.i + 1))) w.1 ∙ sym (within-allowed a.t.now a.p a.n m.loop-i.i _ st.requires.1 h e u.u16_at-v.ensures.1 m.loop-i.ok (subst (λ (l : List ℕ). u.u16_at-v.result ≤ get_or l (8 - a.n + m.loop-i.i) 0) q w.0.left)) ∙ m.loop-i.invariant.1)
-          c.if-most-v.branch,
+      elim c.if-most-v.branch [
+        | then-most-v w ↦ ap (λ (o : Bool). o && from is_zero a.t.now a.p (later a.n (m.loop-i.i + 1))) w.ok-is ∙ sym (over-allowed a.t.now a.p a.n m.loop-i.i _ st.requires.1 h e u.u16_at-v.ensures.1 m.loop-i.ok (subst (λ (l : List ℕ). get_or l (8 - a.n + m.loop-i.i) 0 < u.u16_at-v.result) q w.if-most-v.true)) ∙ m.loop-i.invariant.1
+        | else-most-v w ↦ ap (λ (o : Bool). o && from is_zero a.t.now a.p (later a.n (m.loop-i.i + 1))) w.ok-is ∙ sym (within-allowed a.t.now a.p a.n m.loop-i.i _ st.requires.1 h e u.u16_at-v.ensures.1 m.loop-i.ok (subst (λ (l : List ℕ). u.u16_at-v.result ≤ get_or l (8 - a.n + m.loop-i.i) 0) q w.if-most-v.false)) ∙ m.loop-i.invariant.1
+      ],
     )
 
 -- src/checking.rt:49:1

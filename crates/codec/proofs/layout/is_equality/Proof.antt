@@ -1,4 +1,3 @@
-use Prim.Native.Nat.{◌-◌}
 use borrow.Author.Tests.{ne_eqb}
 use Rattle.codec.proofs.layout.is_equality.Statement.{statement}
 use Rattle.codec.proofs.layout.is_equality.Tie as tie

@@ -11,12 +11,6 @@ use Rattle.codec.proofs.Located.{started_none, started-part, part-refused, part-
 use borrow.Author.Rules.{rules}
 use Rattle.codec.proofs.parts.basic.Statement.{statement}
 use Rattle.codec.proofs.parts.basic.Tie as tie
-use Rattle.codec.proofs.parts.basic.Reads as reads
-use Rattle.codec.proofs.parts.basic.Lts as lts
-use Rattle.codec.proofs.checking.check.Reads as check-reads
-use Rattle.codec.proofs.parts.end_of.Reads as end-of-reads
-use Rattle.codec.proofs.parts.part.Reads as part-reads
-use Rattle.codec.proofs.parts.start_of.Reads as start-of-reads
 
 check-requires : tie.Need-check-requires
 check-requires c κs = search rules
@@ -51,7 +45,7 @@ returns-3 c = let o = c.before.before in let h = o.before.before.before in let g
     let q : a.k - 1 + 1 ≡ a.k = omega arith in
     let z : number (decode a.n s) ≡ 0 = sym h.check.ensures ∙ o.before.before.if-check-ne0.false in
     let e : part_of a.n s a.k ≡ nowhere = ap (part_of a.n s) (sym q) ∙ started_none s (a.k - 1) o.start_of-at.result (bytes_of s (λ x. omega (arith, g.shared_slice_known-1.given x))) o.start_of-at.ensures a.n z c.before.if-set-at.true in
-    (c.part-then-set-at.ensures.0 ∙ ap (λ (p : Part). held p s) (sym e), c.part-then-set-at.ensures.1 ∙ ap (λ (p : Part). (a.set.ptr.0, a.set.ptr.1 + p.place)) (sym e))
+    (c.part-then-set-at.ensures.0 ∙ ap (λ (p : Part). held p s) (sym e), c.part-then-set-at.ensures.1 ∙ ap (λ (p : Part). (a.set.ref_ptr.0, a.set.ref_ptr.1 + p.place)) (sym e))
 
 add-end-of : tie.Need-overflow_add-at
 add-end-of c = search rules
@@ -70,7 +64,7 @@ returns-4 c = let d = c.before in let o = d.before.before in let h = o.before.be
     let e : part_of a.n s a.k ≡ record { place = at; size = end_of s (at + 1) - at } =
     ap (part_of a.n s) (sym q) ∙ started-part s (a.k - 1) at (bytes_of s (λ x. omega (arith, g.shared_slice_known-1.given x))) o.start_of-at.ensures a.n z d.before.if-set-at.false in (
       c.part-2.ensures.0 ∙ ap (λ (x : ℕ). take (x - at) (drop at s)) d.end_of-end.ensures ∙ ap (λ (p : Part). held p s) (sym e),
-      c.part-2.ensures.1 ∙ ap (λ (p : Part). (a.set.ptr.0, a.set.ptr.1 + p.place)) (sym e),
+      c.part-2.ensures.1 ∙ ap (λ (p : Part). (a.set.ref_ptr.0, a.set.ref_ptr.1 + p.place)) (sym e),
     )
 
 pub basic_spec : {M : Type 1} → statement M

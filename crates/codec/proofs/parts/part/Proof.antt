@@ -15,7 +15,7 @@ part-result-end : tie.Need-slice_bounds-result-end
 part-result-end c = search rules
 
 returns : tie.Need-returns
-returns c = let a = c.before.args in (refl, ap (λ (j : ℕ). (a.s.ptr.0, j)) (add_comm a.from a.s.ref_ptr.1))
+returns c = let a = c.before.args in (refl, ap (λ (j : ℕ). (a.s.ref_ptr.0, j)) (add_comm a.from a.s.ref_ptr.1))
 
 pub part_spec : {M : Type 1} → statement M
 part_spec = tie.close (tie.spec sub-result part-result-start part-result-end returns)
