@@ -1,8 +1,8 @@
 -- "Numbers alter neither membership .." (document 02, request 6): a set and the same set without its rules' numbers hold the same
 -- integer points, in FPL's meaning too, and the same points with fractions.
-use mathlib.Core.Path.{◌≡◌, refl, sym, ap, ap₂, ◌∙◌, subst}
+use mathlib.Core.Path.{◌≡◌, refl, sym, ap, ◌∙◌, subst}
 use mathlib.Core.Bool.{Bool, ◌&&◌}
-use mathlib.Core.List.{List, [], ◌∷◌, ◌++◌, map}
+use mathlib.Core.List.{List, [], ◌∷◌, map}
 use lib.Dec.{T}
 use lib.IntN.{ℤ, pos}
 use Rattle.model.specs.Lists.{all}

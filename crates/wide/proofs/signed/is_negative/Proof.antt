@@ -9,8 +9,6 @@ use Rattle.wide.proofs.Signs.{signed-zero, signed_lt}
 use borrow.Author.Rules.{rules}
 use Rattle.wide.proofs.signed.is_negative.Statement.{statement}
 use Rattle.wide.proofs.signed.is_negative.Tie as tie
-use Rattle.wide.proofs.signed.is_negative.Reads as reads
-use Rattle.wide.proofs.signed.is_negative.Lts as lts
 
 is-zero-requires : tie.Need-is_zero-requires
 is-zero-requires c κs = search rules

@@ -8,8 +8,6 @@ use Rattle.wide.proofs.Signs.{nat_abs-signed}
 use Rattle.wide.proofs.Digits.{large, one_word}
 use Rattle.wide.proofs.signed.is_small.Statement.{statement}
 use Rattle.wide.proofs.signed.is_small.Tie as tie
-use Rattle.wide.proofs.signed.is_small.Reads as reads
-use Rattle.wide.proofs.signed.is_small.Lts as lts
 
 returns : tie.Need-returns-then-h-ne0
 returns c = let x = c.before.before.args.x in sym (ap (λ (n : ℕ). leb n 9223372036854775807) (nat_abs-signed x.neg (size x.magnitude)) ∙ lt-leb _ _ (large 9223372036854775807 18446744073709551616 x.magnitude.hi x.magnitude.lo (lit< tt) c.if-h-ne0.true))

@@ -4,8 +4,6 @@ use lib.Dec.{lit≤}
 use Rattle.wide.proofs.Sizes.{both-fit, det-is}
 use Rattle.wide.proofs.signed.long_determinant.Statement.{statement}
 use Rattle.wide.proofs.signed.long_determinant.Tie as tie
-use Rattle.wide.proofs.signed.long_determinant.Reads as reads
-use Rattle.wide.proofs.signed.long_determinant.Lts as lts
 
 times-requires : tie.Need-times-p-requires
 times-requires c κs = search rules

@@ -6,8 +6,6 @@ use Rattle.wide.proofs.Signs.{signed-neg}
 use borrow.Author.Rules.{rules}
 use Rattle.wide.proofs.signed.minus.Statement.{statement}
 use Rattle.wide.proofs.signed.minus.Tie as tie
-use Rattle.wide.proofs.signed.minus.Reads as reads
-use Rattle.wide.proofs.signed.minus.Lts as lts
 
 plus-requires : tie.Need-plus-requires
 plus-requires c κs = search rules

@@ -4,8 +4,6 @@ use Rattle.wide.proofs.Signs.{signed-neg}
 use Rattle.wide.specs.Wide.{size}
 use Rattle.wide.proofs.signed.negate.Statement.{statement}
 use Rattle.wide.proofs.signed.negate.Tie as tie
-use Rattle.wide.proofs.signed.negate.Reads as reads
-use Rattle.wide.proofs.signed.negate.Lts as lts
 
 returns : tie.Need-returns
 returns c = let x = c.before.args.x in (signed-neg x.neg (size x.magnitude), refl)

@@ -7,8 +7,6 @@ use Rattle.wide.proofs.Signs.{apart-left, apart-right, alike}
 use borrow.Author.Rules.{rules}
 use Rattle.wide.proofs.signed.plus.Statement.{statement}
 use Rattle.wide.proofs.signed.plus.Tie as tie
-use Rattle.wide.proofs.signed.plus.Reads as reads
-use Rattle.wide.proofs.signed.plus.Lts as lts
 
 differ-requires : tie.Need-differ-requires
 differ-requires c κs = search rules

@@ -7,8 +7,6 @@ use Rattle.wide.proofs.Signs.{signed_quot}
 use borrow.Author.Rules.{rules}
 use Rattle.wide.proofs.signed.quotient.Statement.{statement}
 use Rattle.wide.proofs.signed.quotient.Tie as tie
-use Rattle.wide.proofs.signed.quotient.Reads as reads
-use Rattle.wide.proofs.signed.quotient.Lts as lts
 
 divide-requires : tie.Need-divide-p-requires
 divide-requires c κs = search rules

@@ -12,8 +12,6 @@ use Rattle.wide.proofs.Digits.{low_word}
 use borrow.Author.Rules.{rules}
 use Rattle.wide.proofs.signed.times.Statement.{statement}
 use Rattle.wide.proofs.signed.times.Tie as tie
-use Rattle.wide.proofs.signed.times.Reads as reads
-use Rattle.wide.proofs.signed.times.Lts as lts
 
 -- a number within the bound is its low word
 word : (x : Wide) → Within 9223372036854775807 (value_of x) → x.magnitude.lo ≡ size x.magnitude

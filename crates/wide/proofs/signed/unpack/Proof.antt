@@ -5,8 +5,6 @@ use native.Mathlib.Omega.{arith}
 use Rattle.wide.proofs.Sizes.{cell-low, cell-high, cell-fits}
 use Rattle.wide.proofs.signed.unpack.Statement.{statement}
 use Rattle.wide.proofs.signed.unpack.Tie as tie
-use Rattle.wide.proofs.signed.unpack.Reads as reads
-use Rattle.wide.proofs.signed.unpack.Lts as lts
 
 rest : (c : tie.Else-hi-lt-SIGN) → c.before.args.hi - 9223372036854775808 < 9223372036854775808
 rest c = omega arith

@@ -5,8 +5,6 @@ use native.Mathlib.Nat.{le_of_lt}
 use Rattle.wide.proofs.Digits.{diff-high, diff-borrow, diff_is, diff-borrowed, one-off, word-left, back_in}
 use Rattle.wide.proofs.words.difference.Statement.{statement}
 use Rattle.wide.proofs.words.difference.Tie as tie
-use Rattle.wide.proofs.words.difference.Reads as reads
-use Rattle.wide.proofs.words.difference.Lts as lts
 
 word : (c : tie.Start) → c.args.b.lo ≤ 18446744073709551615
 word c = omega (arith, c.well_formed)
