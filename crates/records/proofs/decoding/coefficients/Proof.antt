@@ -1,6 +1,5 @@
 use mathlib.Core.Path.{refl, ◌∙◌}
 use mathlib.Core.List.{[], ◌∷◌}
-use Prim.Native.Nat.{◌-◌}
 use lib.ListN.{take, drop}
 use mir.Syntax.{w16}
 use Rattle.integers.specs.Mach.{result_is}

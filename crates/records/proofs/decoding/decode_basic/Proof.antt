@@ -50,13 +50,13 @@ module _ (t : tie.In-loop-e invariant-loop decreases-loop invariant-loop2 decrea
   D = map division_of (take m.loop-e.d m.loop-e.ds)
 
   code : is_division (get_or s m.loop-e.at 0) ≡ true
-  code = sym t.before.division_at.ensures ∙ t.loop-e-test.taken
+  code = sym t.before.division_at.ensures ∙ t.loop-e-test.true
 
-  here : DivisionAt m.loop-e.inv.0.n s m.loop-e.at m.loop-e.inv.0.k
-  here = division-here s (start m).args.start m.loop-e.at D [] m.loop-e.inv.0 code
+  here : DivisionAt m.loop-e.invariant.0.n s m.loop-e.at m.loop-e.invariant.0.k
+  here = division-here s (start m).args.start m.loop-e.at D [] m.loop-e.invariant.0 code
 
   few : m.loop-e.d < 8
-  few = let f = here.few in let d = m.loop-e.inv.0.d in let e = m.loop-e.inv.1 in omega arith
+  few = let f = here.few in let d = m.loop-e.invariant.0.d in let e = m.loop-e.invariant.1 in omega arith
 
 head-requires : tie.Need-head-e-requires invariant-loop decreases-loop invariant-loop2 decreases-loop2
 head-requires c κs = (here c).whole
@@ -85,10 +85,10 @@ loop-less c = let h = (here c.before.before.before.before).whole in let r = h.ro
 loop-again : tie.Need-loop-e-preserved invariant-loop decreases-loop invariant-loop2 decreases-loop2
 loop-again c =
     let v = c.before in let b = v.before in let e = b.before in let t = e.before in let l = (m t).loop-e in let first = (start (m t)).args.start in
-    let f = few t in let n = l.inv.2 in let h : l.d < length l.ds = omega arith in
+    let f = few t in let n = l.invariant.2 in let h : l.d < length l.ds = omega arith in
     let w = stored division_of l.ds l.d v.read_division.result (division_at (s t) l.at) h (v.read_division.ensures ∙ ap₂ read_division e.head-e.ensures.0 b.body-t.ensures) in (
-      subst₂ (λ (p : ℕ) (X : List S.Division). Filling (s t) first p X []) (sym c.next-at.ensures) (sym w) (fill-division (s t) first l.at (D t) [] l.inv.0 (code t)),
-      ap (λ (j : ℕ). j + 1) l.inv.1 ∙ sym (one_more (D t) (division_at (s t) l.at)) ∙ ap length (sym w),
+      subst₂ (λ (p : ℕ) (X : List S.Division). Filling (s t) first p X []) (sym c.next-at.ensures) (sym w) (fill-division (s t) first l.at (D t) [] l.invariant.0 (code t)),
+      ap (λ (j : ℕ). j + 1) l.invariant.1 ∙ sym (one_more (D t) (division_at (s t) l.at)) ∙ ap length (sym w),
       length-set l.ds l.d v.read_division.result ∙ n,
     )
 
@@ -121,13 +121,13 @@ module _ (t : tie.In-loop-b invariant-loop decreases-loop invariant-loop2 decrea
   R = map constraint_of (take m2.loop-b.r m2.loop-b.rs)
 
   code2 : is_constraint (get_or s2 m2.loop-b.at 0) ≡ true
-  code2 = sym t.before.constraint_at.ensures ∙ t.loop-b-test.taken
+  code2 = sym t.before.constraint_at.ensures ∙ t.loop-b-test.true
 
-  here2 : ConstraintAt m2.loop-b.inv.0.filling.n s2 m2.loop-b.at m2.loop-b.inv.0.filling.k
-  here2 = constraint-here s2 (start (earlier m2)).args.start m2.loop-b.at E R m2.loop-b.inv.0.filling code2
+  here2 : ConstraintAt m2.loop-b.invariant.0.filling.n s2 m2.loop-b.at m2.loop-b.invariant.0.filling.k
+  here2 = constraint-here s2 (start (earlier m2)).args.start m2.loop-b.at E R m2.loop-b.invariant.0.filling code2
 
   few2 : m2.loop-b.r < 48
-  few2 = let f = here2.few in let d = m2.loop-b.inv.0.filling.r in let e = m2.loop-b.inv.1 in omega arith
+  few2 = let f = here2.few in let d = m2.loop-b.invariant.0.filling.r in let e = m2.loop-b.invariant.1 in omega arith
 
 code-requires : tie.Need-code-b-requires invariant-loop decreases-loop invariant-loop2 decreases-loop2
 code-requires c κs = tt
@@ -159,19 +159,19 @@ loop2-less c = let h = (here2 c.before.before.before.before.before).whole in let
 loop2-again : tie.Need-loop-b-preserved invariant-loop decreases-loop invariant-loop2 decreases-loop2
 loop2-again c =
     let v = c.before in let b = v.before in let u = b.before in let e = u.before in let t = e.before in let l = (m2 t).loop-b in let first = (start (earlier (m2 t))).args.start in
-    let f = few2 t in let n = l.inv.2 in let h : l.r < length l.rs = omega arith in
+    let f = few2 t in let n = l.invariant.2 in let h : l.r < length l.rs = omega arith in
     let w = stored constraint_of l.rs l.r v.read_constraint.result (constraint_at (s2 t) l.at) h
     (v.read_constraint.ensures ∙ ap (λ (x : ℕ). numbered x (read_constraint (kind_of e.code-b.result) b.body-t-in-loop-b.result.now)) u.rule_number-m.ensures
     ∙ ap₂ (λ (b : ℕ) (y : List ℕ). numbered (head_at (s2 t) l.at) (read_constraint (kind_of b) y)) e.code-b.ensures b.body-t-in-loop-b.ensures) in (
-      subst₂ (λ (p : ℕ) (X : List S.Constraint). Settled (s2 t) first p (E t) X) (sym c.next-at-in-loop-b.ensures) (sym w) (fill-constraint (s2 t) first l.at (E t) (R t) l.inv.0 (code2 t)),
-      ap (λ (j : ℕ). j + 1) l.inv.1 ∙ sym (one_more (R t) (constraint_at (s2 t) l.at)) ∙ ap length (sym w),
+      subst₂ (λ (p : ℕ) (X : List S.Constraint). Settled (s2 t) first p (E t) X) (sym c.next-at-in-loop-b.ensures) (sym w) (fill-constraint (s2 t) first l.at (E t) (R t) l.invariant.0 (code2 t)),
+      ap (λ (j : ℕ). j + 1) l.invariant.1 ∙ sym (one_more (R t) (constraint_at (s2 t) l.at)) ∙ ap length (sym w),
       length-set l.rs l.r v.read_constraint.result ∙ n,
     )
 
 returns : tie.Need-returns invariant-loop decreases-loop invariant-loop2 decreases-loop2
 returns c =
     let y = c.before in let n = y.before in let m = earlier n in let a = (start m).args in
-    decoded a.s.now a.start n.loop-b.at m.loop-e.ds n.loop-b.rs m.loop-e.d n.loop-b.r n.loop-b.invariant.0 m.loop-e.inv.1 n.loop-b.invariant.1 m.loop-e.inv.2 n.loop-b.invariant.2
+    decoded a.s.now a.start n.loop-b.at m.loop-e.ds n.loop-b.rs m.loop-e.d n.loop-b.r n.loop-b.invariant.0 m.loop-e.invariant.1 n.loop-b.invariant.1 m.loop-e.invariant.2 n.loop-b.invariant.2
     (sym y.constraint_at.ensures ∙ c.loop-b-test.false)
 
 pub decode_basic_spec : {M : Type 1} → statement M

@@ -1,6 +1,6 @@
 use mathlib.Core.Path.{◌≡◌, refl, ap, ◌∙◌}
 use mathlib.Core.Bool.{Bool, true, false, cond}
-use Prim.Native.Nat.{ℕ, ◌-◌}
+use Prim.Native.Nat.{ℕ}
 use mir.Syntax.{w32}
 use Rattle.integers.specs.Mach.{result_is}
 use Rattle.codec.specs.Bytes.{is_equality, kind_of}

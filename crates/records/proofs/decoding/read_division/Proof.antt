@@ -1,5 +1,4 @@
 use mathlib.Core.Path.{◌∙◌}
-use Prim.Native.Nat.{◌-◌}
 use mir.Syntax.{w32}
 use Rattle.integers.specs.Mach.{result_is}
 use borrow.Author.Rules.{rules}

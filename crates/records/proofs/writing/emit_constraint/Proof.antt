@@ -43,7 +43,7 @@ module _ (c : tie.After-put_constraint-n) where
   fits : length bytes ≤ 39
   fits = let s = size in let y = c.put_constraint-n.ensures.1 in omega arith
 
-  front : take c.put_constraint-n.result c.put_constraint-n.new.0 ≡ bytes
+  front : take c.put_constraint-n.result c.put_constraint-n.new.out ≡ bytes
   front = ap₂ take size c.put_constraint-n.ensures.0.bytes ∙ put_front bytes _ fits
 
 array-share-prefix-b : tie.Need-slice_bounds-b-end
@@ -62,7 +62,7 @@ returns-2 : tie.Need-returns
 returns-2 c =
     let w = c.before.before in let b = w.before.before.before.before in let s = st b in
     let q = w.copy_bytes.ensures.ends in let f = fits b in let l = ap length (front b) in
-    (subst (λ (l : List ℕ). Emitted l s.args.out.now s.args.at w.copy_bytes.result w.copy_bytes.new.1.0) (front b) w.copy_bytes.ensures, omega arith)
+    (subst (λ (l : List ℕ). Emitted l s.args.out.now s.args.at w.copy_bytes.result w.copy_bytes.new.out) (front b) w.copy_bytes.ensures, omega arith)
 
 pub emit_constraint_spec : {M : Type 1} → statement M
 emit_constraint_spec =

@@ -42,9 +42,9 @@ same-length-2 c = search rules
 returns-2 : tie.Need-returns
 returns-2 c = let w = c.before.before in let b = w.before.before.before.before in let st = b.before.before.before.before in let e = st.args.e in
     let n : length (encode_command (division (division_of e))) ≡ division_width (division_of e) = let x = b.put_division-2.ensures.0.ends in let y = b.put_division-2.ensures.1 in omega arith in
-    let l : b.put_division-2.new.0 ≡ encode_command (division (division_of e)) = b.put_division-2.ensures.0.bytes ∙ put-fresh (encode_command (division (division_of e))) _ (sym n) in
+    let l : b.put_division-2.new.out ≡ encode_command (division (division_of e)) = b.put_division-2.ensures.0.bytes ∙ put-fresh (encode_command (division (division_of e))) _ (sym n) in
     let q = w.copy_bytes.ensures.ends in
-    (subst (λ (l : List ℕ). Emitted l st.args.out.now st.args.at w.copy_bytes.result w.copy_bytes.new.1.0) l w.copy_bytes.ensures, omega (arith, ap length l))
+    (subst (λ (l : List ℕ). Emitted l st.args.out.now st.args.at w.copy_bytes.result w.copy_bytes.new.out) l w.copy_bytes.ensures, omega (arith, ap length l))
 
 pub emit_division_spec : {M : Type 1} → statement M
 emit_division_spec =

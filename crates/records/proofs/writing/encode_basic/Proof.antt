@@ -42,7 +42,7 @@ emit-opening-requires : tie.Need-emit_opening-p-requires invariant-loop decrease
 emit-opening-requires c κs = c.before.before.requires.place
 
 loop-holds : tie.Need-loop-i-init invariant-loop decreases-loop invariant-loop2 decreases-loop2
-loop-holds c = (omega arith, refl, omega arith, emitted-none c.before.before.emit_opening-p.new.0 c.before.before.emit_opening-p.result)
+loop-holds c = (omega arith, refl, omega arith, emitted-none c.before.before.emit_opening-p.new.out c.before.before.emit_opening-p.result)
 
 mul-e : tie.Need-offset_bounds-b-i invariant-loop decreases-loop invariant-loop2 decreases-loop2
 mul-e c = let h = c.before.before.before.before.before.before.before.requires.divs in omega arith
@@ -63,7 +63,7 @@ loop-again : tie.Need-loop-i-preserved invariant-loop decreases-loop invariant-l
 loop-again c = let w = c.before.before in let m = w.before.before.before.before in let o = m.before.before.before in let st = o.before.before.before in let i = m.loop-i.i in let v = m.loop-i.invariant in
     let n = divisions-known st in let h = st.requires.divs in let l : i < length st.args.b.divisions = omega arith in (
       omega arith,
-      w.emit_division-p.auto.0 ∙ v.1,
+      w.emit_division-p.auto.out ∙ v.1,
       let e = w.emit_division-p.ensures.1 in omega arith,
       emitted-next division_bytes st.args.b.divisions _ i [] _ l refl v.3 w.emit_division-p.ensures.0,
     )
@@ -91,18 +91,18 @@ loop2-again : tie.Need-loop-j-preserved invariant-loop decreases-loop invariant-
 loop2-again c = let w = c.before.before in let m = w.before.before.before.before in let st = m.before.before.before.before.before.before.before.before in let j = m.loop-j.j in let v = m.loop-j.invariant in
     let n = constraints-known st in let h = st.requires.cons in let l : j < length st.args.b.constraints = omega arith in (
       omega arith,
-      w.emit_constraint-p.auto.0 ∙ v.1,
+      w.emit_constraint-p.auto.out ∙ v.1,
       let e = w.emit_constraint-p.ensures.1 in omega arith,
       emitted-next constraint_bytes st.args.b.constraints _ j [] _ l refl v.3 w.emit_constraint-p.ensures.0,
     )
 
 same_length : tie.Need-shape_of-out invariant-loop decreases-loop invariant-loop2 decreases-loop2
-same_length c = let m₂ = c.before in let m = m₂.before.before in let o = m.before.before.before in m₂.loop-j.invariant.1 ∙ m.loop-i.invariant.1 ∙ o.emit_opening-p.auto.0
+same_length c = let m₂ = c.before in let m = m₂.before.before in let o = m.before.before.before in m₂.loop-j.invariant.1 ∙ m.loop-i.invariant.1 ∙ o.emit_opening-p.auto.out
 
 returns : tie.Need-returns invariant-loop decreases-loop invariant-loop2 decreases-loop2
 returns c = let m₂ = c.before in let m = m₂.before.before in let o = m.before.before.before in let st = o.before.before.before in let b = st.args.b in
     let i : m.loop-i.i ≡ b.divs = omega arith in let j : m₂.loop-j.j ≡ b.cons = omega arith in
-    let x = subst (λ (k : ℕ). Emitted (concat_map division_bytes (take k b.divisions)) o.emit_opening-p.new.0 o.emit_opening-p.result m.loop-i.p m.loop-i.out) i m.loop-i.invariant.3 in
+    let x = subst (λ (k : ℕ). Emitted (concat_map division_bytes (take k b.divisions)) o.emit_opening-p.new.out o.emit_opening-p.result m.loop-i.p m.loop-i.out) i m.loop-i.invariant.3 in
     let y = subst (λ (k : ℕ). Emitted (concat_map constraint_bytes (take k b.constraints)) m.loop-i.out m.loop-i.p m₂.loop-j.p m₂.loop-j.out) j m₂.loop-j.invariant.3 in
     subst (λ (l : List ℕ). Emitted l st.args.out.now st.args.at m₂.loop-j.p m₂.loop-j.out) (sym (encode-basic b)) (emitted-more (emitted-more o.emit_opening-p.ensures x) y)
 

@@ -18,7 +18,7 @@ same_length c = search rules
 
 returns : tie.Need-returns
 returns c = let two = c.before.before in let one = two.before.before.before.before in let st = one.before.before.before in
-    subst (λ (l : List ℕ). Emitted l st.args.out.now st.args.at two.put_16.result two.put_16.new.0) (sym (bytes_4 st.args.v)) (emitted-more one.put_16-p.ensures two.put_16.ensures)
+    subst (λ (l : List ℕ). Emitted l st.args.out.now st.args.at two.put_16.result two.put_16.new.out) (sym (bytes_4 st.args.v)) (emitted-more one.put_16-p.ensures two.put_16.ensures)
 
 pub put_32_spec : {M : Type 1} → statement M
 put_32_spec = tie.close (tie.spec put-16-requires put-16-requires-2 same_length returns)

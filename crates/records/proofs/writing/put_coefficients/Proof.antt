@@ -48,7 +48,7 @@ loop-again c = let w = c.before.before in let h = w.before in let m = h.before.b
     let l : i < length a = search rules in
     let e = h.half.ensures ∙ ap (unsigned 2) (to_z_of_z {w = w16} {z = get_or a i (pos 0)} (record { sfits = h.before.half-arg-1.given })) in (
       omega arith,
-      w.put_16-p.auto.0 ∙ m.loop-i.invariant.1,
+      w.put_16-p.auto.out ∙ m.loop-i.invariant.1,
       let x = w.put_16-p.ensures.ends in omega arith,
       emitted-next (signed_bytes 2) a (pos 0) i [] (bytes_of 2 h.half.result) l (ap (bytes_of 2) e) m.loop-i.invariant.3 w.put_16-p.ensures,
     )

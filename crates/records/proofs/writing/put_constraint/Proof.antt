@@ -32,8 +32,8 @@ returns : tie.Need-returns
 returns c = let four = c.before.before in let three = four.before.before.before.before.before in let two = three.before.before.before.before.before in let one = two.before.before.before.before.before.before in let st = one.before.before.before in
     let r = st.args.r in let p₁ = one.put_head-p.ensures.0 in
     let z : two.before.whole.result ≡ unsigned 4 r.constant = two.before.whole.ensures ∙ ap (unsigned 4) (to_z_of_z {w = w32} {z = r.constant} (record { sfits = two.before.before.struct_told-1.given.1.1.0.1 })) in
-    let p₂ : Emitted (signed_bytes 4 r.constant) one.put_head-p.new.0 one.put_head-p.result two.put_32-p.result two.put_32-p.new.0 =
-    subst (λ (v : ℕ). Emitted (bytes_of 4 v) one.put_head-p.new.0 one.put_head-p.result two.put_32-p.result two.put_32-p.new.0) z two.put_32-p.ensures in
+    let p₂ : Emitted (signed_bytes 4 r.constant) one.put_head-p.new.out one.put_head-p.result two.put_32-p.result two.put_32-p.new.out =
+    subst (λ (v : ℕ). Emitted (bytes_of 4 v) one.put_head-p.new.out one.put_head-p.result two.put_32-p.result two.put_32-p.new.out) z two.put_32-p.ensures in
     let h = one.put_head-p.ensures.1 in let b = p₂.ends in let d = three.put_coefficients-p.ensures.1 in let s = four.put_coefficients.ensures.1 in
     (emitted-more p₁ (emitted-more (emitted-more p₂ three.put_coefficients-p.ensures.0) four.put_coefficients.ensures.0), omega arith)
 

@@ -35,8 +35,8 @@ returns : tie.Need-returns
 returns c = let four = c.before.before in let three = four.before.before.before.before.before in let two = three.before.before.before.before.before.before in let one = two.before.before.before.before.before in let st = one.before.before.before in
     let e = st.args.e in
     let z : three.before.whole.result ≡ unsigned 4 e.constant = three.before.whole.ensures ∙ ap (unsigned 4) (to_z_of_z {w = w32} {z = e.constant} (record { sfits = three.before.before.struct_told-1.given.1.0.1 })) in
-    let p₃ : Emitted (signed_bytes 4 e.constant) two.put_16-p.new.0 two.put_16-p.result three.put_32-p.result three.put_32-p.new.0 =
-    subst (λ (v : ℕ). Emitted (bytes_of 4 v) two.put_16-p.new.0 two.put_16-p.result three.put_32-p.result three.put_32-p.new.0) z three.put_32-p.ensures in
+    let p₃ : Emitted (signed_bytes 4 e.constant) two.put_16-p.new.out two.put_16-p.result three.put_32-p.result three.put_32-p.new.out =
+    subst (λ (v : ℕ). Emitted (bytes_of 4 v) two.put_16-p.new.out two.put_16-p.result three.put_32-p.result three.put_32-p.new.out) z three.put_32-p.ensures in
     let a = one.put_8-p.ensures.ends in let b = two.put_16-p.ensures.ends in let d = p₃.ends in let s = four.put_coefficients.ensures.1 in
     (emitted-more (emitted-more (emitted-more one.put_8-p.ensures two.put_16-p.ensures) p₃) four.put_coefficients.ensures.0, omega arith)
 

@@ -26,7 +26,7 @@ returns : tie.Need-returns-then-number-eq0
 returns c =
     let p = c.before.before in let y = p.before in let t = y.before.before in let a = t.before.before.args in
     let e = p.put_8.ensures.ends in (
-      subst (λ (l : List ℕ). Emitted l a.out.now a.at p.put_8.result p.put_8.new.0)
+      subst (λ (l : List ℕ). Emitted l a.out.now a.at p.put_8.result p.put_8.new.out)
           (ap (λ (v : ℕ). v ∷ []) y.command.ensures ∙ sym (ap (λ (m : ℕ). cond (eqb m 0) (opcode (kind_is a.equality) ∷ []) (numbered_opcode (kind_is a.equality) ∷ bytes_of 2 m)) t.if-number-eq0.true))
           p.put_8.ensures,
       omega arith,
@@ -48,7 +48,7 @@ returns-2 : tie.Need-returns
 returns-2 c =
     let q = c.before.before in let p = q.before.before.before.before in let y = p.before in let t = y.before.before in let a = t.before.before.args in
     let e = p.put_8-p.ensures.ends in let f = q.put_16.ensures.ends in (
-      subst (λ (l : List ℕ). Emitted l a.out.now a.at q.put_16.result q.put_16.new.0)
+      subst (λ (l : List ℕ). Emitted l a.out.now a.at q.put_16.result q.put_16.new.out)
           (ap (λ (v : ℕ). v ∷ bytes_of 2 a.number) y.numbered_command.ensures
           ∙ sym (ap (λ (x : Bool). cond x (opcode (kind_is a.equality) ∷ []) (numbered_opcode (kind_is a.equality) ∷ bytes_of 2 a.number)) (ne_eqb a.number 0 t.if-number-eq0.false)))
           (emitted-more p.put_8-p.ensures q.put_16.ensures),
