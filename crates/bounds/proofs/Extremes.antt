@@ -115,7 +115,7 @@ axis-at t p k h = coefficient-at 8 k (drop p t) h ∙ ap (λ (l : List ℕ). sig
 
 -- ---- sizes of what the machine reads back
 pub back-within : {n : ℕ} {z : ℤ} → n < 9223372036854775808 → Within n z → Within n (to_z w64 (of_z w64 z))
-back-within {n} l h = subst (Within n) (sym (to_z_of_z (within-fits l h))) h
+back-within {n} l h = subst (Within n) (sym (to_z_of_z {w = w64} (within-fits l h))) h
 
 pub step_fits : {z a u v : ℤ} → Within 274877906944 z → Within 32768 a → Within 2097152 u → Within 2097152 v → Within 343597383680 (z +ℤ a *ℤ cond (non_neg a) u v)
 step_fits hz ha hu hv = within-mono (omega arith) (within-add hz (term-within ha hu hv))

@@ -52,8 +52,8 @@ term_is : (c : tie.After-term-s invariant-loop decreases-loop) →
 term_is c =
     let x = c.before.before.before in let m = x.before.before in let st = m.before.before in let i = m.loop-i.i in
     let a = result_is w64 x.s16_at.result x.s16_at.type_inv in
-    let u : to_z w64 (of_z w64 (get_or st.args.u.now i (pos 0))) ≡ get_or st.args.u.now i (pos 0) = to_z_of_z (within-fits (omega arith) (st.requires.1.lows.at i)) in
-    let v : to_z w64 (of_z w64 (get_or st.args.v.now i (pos 0))) ≡ get_or st.args.v.now i (pos 0) = to_z_of_z (within-fits (omega arith) (st.requires.1.highs.at i)) in
+    let u : to_z w64 (of_z w64 (get_or st.args.u.now i (pos 0))) ≡ get_or st.args.u.now i (pos 0) = to_z_of_z {w = w64} (within-fits (omega arith) (st.requires.1.lows.at i)) in
+    let v : to_z w64 (of_z w64 (get_or st.args.v.now i (pos 0))) ≡ get_or st.args.v.now i (pos 0) = to_z_of_z {w = w64} (within-fits (omega arith) (st.requires.1.highs.at i)) in
     result_is w64 c.term-s.result c.term-s.type_inv ∙ c.term-s.ensures ∙ ap (λ (z : ℤ). z *ℤ cond (non_neg z) (to_z w64 (of_z w64 (get_or st.args.u.now i (pos 0)))) (to_z w64 (of_z w64 (get_or st.args.v.now i (pos 0))))) a
     ∙ ap₂ (λ (y z : ℤ). x.s16_at.result *ℤ cond (non_neg x.s16_at.result) y z) u v
 

@@ -67,10 +67,10 @@ module _ (t : tie.In-loop-e invariant-loop decreases-loop) where
   G = to_z w64 (of_z w64 m.before.before.gap-to.result)
 
   low-gap : F ≡ get_or st.args.low.now st.args.k (pos 0) -ℤ get_or st.args.r.now (56 + st.args.k) (pos 0)
-  low-gap = let x = m.before.before.before in result_is w64 x.gap-from.result x.gap-from.ok ∙ x.gap-from.ensures.0
+  low-gap = let x = m.before.before.before in result_is w64 x.gap-from.result x.gap-from.type_inv ∙ x.gap-from.ensures.0
 
   high-gap : G ≡ get_or st.args.high.now st.args.k (pos 0) -ℤ get_or st.args.r.now (120 + st.args.k) (pos 0)
-  high-gap = let x = m.before.before in result_is w64 x.gap-to.result x.gap-to.ok ∙ x.gap-to.ensures.0
+  high-gap = let x = m.before.before in result_is w64 x.gap-to.result x.gap-to.type_inv ∙ x.gap-to.ensures.0
 
   low_size : Within 2097152 F
   low_size = back-within (omega arith) m.before.before.before.gap-from.ensures.1
@@ -79,13 +79,13 @@ module _ (t : tie.In-loop-e invariant-loop decreases-loop) where
   high_size = back-within (omega arith) m.before.before.gap-to.ensures.1
 
   code : is_division (get_or st.args.s.now m.loop-e.at 0) ≡ true
-  code = sym t.before.division_at.ensures ∙ t.loop-e-test.taken
+  code = sym t.before.division_at.ensures ∙ t.loop-e-test.true
 
-  here : DivisionAt m.loop-e.inv.n st.args.s.now m.loop-e.at m.loop-e.inv.k
-  here = bounding-at st.args.s.now (start_of st.args.r.now) (box_of st.args.low.now st.args.high.now) m.loop-e.at m.loop-e.d m.loop-e.ql m.loop-e.qh m.loop-e.inv code
+  here : DivisionAt m.loop-e.invariant.n st.args.s.now m.loop-e.at m.loop-e.invariant.k
+  here = bounding-at st.args.s.now (start_of st.args.r.now) (box_of st.args.low.now st.args.high.now) m.loop-e.at m.loop-e.d m.loop-e.ql m.loop-e.qh m.loop-e.invariant code
 
   few : m.loop-e.d < 8
-  few = let a = here.few in let b = m.loop-e.inv.counts in omega arith
+  few = let a = here.few in let b = m.loop-e.invariant.counts in omega arith
 
   loose : Loose st.args.s.now st.args.r.now
   loose = row_loose st.args.s.now (length st.args.low.now) st.args.r.now st.requires.1.few st.requires.0.row
@@ -182,9 +182,9 @@ loop-again c =
     let pl = kl ∙ q1.quotient_end-l.ensures.0 ∙ plain _ _ _ _ _ _ a.k _ _ _ _ y.head-e.ensures.0 x.body-t.ensures (to_z_of_z {w = w64} (within-fits (omega arith) (least t))) (low-gap t) (high-gap t) in
     let ph = kh ∙ q2.quotient_end-h.ensures.0 ∙ plain _ _ _ _ _ _ a.k _ _ _ _ y.head-e.ensures.0 x.body-t.ensures (to_z_of_z {w = w64} (within-fits (omega arith) (greatest t))) (high-gap t) (low-gap t) in
     let f : l.d < 56 = let y = few t in omega arith in
-    let o = bounding-form a.s.now (start_of r) (box_of low high) l.at l.d l.ql l.qh l.inv (code t) in
+    let o = bounding-form a.s.now (start_of r) (box_of low high) l.at l.d l.ql l.qh l.invariant (code t) in
     subst (λ (p : ℕ). Bounding a.s.now (start_of r) (box_of low high) p (l.d + 1) (set l.ql l.d (to_z w64 (of_z w64 q1.quotient_end-l.result))) (set l.qh l.d (to_z w64 (of_z w64 q2.quotient_end-h.result)))) (sym c.next-at.ensures)
-    (bounding-next a.s.now (start_of r) (box_of low high) l.at l.d l.ql l.qh l.inv (code t) _ _
+    (bounding-next a.s.now (start_of r) (box_of low high) l.at l.d l.ql l.qh l.invariant (code t) _ _
     (settled-quotient a.s.now a.k low high r (st t).requires.0 (st t).requires.1 l.d f (division_at a.s.now l.at) o ∙ sym (ap₂ side pl ph))
     (subst (Within 549755813888) (sym kl) q1.quotient_end-l.ensures.1) (subst (Within 549755813888) (sym kh) q2.quotient_end-h.ensures.1))
 

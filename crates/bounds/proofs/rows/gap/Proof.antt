@@ -34,13 +34,13 @@ size : (st : tie.Start) → Within 2097152 (diff st)
 size st = within-mono (omega arith) (within-sub (st.requires.1.at st.args.k) st.requires.4)
 
 back : (st : tie.Start) → to_z w64 (of_z w64 (get_or st.args.x.now st.args.k (pos 0))) -ℤ to_z w64 (of_z w64 (get_or st.args.r.now (st.args.p + st.args.k) (pos 0))) ≡ diff st
-back st = ap₂ ◌-ℤ◌ (to_z_of_z (within-fits (omega arith) (st.requires.1.at st.args.k))) (to_z_of_z (within-fits (omega arith) st.requires.4))
+back st = ap₂ ◌-ℤ◌ (to_z_of_z {w = w64} (within-fits (omega arith) (st.requires.1.at st.args.k))) (to_z_of_z {w = w64} (within-fits (omega arith) st.requires.4))
 
 sub-result : tie.Need-overflow_sub-result
 sub-result c = let st = c.before.before in rw (back st) (within-fits (omega arith) (size st))
 
 returns : tie.Need-returns
-returns c = let st = c.before.before in let e = to_z_of_z (sub-result c) ∙ back st in (e, subst (Within 2097152) (sym e) (size st))
+returns c = let st = c.before.before in let e = to_z_of_z {w = w64} (sub-result c) ∙ back st in (e, subst (Within 2097152) (sym e) (size st))
 
 pub gap_spec : {M : Type 1} → statement M
 gap_spec = tie.close (tie.spec mul-result shared-slice-copy-out-result add-result mul-result-2 element-copy-out-result sub-result returns)

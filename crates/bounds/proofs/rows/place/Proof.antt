@@ -15,7 +15,7 @@ element-copy-out-p : tie.Need-bounds-r-128
 element-copy-out-p c = search rules
 
 cast-result : tie.Need-overflow_cast-result
-cast-result c = let e = c.before.requires in cast-nat w64 _ (start_of c.before.args.r.now) (to_z_of_z (record { sfits = c.p-1.given }) ∙ e) (let w : start_of c.before.args.r.now ≤ 9223372036854775808 = (fits-within {w = w64} {z = get_or c.before.args.r.now 128 (pos 0)} (record { sfits = c.p-1.given })).size in omega arith)
+cast-result c = let e = c.before.requires in cast-nat w64 _ (start_of c.before.args.r.now) (to_z_of_z {w = w64} (record { sfits = c.p-1.given }) ∙ e) (let w : start_of c.before.args.r.now ≤ 9223372036854775808 = (fits-within {w = w64} {z = get_or c.before.args.r.now 128 (pos 0)} (record { sfits = c.p-1.given })).size in omega arith)
 
 returns : tie.Need-returns
 returns c = search rules

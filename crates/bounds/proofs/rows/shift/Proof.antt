@@ -31,7 +31,7 @@ module _ (t : tie.In-loop-t invariant-loop decreases-loop) where
   m = t.before.before
 
   abbrev st : tie.Start invariant-loop decreases-loop
-  st = m.before.before.before.before
+  st = m.before.before.before
 
   abbrev F : ℤ
   F = to_z w64 (of_z w64 st.args.from)
@@ -40,23 +40,23 @@ module _ (t : tie.In-loop-t invariant-loop decreases-loop) where
   G = to_z w64 (of_z w64 st.args.to)
 
   pass : goes_on (get_or st.args.s.now m.loop-t.at 0) ≡ true
-  pass = sym t.before.goes_on.ensures ∙ t.loop-t-test.taken
+  pass = sym t.before.goes_on.ensures ∙ t.loop-t-test.true
 
-  abbrev here : FormAt m.loop-t.inv.n st.args.s.now m.loop-t.at m.loop-t.inv.k
-  here = shifting-at st.args.s.now st.args.j F G st.args.r.now m.loop-t.r m.loop-t.at m.loop-t.i m.loop-t.inv pass
+  abbrev here : FormAt m.loop-t.invariant.n st.args.s.now m.loop-t.at m.loop-t.invariant.k
+  here = shifting-at st.args.s.now st.args.j F G st.args.r.now m.loop-t.r m.loop-t.at m.loop-t.i m.loop-t.invariant pass
 
   few : m.loop-t.i < 56
-  few = shifting-few st.args.s.now st.args.j F G st.args.r.now m.loop-t.r m.loop-t.at m.loop-t.i m.loop-t.inv pass
+  few = shifting-few st.args.s.now st.args.j F G st.args.r.now m.loop-t.r m.loop-t.at m.loop-t.i m.loop-t.invariant pass
 
   sizes : Within 274877906944 (get_or m.loop-t.r m.loop-t.i (pos 0)) × Within 274877906944 (get_or m.loop-t.r (64 + m.loop-t.i) (pos 0))
-  sizes = shifting-sizes st.args.s.now st.args.j F G st.args.r.now m.loop-t.r m.loop-t.at m.loop-t.i m.loop-t.inv st.requires.0 pass
+  sizes = shifting-sizes st.args.s.now st.args.j F G st.args.r.now m.loop-t.r m.loop-t.at m.loop-t.i m.loop-t.invariant st.requires.0 pass
 
 place-requires : tie.Need-place-at-requires invariant-loop decreases-loop
-place-requires c κs = c.before.before.requires.0.place
+place-requires c κs = c.before.requires.0.place
 
 loop-holds : tie.Need-loop-t-init invariant-loop decreases-loop
 loop-holds c =
-    let st = c.before.before.before in let a = st.args in
+    let st = c.before.before in let a = st.args in
     subst (λ (p : ℕ). Shifting a.s.now a.j (to_z w64 (of_z w64 a.from)) (to_z w64 (of_z w64 a.to)) a.r.now a.r.now p 0) (sym c.place-at.ensures)
     (shifting-start a.s.now a.j (to_z w64 (of_z w64 a.from)) (to_z w64 (of_z w64 a.to)) a.r.now st.requires.0.opened)
 
@@ -123,15 +123,15 @@ loop-again c =
     let c2 = c.before in let c1 = c2.before in let x = c1.before.before.before in let t = x.before in let a = (st t).args in
     let j = a.j in let f = F t in let g = G t in let l = (m t).loop-t in
     let k1 = result_is w64 c1.moved.result c1.moved.type_inv in let k2 = result_is w64 c2.moved-in-loop-t.result c2.moved-in-loop-t.type_inv in
-    let e1 = k1 ∙ c1.moved.ensures.0 ∙ ap₂ (λ (z : ℤ) (u : List ℕ). z +ℤ gain j f g (axes_in u)) (to_z_of_z (within-fits (omega arith) (sizes t).0)) x.body-t.ensures in
-    let e2 = k2 ∙ c2.moved-in-loop-t.ensures.0 ∙ ap₂ (λ (z : ℤ) (u : List ℕ). z +ℤ gain j g f (axes_in u)) (to_z_of_z (within-fits (omega arith) (sizes t).1)) x.body-t.ensures in
-    let o : length l.r ≡ 129 = l.inv.is.places ∙ (st t).requires.0.places in
+    let e1 = k1 ∙ c1.moved.ensures.0 ∙ ap₂ (λ (z : ℤ) (u : List ℕ). z +ℤ gain j f g (axes_in u)) (to_z_of_z {w = w64} (within-fits (omega arith) (sizes t).0)) x.body-t.ensures in
+    let e2 = k2 ∙ c2.moved-in-loop-t.ensures.0 ∙ ap₂ (λ (z : ℤ) (u : List ℕ). z +ℤ gain j g f (axes_in u)) (to_z_of_z {w = w64} (within-fits (omega arith) (sizes t).1)) x.body-t.ensures in
+    let o : length l.r ≡ 129 = l.invariant.is.places ∙ (st t).requires.0.places in
     subst (λ (w : ℕ). Shifting a.s.now j f g a.r.now (set (set l.r l.i (to_z w64 (of_z w64 c1.moved.result))) (64 + l.i) (to_z w64 (of_z w64 c2.moved-in-loop-t.result))) w (l.i + 1)) (sym c.next-at.ensures)
-    (shifting-next a.s.now j f g a.r.now l.r l.at l.i l.inv (pass t) o (to_z w64 (of_z w64 c1.moved.result)) (to_z w64 (of_z w64 c2.moved-in-loop-t.result)) e1 e2)
+    (shifting-next a.s.now j f g a.r.now l.r l.at l.i l.invariant (pass t) o (to_z w64 (of_z w64 c1.moved.result)) (to_z w64 (of_z w64 c2.moved-in-loop-t.result)) e1 e2)
 
 returns : tie.Need-returns invariant-loop decreases-loop
 returns c =
-    let m = c.before.before in let st = m.before.before.before.before in let a = st.args in
+    let m = c.before.before in let st = m.before.before.before in let a = st.args in
     rw (to_z_of_z st.ranges.from, to_z_of_z st.ranges.to) at
     (shifting-end a.s.now a.j (to_z w64 (of_z w64 a.from)) (to_z w64 (of_z w64 a.to)) a.r.now m.loop-t.r m.loop-t.at m.loop-t.i m.loop-t.invariant (sym c.before.goes_on.ensures ∙ c.loop-t-test.false))
 
