@@ -2,16 +2,35 @@
 // What a script means is decided in `script::step`; this program moves bytes.
 #![tactic(auto)]
 
-ghost use Rattle.std.specs.Prelude.{◌≡◌, true, false, ◌-◌, ◌≤◌, ◌<◌, length, take};
+ghost use Rattle.std.specs.Prelude.{◌≡◌, true, false, ◌-◌, ◌≤◌, ◌<◌, length, take, IfOk, OnErr};
 ghost use Rattle.model.specs.Limits.{set_bytes};
 ghost use Rattle.session.specs.Turns.{memory};
 ghost use Rattle.session.specs.Session.{Left};
 ghost use Rattle.session.specs.declared.Next.TheVariants.{Reads, Ends};
 ghost use Rattle.pitsets.specs.Moving.{unused, Lent, Refilled};
 
-use libc::{STDIN_FILENO, STDOUT_FILENO};
 use model::limit;
 use session::{Listing, Next, State};
+use std::fmt;
+use std::fmt::{Display, Formatter};
+use std::io;
+use std::io::{Read, Stdin, Stdout, Write};
+
+// What the system refused, and why.
+#[derive(Debug, Drop)]
+enum Failed {
+    Read(io::Error),
+    Write(io::Error),
+}
+
+impl Display for Failed {
+    fn fmt<W: fmt::Write>(&self, f: &mut Formatter<W>) -> fmt::Result {
+        match self {
+            Failed::Read(e) => write!(f, "read: {e}"),
+            Failed::Write(e) => write!(f, "write: {e}"),
+        }
+    }
+}
 
 fn input() -> [u8; 69632]
     ensures { 69632 ≡ length result }
@@ -54,16 +73,17 @@ fn forward(read: &mut [u8], from: usize, have: usize) -> usize
     n
 }
 
-// One read behind the first `have` bytes: how many came, none at the end of the input; or -1. Without room for a byte it would
-// tell an end that is none.
-fn more(read: &mut [u8], have: usize) -> isize
+// One read behind the first `have` bytes: how many came, none at the end of the input. Without room for a byte it would tell an end
+// that is none.
+fn more(input: &mut Stdin, read: &mut [u8], have: usize) -> io::Result<usize>
     requires { have < length read.old }
-    ensures { take have read.new ≡ take have read.old }
+    ensures kept { take have read.new ≡ take have read.old }
+    ensures within { IfOk result (λ k. k ≤ length read.old - have) }
 {
-    libc::read(STDIN_FILENO, &mut read[have..])
+    input.read(&mut read[have..])
 }
 
-// How much is read and not used, whether there is no more, and the turns that are left: none after an error.
+// How much is read and not used, whether there is no more, and the turns that are left.
 #[derive(Clone, Copy)]
 struct Filled {
     have: usize,
@@ -71,25 +91,20 @@ struct Filled {
     turns: u64,
 }
 
-fn refill(read: &mut [u8], from: usize, have: usize, turns: u64) -> Filled
+// After an error what was not used stands at the front too.
+fn refill(input: &mut Stdin, read: &mut [u8], from: usize, have: usize, turns: u64) -> Result<Filled, Failed>
     requires { (from ≤ have) × (have ≤ length read.old) × (have - from < length read.old) }
-    ensures { Refilled read.old read.new from have turns result }
+    ensures ok { IfOk result (λ f. Refilled read.old read.new from have turns f) }
+    ensures err { OnErr result (take (have - from) read.new ≡ unused read.old from have) }
 {
     let kept = forward(read, from, have);
-    let got = more(read, kept);
-    if got < 0 {
-        os::fail(b"read");
-        return Filled {
-            have: kept,
-            ended: true,
-            turns: 0,
-        };
-    }
-    let k = io::count(got, &read[kept..]);
-    Filled {
-        have: kept + k,
-        ended: k == 0,
-        turns,
+    match more(input, read, kept) {
+        Ok(k) => Ok(Filled {
+            have: kept + k,
+            ended: k == 0,
+            turns,
+        }),
+        Err(e) => Err(Failed::Read(e)),
     }
 }
 
@@ -115,24 +130,28 @@ fn ends(next: Next) -> bool
     }
 }
 
-// Writes the n bytes of a turn; the turns that are left behind it: none after the last one or an error.
-fn show(text: &[u8], n: usize, next: Next, turns: u64) -> u64
+// Writes the n bytes of a turn; the turns that are left behind it: none after the last one.
+fn show(output: &mut Stdout, text: &[u8], n: usize, next: Next, turns: u64) -> Result<u64, Failed>
     requires { (n ≤ length text.now) × (0 < turns) }
-    ensures { (result < turns) × (0 < result → ¬ (next ≡ Ends)) }
+    ensures { IfOk result (λ r. (r < turns) × (0 < r → ¬ (next ≡ Ends))) }
 {
-    if !io::write_all(STDOUT_FILENO, &text[..n]) {
-        os::fail(b"write");
-        return 0;
+    match output.write_all(&text[..n]) {
+        Ok(()) => Ok(if ends(next) { 0 } else { turns - 1 }),
+        Err(e) => Err(Failed::Write(e)),
     }
-    if ends(next) {
-        return 0;
-    }
-    turns - 1
 }
 
 // Turn after turn, from four empty sets; read[from..have] is read and not used. The bound on the turns lets it come to an end
-// where the input does not; no run reaches it.
-fn run(read: &mut [u8], sets: &mut [u8], lengths: &mut [usize], answer: &mut [u8], text: &mut [u8])
+// where the input does not; no run reaches it. What the memory is left as holds after an error too.
+fn run(
+    input: &mut Stdin,
+    output: &mut Stdout,
+    read: &mut [u8],
+    sets: &mut [u8],
+    lengths: &mut [usize],
+    answer: &mut [u8],
+    text: &mut [u8],
+) -> Result<(), Failed>
     requires { Lent read.old sets.old lengths.old answer.old text.old }
     ensures { Left (length text.old) (memory sets.new lengths.new answer.new) }
 {
@@ -147,24 +166,33 @@ fn run(read: &mut [u8], sets: &mut [u8], lengths: &mut [usize], answer: &mut [u8
     while 0 < turns {
         let t = script::step(state, &read[from..have], ended, sets, lengths, answer, text);
         let next = t.next;
-        turns = show(text, t.text, next, turns);
+        turns = show(output, text, t.text, next, turns)?;
         state = t.state;
         from += t.used;
         if asks(next) {
-            let f = refill(read, from, have, turns);
+            let f = refill(input, read, from, have, turns)?;
             from = 0;
             have = f.have;
             ended = f.ended;
             turns = f.turns;
         }
     }
+    Ok(())
 }
 
-fn main() {
+fn main(rt: HostRuntime) -> Result<(), Failed> {
     let mut read = input();
     let mut sets = tables();
     let mut lengths = [0usize; 4];
     let mut answer = result();
     let mut text = line();
-    run(&mut read, &mut sets, &mut lengths, &mut answer, &mut text);
+    run(
+        &mut rt.stdin(),
+        &mut rt.stdout(),
+        &mut read,
+        &mut sets,
+        &mut lengths,
+        &mut answer,
+        &mut text,
+    )
 }

@@ -5,19 +5,21 @@ use crate::sets::{many_rules, one, table, two};
 use crate::telling::{found, outcome, refused, say};
 use integers::put_i16;
 use session::{Listing, State};
+use std::io;
+use std::io::Stdout;
 
-fn checked(words: &[u8], n: usize, set: &[u8]) {
-    say(words);
-    refused(codec::check(n, set));
+fn checked(to: &mut Stdout, words: &[u8], n: usize, set: &[u8]) -> io::Result<()> {
+    say(to, words)?;
+    refused(to, codec::check(n, set))
 }
 
 // One rule, 0 but for the coefficient at a place of the bytes.
-fn coefficient(words: &[u8], p: usize, z: i16)
+fn coefficient(to: &mut Stdout, words: &[u8], p: usize, z: i16) -> io::Result<()>
     requires { p + 2 ≤ 38 }
 {
     let mut s = one(0x14, 0, 0);
     put_i16(&mut s, p, z);
-    checked(words, 1, &s);
+    checked(to, words, 1, &s)
 }
 
 // `11`, a rule, a division.
@@ -40,12 +42,12 @@ fn lone() -> [u8; 37]
     s
 }
 
-pub fn layout() {
-    checked(b"n = 0: ", 0, b"\x11");
-    checked(b"99: ", 1, b"\x99");
-    checked(b"11 14 00: ", 1, b"\x11\x14\x00");
-    checked(b"a lone rule: ", 1, &lone());
-    checked(b"11, rule, 12: ", 1, &late_division());
+pub fn layout(to: &mut Stdout) -> io::Result<()> {
+    checked(to, b"n = 0: ", 0, b"\x11")?;
+    checked(to, b"99: ", 1, b"\x99")?;
+    checked(to, b"11 14 00: ", 1, b"\x11\x14\x00")?;
+    checked(to, b"a lone rule: ", 1, &lone())?;
+    checked(to, b"11, rule, 12: ", 1, &late_division())
 }
 
 fn zero_divisor() -> [u8; 24]
@@ -57,60 +59,61 @@ fn zero_divisor() -> [u8; 24]
     s
 }
 
-pub fn numbers() {
-    checked(b"d = 0: ", 1, &zero_divisor());
-    coefficient(b"coefficient -32768: ", 6, -32767 - 1);
-    coefficient(b"n = 1, place 2 is 5: ", 8, 5);
-    checked(b"49 rules: ", 1, &many_rules());
+pub fn numbers(to: &mut Stdout) -> io::Result<()> {
+    checked(to, b"d = 0: ", 1, &zero_divisor())?;
+    coefficient(to, b"coefficient -32768: ", 6, -32767 - 1)?;
+    coefficient(to, b"n = 1, place 2 is 5: ", 8, 5)?;
+    checked(to, b"49 rules: ", 1, &many_rules())
 }
 
-fn united(words: &[u8], a: &[u8], b: &[u8], out: &mut [u8]) {
-    say(words);
-    outcome(operations::union(1, a, b, out));
+fn united(to: &mut Stdout, words: &[u8], a: &[u8], b: &[u8], out: &mut [u8]) -> io::Result<()> {
+    say(to, words)?;
+    outcome(to, operations::union(1, a, b, out))
 }
 
-pub fn operations() {
+pub fn operations(to: &mut Stdout) -> io::Result<()> {
     let mut out = table();
     let mut short = [0u8; 74];
-    united(b"union of 32 and 1: ", &[17u8; 32], b"\x11", &mut out);
+    united(to, b"union of 32 and 1: ", &[17u8; 32], b"\x11", &mut out)?;
     united(
+        to,
         b"result of 75 bytes, table of 74: ",
         &two(0, 1, 2186, -1),
         b"",
         &mut short,
-    );
+    )
 }
 
-fn searched(words: &[u8], low: i32, high: i32, limit: u32) {
-    say(words);
-    found(search::first_point(
+fn searched(to: &mut Stdout, words: &[u8], low: i32, high: i32, limit: u32) -> io::Result<()> {
+    say(to, words)?;
+    found(to, search::first_point(
         1,
         b"\x11",
         [low, 0, 0, 0, 0, 0, 0, 0],
         [high, 0, 0, 0, 0, 0, 0, 0],
         limit,
-    ));
+    ))
 }
 
 // A window that shuts before it opens is not refused (document 02, request 7).
-pub fn asking() {
-    searched(b"low 5, high 4: ", 5, 4, 1);
-    searched(b"coordinate 1048577: ", 0, 1048577, 1);
-    searched(b"limit 0: ", 4, 5, 0);
+pub fn asking(to: &mut Stdout) -> io::Result<()> {
+    searched(to, b"low 5, high 4: ", 5, 4, 1)?;
+    searched(to, b"coordinate 1048577: ", 0, 1048577, 1)?;
+    searched(to, b"limit 0: ", 4, 5, 0)
 }
 
 fn tables() -> [u8; 32000] {
     [0; 32000]
 }
 
-fn show(text: &[u8], n: usize)
+fn show(to: &mut Stdout, text: &[u8], n: usize) -> io::Result<()>
     requires { n ≤ length text.now }
 {
-    say(&text[..n]);
+    say(to, &text[..n])
 }
 
 // One turn of the script program, with n axes (0: before `10`) and this much of the script read.
-fn turn(words: &[u8], n: usize, input: &[u8]) {
+fn turn(to: &mut Stdout, words: &[u8], n: usize, input: &[u8]) -> io::Result<()> {
     let mut sets = tables();
     let mut lengths = [0usize; 4];
     let mut result = table();
@@ -128,11 +131,11 @@ fn turn(words: &[u8], n: usize, input: &[u8]) {
         &mut result,
         &mut text,
     );
-    say(words);
-    show(&text, t.text);
+    say(to, words)?;
+    show(to, &text, t.text)
 }
 
-pub fn script() {
-    turn(b"45 04: ", 1, b"\x45\x04");
-    turn(b"45 00 first: ", 0, b"\x45\x00");
+pub fn script(to: &mut Stdout) -> io::Result<()> {
+    turn(to, b"45 04: ", 1, b"\x45\x04")?;
+    turn(to, b"45 00 first: ", 0, b"\x45\x00")
 }

@@ -1,94 +1,86 @@
 // Answers, as lines of text.
 use carrying::Tested;
-use libc::STDOUT_FILENO;
 use query::Membership;
 use results::Outcome;
 use search::FirstPoint;
 use simplex::Verdict;
+use std::io;
+use std::io::{Stdout, Write};
 
-pub fn say(words: &[u8]) {
-    io::write_all(STDOUT_FILENO, words);
+pub fn say(to: &mut Stdout, words: &[u8]) -> io::Result<()> {
+    to.write_all(words)
 }
 
-pub fn number(n: u64) {
-    io::print_decimal(STDOUT_FILENO, n);
+pub fn number(to: &mut Stdout, n: u64) -> io::Result<()> {
+    write!(to, "{n}")
 }
 
-pub fn refused(k: u32) {
-    say(b"refused ");
-    number(k as u64);
-    say(b"\n");
+pub fn refused(to: &mut Stdout, k: u32) -> io::Result<()> {
+    say(to, b"refused ")?;
+    number(to, k as u64)?;
+    say(to, b"\n")
 }
 
-pub fn length(n: usize) {
-    say(b"length ");
-    number(n as u64);
-    say(b"\n");
+pub fn length(to: &mut Stdout, n: usize) -> io::Result<()> {
+    say(to, b"length ")?;
+    number(to, n as u64)?;
+    say(to, b"\n")
 }
 
 // An operation: how long the result is.
-pub fn outcome(o: Outcome) {
+pub fn outcome(to: &mut Stdout, o: Outcome) -> io::Result<()> {
     match o {
-        Outcome::Length(n) => {
-            length(n);
-        }
-        Outcome::Refused(k) => refused(k),
+        Outcome::Length(n) => length(to, n),
+        Outcome::Refused(k) => refused(to, k),
     }
 }
 
-pub fn membership(m: Membership) {
+pub fn membership(to: &mut Stdout, m: Membership) -> io::Result<()> {
     match m {
-        Membership::In => say(b"in\n"),
-        Membership::Out => say(b"out\n"),
-        Membership::Refused(k) => refused(k),
+        Membership::In => say(to, b"in\n"),
+        Membership::Out => say(to, b"out\n"),
+        Membership::Refused(k) => refused(to, k),
     }
 }
 
-fn tally(n: u32) {
-    number(n as u64);
-    say(b" tested\n");
+fn tally(to: &mut Stdout, words: &[u8], n: u32) -> io::Result<()> {
+    say(to, words)?;
+    number(to, n as u64)?;
+    say(to, b" tested\n")
 }
 
-pub fn found(f: FirstPoint) {
+pub fn found(to: &mut Stdout, f: FirstPoint) -> io::Result<()> {
     let outcome = f.outcome;
     let n = f.tested;
     match outcome {
-        search::Outcome::At => {
-            say(b"found, ");
-            tally(n);
-        }
-        search::Outcome::Nothing => {
-            say(b"none, ");
-            tally(n);
-        }
-        search::Outcome::Spent => {
-            say(b"spent, ");
-            tally(n);
-        }
-        search::Outcome::Refused(k) => refused(k),
+        search::Outcome::At => tally(to, b"found, ", n),
+        search::Outcome::Nothing => tally(to, b"none, ", n),
+        search::Outcome::Spent => tally(to, b"spent, ", n),
+        search::Outcome::Refused(k) => refused(to, k),
     }
 }
 
-fn verdict(v: Verdict) {
+fn verdict(to: &mut Stdout, v: Verdict) -> io::Result<()> {
     match v {
-        Verdict::Point => say(b"point"),
-        Verdict::Dropped => say(b"dropped"),
-        Verdict::Long => say(b"long"),
-        Verdict::Wide => say(b"wide"),
+        Verdict::Point => say(to, b"point"),
+        Verdict::Dropped => say(to, b"dropped"),
+        Verdict::Long => say(to, b"long"),
+        Verdict::Wide => say(to, b"wide"),
     }
+}
+
+fn answered(to: &mut Stdout, v: Verdict, pivots: usize) -> io::Result<()> {
+    verdict(to, v)?;
+    say(to, b", ")?;
+    number(to, pivots as u64)?;
+    say(to, b" pivots\n")
 }
 
 // A test for fractions: the answer, and the pivots made.
-pub fn tested(t: Tested) {
+pub fn tested(to: &mut Stdout, t: Tested) -> io::Result<()> {
     match t {
-        Tested::Refused(k) => refused(k),
-        Tested::NoSuchSet => say(b"no such set\n"),
-        Tested::Answers(e) => {
-            let v = e.verdict;
-            verdict(v);
-            say(b", ");
-            number(e.pivots as u64);
-            say(b" pivots\n");
-        }
+        Tested::Refused(k) => refused(to, k),
+        Tested::NoSuchSet => say(to, b"no such set\n"),
+        Tested::Answers(e) => answered(to, e.verdict, e.pivots),
     }
 }
