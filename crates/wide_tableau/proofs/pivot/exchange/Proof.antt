@@ -1,7 +1,7 @@
 -- `wide_tableau::pivot::exchange` meets its contract. Assumes nothing.
 use mathlib.Core.Path.{◌≡◌, sym, ap, ◌∙◌, subst}
 use mathlib.Core.List.{List, [], map}
-use Prim.Native.Nat.{ℕ, ◌+◌, ◌≤◌, ◌<◌}
+use Prim.Native.Nat.{ℕ, ◌+◌, ◌<◌}
 use native.Mathlib.Omega.{arith}
 use borrow.Author.Rules.{rules}
 use lib.ListN.{length, get_or, set, length-set}
@@ -16,12 +16,6 @@ use Rattle.wide_tableau.specs.Cells.{cells, rows_of, Sheet, Turns}
 use Rattle.wide_tableau.proofs.Sheets.{rows_at, rows-set, rows-length, sheets-set}
 use Rattle.wide_tableau.proofs.pivot.exchange.Statement.{statement}
 use Rattle.wide_tableau.proofs.pivot.exchange.Tie as tie
-use Rattle.wide_tableau.proofs.pivot.exchange.Reads as reads
-use Rattle.wide_tableau.proofs.pivot.exchange.Lts as lts
-use Rattle.wide_tableau.proofs.pivot.sweep.Reads as sweep-reads
-use Rattle.wide_tableau.proofs.row.cell_at.Reads as cell-at-reads
-use Rattle.wide_tableau.proofs.row.solve.Reads as solve-reads
-use Rattle.wide_tableau.proofs.row.wipe.Reads as wipe-reads
 
 module _ (s : tie.Start) where
   abbrev n : ℕ
@@ -56,7 +50,7 @@ module _ (s : tie.Start) where
 
 -- row i is solved: p
 abbrev p : tie.After-solve → List ℕ
-p o = o.solve.new.0
+p o = o.solve.new.r
 
 copied : (o : tie.After-solve) → let s = o.before.before in get_or (set (t s) (i s) (p o)) (i s) [] ≡ p o
 copied o = let s = o.before.before in get_or-set_same (t s) (i s) (p o) [] (row s)
@@ -79,7 +73,7 @@ module _ (x : tie.After-wipe) where
   m = value_of x.before.before.cell_at-m.result
 
   abbrev q : List ℕ
-  q = x.wipe.last.0
+  q = x.wipe.new.r
 
   sound : L.Sound (n s) (bound 128) (cells (p o))
   sound =

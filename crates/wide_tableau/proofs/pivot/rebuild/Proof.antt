@@ -1,7 +1,7 @@
 -- `wide_tableau::pivot::rebuild` meets its contract. Assumes nothing.
 use mathlib.Core.Path.{◌≡◌, sym, ap, ◌∙◌}
 use mathlib.Core.Bool.{Bool, cond}
-use Prim.Native.Nat.{ℕ, ◌-◌}
+use Prim.Native.Nat.{ℕ}
 use borrow.Author.Rules.{rules}
 use Rattle.model.specs.Sets.{is_zero}
 use Rattle.wide.specs.Wide.{size, value_of}
@@ -10,14 +10,9 @@ use Rattle.wide_tableau.specs.Cells.{cells}
 use Rattle.wide_tableau.proofs.Signs.{zero_is, zero-no}
 use Rattle.wide_tableau.proofs.pivot.rebuild.Statement.{statement}
 use Rattle.wide_tableau.proofs.pivot.rebuild.Tie as tie
-use Rattle.wide_tableau.proofs.pivot.rebuild.Reads as reads
-use Rattle.wide_tableau.proofs.pivot.rebuild.Lts as lts
-use Rattle.wide.proofs.is_zero.Reads as is-zero-reads
-use Rattle.wide_tableau.proofs.row.cell_at.Reads as cell-at-reads
-use Rattle.wide_tableau.proofs.row.replace.Reads as replace-reads
 
 -- what the test of the entry tells
-found : (c : tie.After-is_zero) → let s = c.before.before.before.before in c.is_zero.result ≡ is_zero (R.entry (cells s.args.r.now) s.args.j)
+found : (c : tie.After-is_zero) → let s = c.before.before.before in c.is_zero.result ≡ is_zero (R.entry (cells s.args.r.now) s.args.j)
 found c = let a = c.before.before in let b = a.cell_at-b.result in c.is_zero.ensures ∙ zero_is b.neg (size b.magnitude) ∙ ap is_zero a.cell_at-b.ensures.0
 
 add-cell-at : tie.Need-overflow_add-j
@@ -32,20 +27,20 @@ is-zero-requires c κs = search rules
 returns : tie.Need-returns-then-is_zero
 unfolding R.rebuild_row
 returns c =
-    let z = c.before in let s = z.before.before.before.before in let r = cells s.args.r.now in
+    let z = c.before in let s = z.before.before.before in let r = cells s.args.r.now in
     let e = sym (found z) ∙ c.if-is_zero.true in
     (record { is = sym (ap (λ (b : Bool). cond b r (R.replace_row r s.args.j (value_of s.args.m) (cells s.args.q.now))) e); sheet = s.requires.0 }, sym (ap (λ (b : Bool). cond {A = ℕ} b 0 1) e))
 
 replace-requires : tie.Need-replace-requires
 replace-requires c κs =
-    let t = c.before in let z = t.before in let s = z.before.before.before.before in
+    let t = c.before in let z = t.before in let s = z.before.before.before in
     let f = zero-no _ (sym (found z) ∙ t.if-is_zero.false) in let d = s.requires.4 in let r = s.requires.3 in
     (s.requires.0, s.requires.1, s.requires.2, r.line, d.line, r.small f, d.small, d.none, d.near, d.over, r.dens f)
 
 returns-2 : tie.Need-returns
 unfolding R.rebuild_row
 returns-2 c =
-    let t = c.before.before in let z = t.before in let s = z.before.before.before.before in let r = cells s.args.r.now in
+    let t = c.before.before in let z = t.before in let s = z.before.before.before in let r = cells s.args.r.now in
     let e = sym (found z) ∙ t.if-is_zero.false in (
       record { is = c.replace.ensures.is ∙ sym (ap (λ (b : Bool). cond b r (R.replace_row r s.args.j (value_of s.args.m) (cells s.args.q.now))) e); sheet = c.replace.ensures.sheet },
       sym (ap (λ (b : Bool). cond {A = ℕ} b 0 1) e),

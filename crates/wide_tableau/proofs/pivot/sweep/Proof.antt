@@ -1,7 +1,6 @@
 -- `wide_tableau::pivot::sweep` meets its contract. Assumes nothing.
 use mathlib.Core.Path.{◌≡◌, refl, sym, ap, ◌∙◌, subst}
 use mathlib.Core.List.{List, []}
-use mathlib.Core.Logic.{⊎_elim}
 use Prim.Native.Nat.{ℕ, ◌+◌, ◌-◌, ◌≤◌, ◌<◌}
 use native.Mathlib.Nat.{le_refl}
 use native.Mathlib.Omega.{arith}
@@ -18,9 +17,7 @@ use Rattle.wide_tableau.proofs.Sheets.{rows_at, rows-set, rows-length, sheets-se
 use Rattle.wide_tableau.proofs.Signs.{Rest, rest-none, rest-next}
 use Rattle.wide_tableau.proofs.pivot.sweep.Statement.{statement}
 use Rattle.wide_tableau.proofs.pivot.sweep.Tie as tie
-use Rattle.wide_tableau.proofs.pivot.sweep.Reads as reads
-use Rattle.wide_tableau.proofs.pivot.sweep.Lts as lts
-use Rattle.wide_tableau.proofs.pivot.rebuild.Reads as rebuild-reads
+use Rattle.wide_tableau.proofs.pivot.sweep.Lts.{then-k-i, else-k-i}
 
 abbrev invariant-loop : tie.invariant-loop-k
 invariant-loop t₀ n i j m q built₀ k₀ t built k =
@@ -112,7 +109,7 @@ add-built : tie.Need-overflow_add-built invariant-loop decreases-loop
 add-built c =
     let v = u c in
     let r = rows_of (t₀ v) in
-    record { fits = omega (arith, counted c, step v, L.touched-le (j v) (set r (i v) []), length-set r (i v) [], rows-length (t₀ v), v.before.before.requires.3, v.before.loop-k.inv.5) }
+    record { fits = omega (arith, counted c, step v, L.touched-le (j v) (set r (i v) []), length-set r (i v) [], rows-length (t₀ v), v.before.before.requires.3, v.before.loop-k.invariant.5) }
 
 add-k : tie.Need-overflow_add-k invariant-loop decreases-loop
 add-k c = search rules
@@ -125,29 +122,29 @@ loop-again c =
     let v = c.before in
     let l = v.before.loop-k in
     let h = within v in
-    ⊎_elim
-    (λ w.
-    let g = counted (record { before = record { before = record { before = v; if1 = w.0 }; rebuild-arg = w.1 }; rebuild = w.2 }) in
-    let e = w.2.ensures.0 in (
-      omega arith,
-      ap length w.3 ∙ length-set (t v) (k v) _ ∙ l.invariant.1,
-      subst Sheets (sym w.3) (sheets-set (t v) (k v) _ l.invariant.2 e.sheet),
-      subst (Rest (k v + 1) (t₀ v)) (sym w.3) (rest-next (k v) (t₀ v) (t v) _ l.invariant.3),
-      ap rows_of w.3
-          ∙ rows-set (t v) (k v) _
-          ∙ L.up_to-more [] (L.but (i v) (f v)) (k v) (rows_of (t₀ v)) (rows_of (t v)) _ (there v) l.invariant.4
-          (e.is ∙ ap (f v) (sym (rows_at (t v) (k v))) ∙ L.but-other (i v) (k v) (f v) _ w.0.taken),
-      ap (λ (b : ℕ). b + R.touched (j v) (drop (k v + 1) (set (rows_of (t₀ v)) (i v) []))) w.4 ∙ omega (arith, g, step v, l.invariant.5),
-    ))
-    (λ w. (
-      omega arith,
-      ap length w.1 ∙ l.invariant.1,
-      subst Sheets (sym w.1) l.invariant.2,
-      subst (Rest (k v + 1) (t₀ v)) (sym w.1) (rest-passed v),
-      ap rows_of w.1 ∙ passed v w.0.left,
-      omega (arith, w.2, uncounted v w.0.left, step v, l.invariant.5),
-    ))
-    c.if-k-i.branch
+    elim c.if-k-i.branch [
+      | then-k-i w ↦
+          let g = counted (record { before = record { before = record { before = v; if-k-i = w.if-k-i }; rebuild-arg-1 = w.rebuild-arg-1 }; rebuild-built = w.rebuild-built }) in
+          let e = w.rebuild-built.ensures.0 in (
+            omega arith,
+            ap length w.t-is ∙ length-set (t v) (k v) _ ∙ l.invariant.1,
+            subst Sheets (sym w.t-is) (sheets-set (t v) (k v) _ l.invariant.2 e.sheet),
+            subst (Rest (k v + 1) (t₀ v)) (sym w.t-is) (rest-next (k v) (t₀ v) (t v) _ l.invariant.3),
+            ap rows_of w.t-is
+                ∙ rows-set (t v) (k v) _
+                ∙ L.up_to-more [] (L.but (i v) (f v)) (k v) (rows_of (t₀ v)) (rows_of (t v)) _ (there v) l.invariant.4
+                (e.is ∙ ap (f v) (sym (rows_at (t v) (k v))) ∙ L.but-other (i v) (k v) (f v) _ w.if-k-i.true),
+            ap (λ (b : ℕ). b + R.touched (j v) (drop (k v + 1) (set (rows_of (t₀ v)) (i v) []))) w.built-is ∙ omega (arith, g, step v, l.invariant.5),
+          )
+      | else-k-i w ↦ (
+        omega arith,
+        ap length w.t-is ∙ l.invariant.1,
+        subst Sheets (sym w.t-is) l.invariant.2,
+        subst (Rest (k v + 1) (t₀ v)) (sym w.t-is) (rest-passed v),
+        ap rows_of w.t-is ∙ passed v w.if-k-i.false,
+        omega (arith, w.built-is, uncounted v w.if-k-i.false, step v, l.invariant.5),
+      )
+    ]
 
 same_length : tie.Need-shape_of-t invariant-loop decreases-loop
 same_length c = c.before.loop-k.invariant.1

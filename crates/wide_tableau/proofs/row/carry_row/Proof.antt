@@ -15,10 +15,6 @@ use Rattle.model.proofs.Lists.{from_list, from_list-is, up_to-from}
 use Rattle.wide_tableau.proofs.Carries.{blank}
 use Rattle.wide_tableau.proofs.row.carry_row.Statement.{statement}
 use Rattle.wide_tableau.proofs.row.carry_row.Tie as tie
-use Rattle.wide_tableau.proofs.row.carry_row.Reads as reads
-use Rattle.wide_tableau.proofs.row.carry_row.Lts as lts
-use Rattle.wide.proofs.widen.Reads as widen-reads
-use Rattle.wide_tableau.proofs.row.set_cell.Reads as set-cell-reads
 
 abbrev invariant-loop : tie.invariant-loop-i
 invariant-loop s out₀ i₀ out i = (i ≤ 18) × Sheet out × (cells out ≡ L.up_to (from_list (pos 0) s) i (cells out₀))

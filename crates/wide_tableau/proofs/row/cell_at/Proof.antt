@@ -1,13 +1,9 @@
 -- `wide_tableau::row::cell_at` meets its contract. Assumes nothing.
 use mathlib.Core.Path.{sym, ◌∙◌}
-use Prim.Native.Nat.{◌-◌}
 use borrow.Author.Rules.{rules}
 use Rattle.wide_tableau.proofs.Sheets.{sheet-at}
 use Rattle.wide_tableau.proofs.row.cell_at.Statement.{statement}
 use Rattle.wide_tableau.proofs.row.cell_at.Tie as tie
-use Rattle.wide_tableau.proofs.row.cell_at.Reads as reads
-use Rattle.wide_tableau.proofs.row.cell_at.Lts as lts
-use Rattle.wide.proofs.unpack.Reads as unpack-reads
 
 add-h : tie.Need-overflow_add-h
 add-h c = search rules

@@ -1,15 +1,11 @@
 -- `wide_tableau::row::clear` meets its contract. Assumes nothing.
 use mathlib.Core.Path.{ap, ◌∙◌}
-use Prim.Native.Nat.{◌+◌, ◌-◌}
+use Prim.Native.Nat.{◌+◌}
 use borrow.Author.Rules.{rules}
 use lib.ListN.{set}
 use Rattle.wide_tableau.specs.Cells.{cells}
 use Rattle.wide_tableau.proofs.row.clear.Statement.{statement}
 use Rattle.wide_tableau.proofs.row.clear.Tie as tie
-use Rattle.wide_tableau.proofs.row.clear.Reads as reads
-use Rattle.wide_tableau.proofs.row.clear.Lts as lts
-use Rattle.wide_tableau.proofs.row.set_cell.Reads as set-cell-reads
-use Rattle.wide_tableau.proofs.row.zero.Reads as zero-reads
 
 zero-requires : tie.Need-zero-z-requires
 zero-requires c κs = search rules

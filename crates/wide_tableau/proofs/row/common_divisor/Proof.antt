@@ -12,10 +12,6 @@ use Rattle.tableau.proofs.Lines as L
 use Rattle.wide_tableau.specs.Cells.{cells}
 use Rattle.wide_tableau.proofs.row.common_divisor.Statement.{statement}
 use Rattle.wide_tableau.proofs.row.common_divisor.Tie as tie
-use Rattle.wide_tableau.proofs.row.common_divisor.Reads as reads
-use Rattle.wide_tableau.proofs.row.common_divisor.Lts as lts
-use Rattle.wide_tableau.proofs.row.cell_at.Reads as cell-at-reads
-use Rattle.wide_tableau.proofs.row.divisor_with.Reads as divisor-with-reads
 
 abbrev invariant-loop : tie.invariant-loop-i
 invariant-loop r n g₀ i₀ g i = (i ≤ n) × (R.divisor_from (size g) (drop i (cells r)) ≡ R.divisor_from 0 (cells r))

@@ -11,11 +11,6 @@ use Rattle.tableau.proofs.Lines as L
 use Rattle.wide_tableau.specs.Cells.{cells, Sheet}
 use Rattle.wide_tableau.proofs.row.divide.Statement.{statement}
 use Rattle.wide_tableau.proofs.row.divide.Tie as tie
-use Rattle.wide_tableau.proofs.row.divide.Reads as reads
-use Rattle.wide_tableau.proofs.row.divide.Lts as lts
-use Rattle.wide.proofs.quotient.Reads as quotient-reads
-use Rattle.wide_tableau.proofs.row.cell_at.Reads as cell-at-reads
-use Rattle.wide_tableau.proofs.row.set_cell.Reads as set-cell-reads
 
 by : ℤ → ℤ → ℤ
 by d x = quot_z x d
@@ -30,15 +25,15 @@ loop-holds : tie.Need-loop-i-init invariant-loop decreases-loop
 loop-holds c = (omega arith, c.requires.0, L.up_to-none _ _)
 
 cell-at-requires : tie.Need-cell_at-x-requires invariant-loop decreases-loop
-cell-at-requires c κs = let s = c.before.before.before in (c.before.before.loop.invariant.1, omega (arith, c.before.loop-test.true, s.requires.1.fit))
+cell-at-requires c κs = let s = c.before.before in (c.before.loop-i.invariant.1, omega (arith, c.loop-i-test.true, s.requires.1.fit))
 
 quotient-requires : tie.Need-quotient-z-requires invariant-loop decreases-loop
-quotient-requires c κs = (c.cell_at-x.ensures.1, c.before.before.before.before.requires.2)
+quotient-requires c κs = (c.cell_at-x.ensures.1, c.before.before.before.requires.2)
 
 set-cell-requires : tie.Need-set_cell-requires invariant-loop decreases-loop
 set-cell-requires c κs =
-    let d = c.before in let i = d.before.before.before in let s = i.before.before in
-    (i.before.loop.invariant.1, omega (arith, i.loop-test.true, s.requires.1.fit), d.quotient-z.ensures.1)
+    let d = c.before in let i = d.before.before in let s = i.before.before in
+    (i.before.loop-i.invariant.1, omega (arith, i.loop-i-test.true, s.requires.1.fit), d.quotient-z.ensures.1)
 
 add-i : tie.Need-overflow_add-i invariant-loop decreases-loop
 add-i c = search rules
@@ -49,9 +44,9 @@ loop-less c = search rules
 loop-again : tie.Need-loop-i-preserved invariant-loop decreases-loop
 unfolding by L.each
 loop-again c =
-    let d = c.before.before in let x = d.before in let i = x.before.before in let l = i.before.loop in let s = i.before.before in
+    let d = c.before.before in let x = d.before in let i = x.before in let l = i.before.loop-i in let s = i.before.before in
     let r = cells s.args.r.now in
-    let h : l.i < length r = omega (arith, i.loop-test.true, s.requires.1.fit, s.requires.1.long) in (
+    let h : l.i < length r = omega (arith, i.loop-i-test.true, s.requires.1.fit, s.requires.1.long) in (
       omega arith,
       c.set_cell.ensures.sheet,
       c.set_cell.ensures.is

@@ -1,6 +1,6 @@
 -- `wide_tableau::row::divisor_with` meets its contract. Assumes nothing.
 use mathlib.Core.Path.{◌≡◌, sym, ap, ◌∙◌}
-use Prim.Native.Nat.{ℕ, ◌-◌}
+use Prim.Native.Nat.{ℕ}
 use borrow.Author.Rules.{rules}
 use borrow.Author.Tests.{eqb-true}
 use lib.IntN.{nat_abs}
@@ -10,10 +10,6 @@ use Rattle.wide.proofs.Signs.{nat_abs-signed}
 use Rattle.tableau.proofs.Lines as L
 use Rattle.wide_tableau.proofs.row.divisor_with.Statement.{statement}
 use Rattle.wide_tableau.proofs.row.divisor_with.Tie as tie
-use Rattle.wide_tableau.proofs.row.divisor_with.Reads as reads
-use Rattle.wide_tableau.proofs.row.divisor_with.Lts as lts
-use Rattle.wide.proofs.gcd.Reads as gcd-reads
-use Rattle.wide.proofs.is_one.Reads as is-one-reads
 
 is-one-requires : tie.Need-is_one-requires
 is-one-requires c κs = search rules

@@ -1,37 +1,30 @@
 -- `wide_tableau::row::long_replace` meets its contract. Assumes nothing.
 use mathlib.Core.Path.{◌≡◌, sym, ap, ap₂, ◌∙◌, subst}
 use mathlib.Core.List.{List}
-use Prim.Native.Nat.{◌+◌, ◌-◌, ◌<◌, zero-le}
+use Prim.Native.Nat.{◌+◌, zero-le}
 use borrow.Author.Rules.{rules}
 use lib.ListN.{set}
 use lib.IntN.{ℤ, pos, neg_ℤ, ◌-ℤ◌}
 use lib.Signed.{◌<ℤ◌}
 use Rattle.integers.specs.Z.{Within}
 use Rattle.integers.specs.Size.{bound}
-use Rattle.wide.specs.Wide.{size, value_of}
+use Rattle.wide.specs.Wide.{value_of}
 use Rattle.tableau.specs.Rows as R
 use Rattle.tableau.proofs.Lines as L
 use Rattle.wide_tableau.specs.Cells.{cells}
 use Rattle.wide_tableau.proofs.row.long_replace.Statement.{statement}
 use Rattle.wide_tableau.proofs.row.long_replace.Tie as tie
-use Rattle.wide_tableau.proofs.row.long_replace.Reads as reads
-use Rattle.wide_tableau.proofs.row.long_replace.Lts as lts
-use Rattle.wide.proofs.negate.Reads as negate-reads
-use Rattle.wide_tableau.proofs.row.cell_at.Reads as cell-at-reads
-use Rattle.wide_tableau.proofs.row.clear.Reads as clear_reads
-use Rattle.wide_tableau.proofs.row.combine.Reads as combine-reads
-use Rattle.wide_tableau.proofs.row.reduce_by.Reads as reduce-by-reads
 
 abbrev start : tie.After-combine-g → tie.Start
-start c = c.before.before.before.before.before.before.before
+start c = c.before.before.before.before.before.before
 
 -- minus the entry
-other : (c : tie.After-negate-c) → let s = c.before.before.before in value_of c.negate-c.result ≡ pos 0 -ℤ R.entry (cells s.args.r.now) s.args.j
-other c = let s = c.before.before.before in c.negate-c.ensures.0 ∙ ap neg_ℤ c.before.cell_at-b.ensures.0 ∙ sym (L.minus_is (R.entry (cells s.args.r.now) s.args.j))
+other : (c : tie.After-negate-c) → let s = c.before.before in value_of c.negate-c.result ≡ pos 0 -ℤ R.entry (cells s.args.r.now) s.args.j
+other c = let s = c.before.before in c.negate-c.ensures.0 ∙ ap neg_ℤ c.before.cell_at-b.ensures.0 ∙ sym (L.minus_is (R.entry (cells s.args.r.now) s.args.j))
 
 -- the row before it is reduced
 full : (c : tie.After-combine-g) → let s = start c in let r = cells s.args.r.now in
-    cells c.combine-g.new.0 ≡ R.combine_rows (value_of s.args.m) (pos 0 -ℤ R.entry r s.args.j) (set r (s.args.j + 2) (pos 0)) (cells s.args.q.now)
+    cells c.combine-g.new.r ≡ R.combine_rows (value_of s.args.m) (pos 0 -ℤ R.entry r s.args.j) (set r (s.args.j + 2) (pos 0)) (cells s.args.q.now)
 full c =
     let s = start c in let k = c.before.before in
     c.combine-g.ensures.is ∙ ap₂ (λ (b : ℤ) (l : List ℤ). R.combine_rows (value_of s.args.m) b l (cells s.args.q.now)) (other k.before.before) k.clear.ensures.is
@@ -50,7 +43,7 @@ clear-requires c κs = search rules
 
 combine-requires : tie.Need-combine-g-requires
 combine-requires c κs =
-    let k = c.before in let n = k.before.before in let s = n.before.before.before in
+    let k = c.before in let n = k.before.before in let s = n.before.before in
     let r = cells s.args.r.now in let j = s.args.j in let e = k.clear.ensures.is in (
       k.clear.ensures.sheet,
       s.requires.1,

@@ -55,9 +55,9 @@ loop-less c = let h = (turn c).loop-i-test.true in omega arith
 
 loop-again : tie.Need-loop-i-preserved invariant-loop decreases-loop
 loop-again c =
-    let e = c.before in let x = e.before.before in let i = turn c in let l = i.before.loop-i in let s = i.before.before.before in let h = i.loop-i-test.taken in (
+    let e = c.before in let x = e.before.before in let i = turn c in let l = i.before.loop-i in let s = i.before.before.before in let h = i.loop-i-test.true in (
       omega arith,
-      narrowing-next (cells s.args.r.now) l.s l.i l.inv.1 (in-row i) (subst (Within (bound 64)) x.cell_at-x.ensures.0 (e.before.is_narrow.ensures (not-false _ e.if-not-is_narrow.false-raw))) _
+      narrowing-next (cells s.args.r.now) l.s l.i l.invariant.1 (in-row i) (subst (Within (bound 64)) x.cell_at-x.ensures.0 (e.before.is_narrow.ensures (not-false _ e.if-not-is_narrow.false-raw))) _
           (result_is w64 c.narrow.result c.narrow.type_inv ∙ c.narrow.ensures ∙ x.cell_at-x.ensures.0),
     )
 

@@ -1,7 +1,7 @@
 -- `wide_tableau::row::reduce_by` meets its contract. Assumes nothing.
 use mathlib.Core.Path.{◌≡◌, sym, ap, ◌∙◌, subst}
 use mathlib.Core.List.{map}
-use Prim.Native.Nat.{ℕ, ◌-◌, ◌<◌}
+use Prim.Native.Nat.{ℕ, ◌<◌}
 use borrow.Author.Rules.{rules}
 use borrow.Author.Tests.{eqb-true, not-false}
 use lib.IntN.{pos}
@@ -12,10 +12,6 @@ use Rattle.tableau.proofs.Lines as L
 use Rattle.wide_tableau.specs.Cells.{cells}
 use Rattle.wide_tableau.proofs.row.reduce_by.Statement.{statement}
 use Rattle.wide_tableau.proofs.row.reduce_by.Tie as tie
-use Rattle.wide_tableau.proofs.row.reduce_by.Reads as reads
-use Rattle.wide_tableau.proofs.row.reduce_by.Lts as lts
-use Rattle.wide.proofs.is_one.Reads as is-one-reads
-use Rattle.wide_tableau.proofs.row.divide.Reads as divide-reads
 
 is-one-requires : tie.Need-is_one-requires
 is-one-requires c κs = search rules

@@ -19,7 +19,7 @@ use Rattle.wide_tableau.proofs.row.replace.Statement.{statement}
 use Rattle.wide_tableau.proofs.row.replace.Tie as tie
 
 all-narrow-requires : tie.Need-all_narrow-requires
-all-narrow-requires c κs = let s = c.before.before.before in (s.requires.0, s.requires.1, s.requires.3, s.requires.4)
+all-narrow-requires c κs = let s = c.before.before in (s.requires.0, s.requires.1, s.requires.3, s.requires.4)
 
 narrow-requires : tie.Need-narrow-d-requires
 narrow-requires c κs = (c.before.all_narrow.ensures c.if-all_narrow.true).2
@@ -30,7 +30,7 @@ module _ (c : tie.After-narrow-d) where
   taken = c.before.before
 
   abbrev st : tie.Start
-  st = taken.before.before.before.before
+  st = taken.before.before.before
 
   abbrev r : List ℤ
   r = cells st.args.r.now
@@ -39,10 +39,10 @@ module _ (c : tie.After-narrow-d) where
   q = cells st.args.q.now
 
   abbrev s : List ℤ
-  s = taken.all_narrow.last.1.1.1.1.0
+  s = taken.all_narrow.new.s
 
   abbrev p : List ℤ
-  p = taken.all_narrow.last.1.1.1.1.1.0
+  p = taken.all_narrow.new.p
 
   rows : Narrows r s × Narrows q p × Within (bound 64) (value_of st.args.m)
   rows = taken.all_narrow.ensures c.before.if-all_narrow.true
@@ -70,7 +70,7 @@ replace-requires c κs =
     )
 
 -- what comes out
-replaced : (c : tie.After-replace) → let k = c.before.before.before in let a = st k in c.replace.new.0 ≡ R.replace_row (r k) a.args.j (value_of a.args.m) (q k)
+replaced : (c : tie.After-replace) → let k = c.before.before.before in let a = st k in c.replace.new.r ≡ R.replace_row (r k) a.args.j (value_of a.args.m) (q k)
 replaced c =
     let k = c.before.before.before in let a = st k in let h = rows k in
     c.replace.ensures ∙ ap₂ (λ (l m : List ℤ). R.replace_row l a.args.j (to_z w64 (of_z w64 k.narrow-d.result)) m) h.0.is h.1.is

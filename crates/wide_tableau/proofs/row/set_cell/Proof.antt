@@ -1,6 +1,6 @@
 -- `wide_tableau::row::set_cell` meets its contract. Assumes nothing.
 use mathlib.Core.Path.{sym, ap, ◌∙◌}
-use Prim.Native.Nat.{ℕ, ◌-◌, ◌%◌, ◌<◌}
+use Prim.Native.Nat.{ℕ, ◌%◌, ◌<◌}
 use native.Mathlib.Omega.{arith}
 use native.Mathlib.Nat.{lt_of_le_of_lt, le_of_eq}
 use borrow.Author.Rules.{rules}
@@ -11,9 +11,6 @@ use Rattle.wide_tableau.proofs.Sheets.{sheet-set}
 use Rattle.wide.proofs.Sizes.{low_digit}
 use Rattle.wide_tableau.proofs.row.set_cell.Statement.{statement}
 use Rattle.wide_tableau.proofs.row.set_cell.Tie as tie
-use Rattle.wide_tableau.proofs.row.set_cell.Reads as reads
-use Rattle.wide_tableau.proofs.row.set_cell.Lts as lts
-use Rattle.wide.proofs.high_of.Reads as high-of-reads
 
 low : (c : tie.Start) → c.args.x.magnitude.lo < 18446744073709551616
 low c = omega (arith, c.well_formed)
@@ -44,9 +41,9 @@ element-write-r-2 c = search rules
 
 returns : tie.Need-returns
 returns c =
-    let s = c.before.before in let x = s.args.x in
+    let s = c.before.before.before in let x = s.args.x in
     let n = nat_abs-signed x.neg (size x.magnitude) in
-    sheet-set s.args.r.now s.args.i (value_of x) c.before.high-of.result x.magnitude.lo s.requires.0 s.requires.1 (lt_of_le_of_lt (le_of_eq n) s.requires.2) c.before.high-of.ensures
+    sheet-set s.args.r.now s.args.i (value_of x) c.before.high_of-h.result x.magnitude.lo s.requires.0 s.requires.1 (lt_of_le_of_lt (le_of_eq n) s.requires.2) c.before.high_of-h.ensures
     (sym (ap (λ (k : ℕ). k % 18446744073709551616) n ∙ low_digit 9223372036854775808 18446744073709551616 (lit< tt) x.magnitude.hi x.magnitude.lo (low s)))
 
 pub set_cell_spec : {M : Type 1} → statement M

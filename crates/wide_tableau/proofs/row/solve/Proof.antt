@@ -1,7 +1,6 @@
 -- `wide_tableau::row::solve` meets its contract. Assumes nothing.
 use mathlib.Core.Path.{sym, ap, ◌∙◌, subst}
 use mathlib.Core.List.{List}
-use Prim.Native.Nat.{◌-◌, ◌<◌}
 use borrow.Author.Rules.{rules}
 use lib.IntN.{ℤ, pos}
 use lib.Signed.{◌<ℤ◌}
@@ -11,10 +10,6 @@ use Rattle.tableau.proofs.Lines as L
 use Rattle.wide_tableau.specs.Cells.{cells}
 use Rattle.wide_tableau.proofs.row.solve.Statement.{statement}
 use Rattle.wide_tableau.proofs.row.solve.Tie as tie
-use Rattle.wide_tableau.proofs.row.solve.Reads as reads
-use Rattle.wide_tableau.proofs.row.solve.Lts as lts
-use Rattle.wide_tableau.proofs.row.reduce.Reads as reduce-reads
-use Rattle.wide_tableau.proofs.row.turn.Reads as turn-reads
 
 turn-requires : tie.Need-turn-requires
 turn-requires c κs = search rules

@@ -1,15 +1,10 @@
 -- `wide_tableau::row::wipe` meets its contract. Assumes nothing.
 use mathlib.Core.Path.{ap, ◌∙◌}
-use Prim.Native.Nat.{◌-◌}
 use borrow.Author.Rules.{rules}
 use lib.ListN.{set}
 use Rattle.wide_tableau.specs.Cells.{cells}
 use Rattle.wide_tableau.proofs.row.wipe.Statement.{statement}
 use Rattle.wide_tableau.proofs.row.wipe.Tie as tie
-use Rattle.wide_tableau.proofs.row.wipe.Reads as reads
-use Rattle.wide_tableau.proofs.row.wipe.Lts as lts
-use Rattle.wide_tableau.proofs.row.set_cell.Reads as set-cell-reads
-use Rattle.wide_tableau.proofs.row.zero.Reads as zero-reads
 
 zero-requires : tie.Need-zero-z-requires
 zero-requires c κs = search rules

@@ -10,10 +10,6 @@ use Rattle.tableau.specs.Rows as R
 use Rattle.wide_tableau.specs.Cells.{cells}
 use Rattle.wide_tableau.proofs.search.column_helps.Statement.{statement}
 use Rattle.wide_tableau.proofs.search.column_helps.Tie as tie
-use Rattle.wide_tableau.proofs.search.column_helps.Reads as reads
-use Rattle.wide_tableau.proofs.search.column_helps.Lts as lts
-use Rattle.wide_tableau.proofs.row.cell_at.Reads as cell-at-reads
-use Rattle.wide_tableau.proofs.search.is_helping.Reads as is-helping-reads
 
 mul-i : tie.Need-offset_bounds-place-v
 mul-i c = search rules

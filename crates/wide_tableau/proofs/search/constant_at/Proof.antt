@@ -1,12 +1,8 @@
 -- `wide_tableau::search::constant_at` meets its contract. Assumes nothing.
-use Prim.Native.Nat.{◌-◌, ◌<◌}
 use borrow.Author.Rules.{rules}
 use lib.Dec.{lit<}
 use Rattle.wide_tableau.proofs.search.constant_at.Statement.{statement}
 use Rattle.wide_tableau.proofs.search.constant_at.Tie as tie
-use Rattle.wide_tableau.proofs.search.constant_at.Reads as reads
-use Rattle.wide_tableau.proofs.search.constant_at.Lts as lts
-use Rattle.wide_tableau.proofs.row.cell_at.Reads as cell-at-reads
 
 mul-cell-at : tie.Need-offset_bounds-t-i
 mul-cell-at c = search rules
@@ -15,7 +11,7 @@ shared-slice-element-cell-at : tie.Need-bounds-t-i
 shared-slice-element-cell-at c = search rules
 
 cell-at-requires : tie.Need-cell_at-requires
-cell-at-requires c κs = let s = c.before in (s.requires.0.at s.args.i s.requires.1, lit< tt)
+cell-at-requires c κs = let s = c in (s.requires.0.at s.args.i s.requires.1, lit< tt)
 
 returns : tie.Need-returns
 returns c = search rules

@@ -9,9 +9,6 @@ use Rattle.tableau.proofs.Searches as Q
 use Rattle.wide_tableau.specs.Cells.{cells}
 use Rattle.wide_tableau.proofs.search.helping.Statement.{statement}
 use Rattle.wide_tableau.proofs.search.helping.Tie as tie
-use Rattle.wide_tableau.proofs.search.helping.Reads as reads
-use Rattle.wide_tableau.proofs.search.helping.Lts as lts
-use Rattle.wide_tableau.proofs.search.column_helps.Reads as column-helps-reads
 
 abbrev invariant-loop : tie.invariant-loop-v
 invariant-loop r place kinds v₀ v = (v ≤ length place) × (R.first (R.helps_at (cells r) place kinds) (length place - v) v ≡ R.first (R.helps_at (cells r) place kinds) (length place) 0)

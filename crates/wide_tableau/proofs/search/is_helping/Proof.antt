@@ -1,7 +1,7 @@
 -- `wide_tableau::search::is_helping` meets its contract. Assumes nothing.
 use mathlib.Core.Path.{sym, ap, ap₂, ◌∙◌}
 use mathlib.Core.Bool.{Bool, false, not, cond}
-use Prim.Native.Nat.{ℕ, ◌-◌}
+use Prim.Native.Nat.{ℕ}
 use borrow.Author.Rules.{rules}
 use borrow.Author.Tests.{ne_eqb}
 use lib.Dec.{eqb}
@@ -13,11 +13,6 @@ use Rattle.tableau.specs.Rows as R
 use Rattle.wide_tableau.proofs.Signs.{zero_is}
 use Rattle.wide_tableau.proofs.search.is_helping.Statement.{statement}
 use Rattle.wide_tableau.proofs.search.is_helping.Tie as tie
-use Rattle.wide_tableau.proofs.search.is_helping.Reads as reads
-use Rattle.wide_tableau.proofs.search.is_helping.Lts as lts
-use Rattle.wide.proofs.is_negative.Reads as is-negative-reads
-use Rattle.wide.proofs.is_zero.Reads as is-zero-reads
-use Rattle.wide_tableau.proofs.search.is_positive.Reads as is-positive-reads
 
 is-zero-requires : tie.Need-is_zero-requires
 is-zero-requires c κs = search rules

@@ -1,6 +1,5 @@
 -- `wide_tableau::search::is_positive` meets its contract. Assumes nothing.
 use mathlib.Core.Path.{ap, ◌∙◌}
-use Prim.Native.Nat.{◌-◌}
 use borrow.Author.Rules.{rules}
 use lib.IntN.{ℤ, pos}
 use lib.Signed.{lt_z}
@@ -8,10 +7,6 @@ use Rattle.wide.specs.Wide.{value_of}
 use Rattle.wide_tableau.proofs.Signs.{neg-lt}
 use Rattle.wide_tableau.proofs.search.is_positive.Statement.{statement}
 use Rattle.wide_tableau.proofs.search.is_positive.Tie as tie
-use Rattle.wide_tableau.proofs.search.is_positive.Reads as reads
-use Rattle.wide_tableau.proofs.search.is_positive.Lts as lts
-use Rattle.wide.proofs.is_negative.Reads as is-negative-reads
-use Rattle.wide.proofs.negate.Reads as negate-reads
 
 negate-requires : tie.Need-negate-y-requires
 negate-requires c κs = search rules

@@ -1,7 +1,7 @@
 -- `wide_tableau::search::is_violated` meets its contract. Assumes nothing.
 use mathlib.Core.Path.{sym, ap, ap₂, ◌∙◌}
 use mathlib.Core.Bool.{Bool, false, not, cond}
-use Prim.Native.Nat.{ℕ, ◌-◌}
+use Prim.Native.Nat.{ℕ}
 use borrow.Author.Rules.{rules}
 use borrow.Author.Tests.{ne_eqb}
 use lib.IntN.{pos}
@@ -12,10 +12,6 @@ use Rattle.tableau.specs.Rows as R
 use Rattle.wide_tableau.proofs.Signs.{zero_is}
 use Rattle.wide_tableau.proofs.search.is_violated.Statement.{statement}
 use Rattle.wide_tableau.proofs.search.is_violated.Tie as tie
-use Rattle.wide_tableau.proofs.search.is_violated.Reads as reads
-use Rattle.wide_tableau.proofs.search.is_violated.Lts as lts
-use Rattle.wide.proofs.is_negative.Reads as is-negative-reads
-use Rattle.wide.proofs.is_zero.Reads as is-zero-reads
 
 is-negative-requires : tie.Need-is_negative-requires
 is-negative-requires c κs = search rules

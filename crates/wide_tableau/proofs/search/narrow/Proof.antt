@@ -15,9 +15,6 @@ use Rattle.wide_tableau.specs.Cells.{rows_of}
 use Rattle.wide_tableau.proofs.Sheets.{rows_at, rows-length}
 use Rattle.wide_tableau.proofs.search.narrow.Statement.{statement}
 use Rattle.wide_tableau.proofs.search.narrow.Tie as tie
-use Rattle.wide_tableau.proofs.search.narrow.Reads as reads
-use Rattle.wide_tableau.proofs.search.narrow.Lts as lts
-use Rattle.wide_tableau.proofs.search.row_narrow.Reads as row-narrow-reads
 
 abbrev invariant-loop : tie.invariant-loop-k
 invariant-loop t n j k₀ k = (k ≤ length t) × (R.narrow_rows_at (bound 128) j (drop k (rows_of t)) ≡ R.narrow_rows_at (bound 128) j (rows_of t))
@@ -28,8 +25,8 @@ decreases-loop t n j k₀ k = length t - k
 within : (c : tie.In-loop-k invariant-loop decreases-loop) → c.before.loop-k.k < length (rows_of c.before.before.args.t.now)
 within c = let a = rows-length c.before.before.args.t.now in omega (arith, c.loop-k-test.true)
 
-tested : (c : tie.After-row_narrow invariant-loop decreases-loop) → let i = c.before.before in let s = i.before.before in R.narrow_row_at (bound 128) s.args.j (get_or (rows_of s.args.t.now) i.before.loop.k []) ≡ c.row_narrow.result
-tested c = let i = c.before.before in let s = i.before.before in ap (λ (r : List ℤ). R.narrow_row_at (bound 128) s.args.j r) (rows_at s.args.t.now i.before.loop.k) ∙ sym c.row_narrow.ensures
+tested : (c : tie.After-row_narrow invariant-loop decreases-loop) → let i = c.before.before in let s = i.before in R.narrow_row_at (bound 128) s.args.j (get_or (rows_of s.args.t.now) i.loop-k.k []) ≡ c.row_narrow.result
+tested c = let i = c.before.before in let s = i.before in ap (λ (r : List ℤ). R.narrow_row_at (bound 128) s.args.j r) (rows_at s.args.t.now i.loop-k.k) ∙ sym c.row_narrow.ensures
 
 loop-holds : tie.Need-loop-k-init invariant-loop decreases-loop
 loop-holds c = (omega arith, refl)
@@ -42,12 +39,12 @@ shared-slice-element-row-narrow c = c.loop-k-test.true
 
 row-narrow-requires : tie.Need-row_narrow-requires invariant-loop decreases-loop
 row-narrow-requires c κs =
-    let i = c.before in let l = i.before.loop in let s = i.before.before in
-    (s.requires.0.at l.k i.loop-test.true, s.requires.1, s.requires.2 l.k i.loop-test.true)
+    let i = c in let l = i.before.loop-k in let s = i.before.before in
+    (s.requires.0.at l.k i.loop-k-test.true, s.requires.1, s.requires.2 l.k i.loop-k-test.true)
 
 returns : tie.Need-returns-then-not-row_narrow invariant-loop decreases-loop
 returns c =
-    let r = c.before in let i = r.before.before in let l = i.before.loop in let s = i.before.before in
+    let r = c.before in let i = r.before in let l = i.before.loop-k in let s = i.before.before in
     sym (Q.narrow_step (bound 128) s.args.j (rows_of s.args.t.now) l.k false (within i) (tested r ∙ not-true _ c.if-not-row_narrow.true-raw)) ∙ l.invariant.1
 
 add-k : tie.Need-overflow_add-k invariant-loop decreases-loop
@@ -58,8 +55,8 @@ loop-less c = search rules
 
 loop-again : tie.Need-loop-k-preserved invariant-loop decreases-loop
 loop-again c =
-    let r = c.before in let i = r.before.before in let l = i.before.loop in let s = i.before.before in
-    (omega (arith, i.loop-test.true), sym (Q.narrow_step (bound 128) s.args.j (rows_of s.args.t.now) l.k true (within i) (tested r ∙ not-false _ c.if-not-row_narrow.false-raw)) ∙ l.invariant.1)
+    let r = c.before in let i = r.before in let l = i.before.loop-k in let s = i.before.before in
+    (omega (arith, i.loop-k-test.true), sym (Q.narrow_step (bound 128) s.args.j (rows_of s.args.t.now) l.k true (within i) (tested r ∙ not-false _ c.if-not-row_narrow.false-raw)) ∙ l.invariant.1)
 
 returns-2 : tie.Need-returns invariant-loop decreases-loop
 returns-2 c =

@@ -1,7 +1,6 @@
 -- `wide_tableau::search::row_narrow` meets its contract. Assumes nothing.
 use mathlib.Core.Path.{◌≡◌, sym, ap, ◌∙◌}
 use mathlib.Core.Bool.{Bool, true, cond}
-use Prim.Native.Nat.{◌-◌}
 use borrow.Author.Rules.{rules}
 use Rattle.integers.specs.Size.{bound}
 use Rattle.model.specs.Sets.{is_zero}
@@ -11,11 +10,6 @@ use Rattle.wide_tableau.specs.Cells.{cells}
 use Rattle.wide_tableau.proofs.Signs.{zero_is}
 use Rattle.wide_tableau.proofs.search.row_narrow.Statement.{statement}
 use Rattle.wide_tableau.proofs.search.row_narrow.Tie as tie
-use Rattle.wide_tableau.proofs.search.row_narrow.Reads as reads
-use Rattle.wide_tableau.proofs.search.row_narrow.Lts as lts
-use Rattle.wide.proofs.is_zero.Reads as is-zero-reads
-use Rattle.wide_tableau.proofs.row.cell_at.Reads as cell-at-reads
-use Rattle.wide_tableau.proofs.search.small.Reads as small-reads
 
 -- what the test of the entry tells
 found : (c : tie.After-is_zero) → let s = c.before.before.before in c.is_zero.result ≡ is_zero (R.entry (cells s.args.r.now) s.args.j)

@@ -2,7 +2,6 @@
 use mathlib.Core.Path.{sym, ap, ◌∙◌}
 use mathlib.Core.List.{List, []}
 use mathlib.Core.Bool.{Bool, false, cond}
-use Prim.Native.Nat.{◌-◌}
 use borrow.Author.Rules.{rules}
 use borrow.Author.Tests.{lt-ltb, le-ltb}
 use lib.ListN.{get_or}
@@ -12,10 +11,6 @@ use Rattle.wide_tableau.specs.Cells.{rows_of}
 use Rattle.wide_tableau.proofs.Sheets.{rows_at}
 use Rattle.wide_tableau.proofs.search.row_violated.Statement.{statement}
 use Rattle.wide_tableau.proofs.search.row_violated.Tie as tie
-use Rattle.wide_tableau.proofs.search.row_violated.Reads as reads
-use Rattle.wide_tableau.proofs.search.row_violated.Lts as lts
-use Rattle.wide_tableau.proofs.search.constant_at.Reads as constant-at-reads
-use Rattle.wide_tableau.proofs.search.is_violated.Reads as is-violated-reads
 
 mul-i : tie.Need-offset_bounds-place-v
 mul-i c = search rules

@@ -14,10 +14,6 @@ use Rattle.tableau.proofs.Searches as Q
 use Rattle.wide_tableau.specs.Cells.{cells}
 use Rattle.wide_tableau.proofs.search.small.Statement.{statement}
 use Rattle.wide_tableau.proofs.search.small.Tie as tie
-use Rattle.wide_tableau.proofs.search.small.Reads as reads
-use Rattle.wide_tableau.proofs.search.small.Lts as lts
-use Rattle.wide.proofs.is_small.Reads as is-small-reads
-use Rattle.wide_tableau.proofs.row.cell_at.Reads as cell-at-reads
 
 abbrev invariant-loop : tie.invariant-loop-i
 invariant-loop r n i₀ i = (i ≤ n) × (R.small_at (bound 128) (drop i (cells r)) ≡ R.small_at (bound 128) (cells r))

@@ -9,9 +9,6 @@ use Rattle.tableau.proofs.Searches as Q
 use Rattle.wide_tableau.specs.Cells.{rows_of}
 use Rattle.wide_tableau.proofs.search.violated.Statement.{statement}
 use Rattle.wide_tableau.proofs.search.violated.Tie as tie
-use Rattle.wide_tableau.proofs.search.violated.Reads as reads
-use Rattle.wide_tableau.proofs.search.violated.Lts as lts
-use Rattle.wide_tableau.proofs.search.row_violated.Reads as row-violated-reads
 
 abbrev invariant-loop : tie.invariant-loop-v
 invariant-loop t place kinds v₀ v = (v ≤ length place) × (R.first (R.violated_at (rows_of t) place kinds) (length place - v) v ≡ R.first (R.violated_at (rows_of t) place kinds) (length place) 0)
