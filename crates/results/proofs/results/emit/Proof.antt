@@ -4,9 +4,6 @@ use Rattle.results.proofs.Chained.{emits-last, emits_one}
 use borrow.Author.Rules.{rules}
 use Rattle.results.proofs.results.emit.Statement.{statement}
 use Rattle.results.proofs.results.emit.Tie as tie
-use Rattle.results.proofs.results.emit.Reads as reads
-use Rattle.results.proofs.results.emit.Lts as lts
-use Rattle.records.proofs.encode_basic.Reads as encode-basic-reads
 
 -- src/results.rt:37:9
 returns : tie.Need-returns-then-count-eq-BASIC_SETS
@@ -28,7 +25,7 @@ same_length c = search rules
 returns-2 : tie.Need-returns
 returns-2 c =
     let st = c.before.before.before.before.before.before in
-    emits_one st.requires.0.n (basic_set_of st.args.b) st.args.out.now st.args.s c.before.before.encode_basic-end.result c.before.before.encode_basic-end.new.1.0 st.requires.0.valid st.requires.1 (let f = st.requires.1.few in let u = c.before.before.before.before.if-count-eq-BASIC_SETS.false in omega arith) c.before.before.encode_basic-end.ensures
+    emits_one st.requires.0.n (basic_set_of st.args.b) st.args.out.now st.args.s c.before.before.encode_basic-end.result c.before.before.encode_basic-end.new.out st.requires.0.valid st.requires.1 (let f = st.requires.1.few in let u = c.before.before.before.before.if-count-eq-BASIC_SETS.false in omega arith) c.before.before.encode_basic-end.ensures
 
 pub emit_spec : {M : Type 1} → statement M
 emit_spec = tie.close (tie.spec returns encode-basic-requires add-t10 same_length returns-2)

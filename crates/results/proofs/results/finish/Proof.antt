@@ -4,10 +4,6 @@ use Rattle.results.proofs.Chained.{finish-over, finish-long, finish-given}
 use borrow.Author.Rules.{rules}
 use Rattle.results.proofs.results.finish.Statement.{statement}
 use Rattle.results.proofs.results.finish.Tie as tie
-use Rattle.results.proofs.results.finish.Reads as reads
-use Rattle.results.proofs.results.finish.Lts as lts
-use Rattle.records.proofs.clear.Reads as clear_reads
-use Rattle.results.proofs.results.refuse.Reads as refuse-reads
 
 -- src/results.rt:57:9
 refuse-requires : tie.Need-refuse-requires
@@ -21,7 +17,7 @@ same_length c = search rules
 returns : tie.Need-returns-then-not-fits
 returns c =
     let st = c.before.before.before.before.before.before in
-    record { answers = finish-over st.args.s st.args.out.now c.before.before.refuse.new.1.0 (outcome_is c.before.before.refuse.result) (not-true st.args.s.fits c.before.before.before.before.if-not-fits.true-raw) c.before.before.refuse.ensures }
+    record { answers = finish-over st.args.s st.args.out.now c.before.before.refuse.new.out (outcome_is c.before.before.refuse.result) (not-true st.args.s.fits c.before.before.before.before.if-not-fits.true-raw) c.before.before.refuse.ensures }
 
 -- src/results.rt:60:9
 refuse-requires-2 : tie.Need-refuse-requires-then-out-at
@@ -35,7 +31,7 @@ same-length-2 c = search rules
 returns-2 : tie.Need-returns-then-out-at
 returns-2 c =
     let st = c.before.before.before.before.before.before.before in
-    record { answers = finish-long st.args.s st.args.out.now c.before.before.refuse-then-out-at.new.1.0 (outcome_is c.before.before.refuse-then-out-at.result) (not-false st.args.s.fits c.before.before.before.before.before.if-not-fits.false-raw) c.before.before.before.before.if-out-at.true c.before.before.refuse-then-out-at.ensures }
+    record { answers = finish-long st.args.s st.args.out.now c.before.before.refuse-then-out-at.new.out (outcome_is c.before.before.refuse-then-out-at.result) (not-false st.args.s.fits c.before.before.before.before.before.if-not-fits.false-raw) c.before.before.before.before.if-out-at.true c.before.before.refuse-then-out-at.ensures }
 
 -- src/results.rt:62:5
 clear-requires : tie.Need-clear-requires
@@ -49,7 +45,7 @@ same-length-3 c = search rules
 returns-3 : tie.Need-returns
 returns-3 c =
     let st = c.before.before.before.before.before.before.before in
-    record { answers = finish-given st.args.s st.args.out.now c.before.before.clear.new.0 (not-false st.args.s.fits c.before.before.before.before.before.if-not-fits.false-raw) c.before.before.before.before.if-out-at.false c.before.before.clear.ensures }
+    record { answers = finish-given st.args.s st.args.out.now c.before.before.clear.new.out (not-false st.args.s.fits c.before.before.before.before.before.if-not-fits.false-raw) c.before.before.before.before.if-out-at.false c.before.before.clear.ensures }
 
 pub finish_spec : {M : Type 1} → statement M
 finish_spec =

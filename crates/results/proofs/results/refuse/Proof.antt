@@ -2,9 +2,6 @@ use Rattle.results.proofs.Chained.{refused-is}
 use borrow.Author.Rules.{rules}
 use Rattle.results.proofs.results.refuse.Statement.{statement}
 use Rattle.results.proofs.results.refuse.Tie as tie
-use Rattle.results.proofs.results.refuse.Reads as reads
-use Rattle.results.proofs.results.refuse.Lts as lts
-use Rattle.records.proofs.clear.Reads as clear_reads
 
 -- src/results.rt:46:5
 clear-requires : tie.Need-clear-requires
@@ -16,7 +13,7 @@ same_length c = search rules
 
 -- src/results.rt:43:1
 returns : tie.Need-returns
-returns c = refused-is c.before.before.before.before.before.args.k c.before.before.before.before.before.args.out.now c.before.before.clear.new.0 c.before.before.clear.ensures
+returns c = refused-is c.before.before.before.before.before.args.k c.before.before.before.before.before.args.out.now c.before.before.clear.new.out c.before.before.clear.ensures
 
 pub refuse_spec : {M : Type 1} → statement M
 refuse_spec = tie.close (tie.spec clear-requires same_length returns)
