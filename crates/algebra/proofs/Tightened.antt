@@ -11,7 +11,7 @@ use lib.IntN.{ℤ, pos, negsuc, neg_ℤ, nat_abs, ◌+ℤ◌, ◌-ℤ◌, ◌*�
 use lib.Signed.{◌≤ℤ◌, ◌<ℤ◌, non_neg}
 use lib.ListN.{length}
 use Rattle.integers.specs.Ring.{ring, quote}
-use Rattle.integers.specs.Lin.{le, lt, eq, lin, lia-le, lia-eq}
+use Rattle.integers.specs.Lin.{le, eq, lin, lia-le, lia-eq}
 use Rattle.integers.specs.Order.{<ℤ-≤ℤ, mul-nonneg, mul-cancel}
 use Rattle.integers.specs.Size.{nat_abs-neg, nat_abs_mul}
 use Rattle.integers.specs.Div.{floor_z-is, le-floor, floor-opposite, floor-exact, floor-neg, floor-less}

@@ -12,7 +12,7 @@ use lib.Dec.{T, ltb, lt→ltb, ltb→lt, nltb→le}
 use lib.IntN.{ℤ, pos, nat_abs, ◌+ℤ◌, ◌-ℤ◌, ◌*ℤ◌}
 use lib.Signed.{◌≤ℤ◌, ◌<ℤ◌}
 use lib.ListN.{length, get_or, length-append, get_or-eq_default}
-use Rattle.integers.specs.Lin.{le, lt, eq, lin, lia-le, lia-eq}
+use Rattle.integers.specs.Lin.{le, eq, lin, lia-le, lia-eq}
 use Rattle.integers.specs.Order.{mul-cancel}
 use Rattle.model.specs.Sets.{dot, Kind, Constraint, BasicSet, absent, over_axes, value, conditions, RationalPoint, meets_basic}
 use Rattle.feasibility.specs.Tableau.{Verdict, point, dropped, long, wide, Row, Tableau, entry, constant_of, violates, helps, lowest, helpful_cols, gcd, no_row, pad, from, first_rows, start, sorts, Ending, reach}

@@ -142,7 +142,7 @@ reached-on {b} {d} {e} h c q =
 
 pub reached-all : {b : Desk BasicSet} {d : Desk State} → Reached b d → (cs : List Call) → (b' : Desk BasicSet) × Reached b' (after_all begins adds cs d)
 reached-all {b} {d} h [] = (b, h)
-reached-all {b} {d} h (c ∷ cs) = let r = on (call_answer c d) refl in reached-all r.1 cs
+reached-all {b} {d} h (c ∷ cs) = let r = on (call_answer c d) refl in reached-all {b = r.0} r.1 cs
   where
     on : (a : Answer (Desk State)) → call_answer c d ≡ a → (b' : Desk BasicSet) × Reached b' (left a d)
     on (refused m) q = (b, h)

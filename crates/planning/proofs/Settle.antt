@@ -30,7 +30,7 @@ use Rattle.planning.proofs.Columns.{leftover}
 -- ---- lists of numbers
 
 get_d_map : (f : ℤ → ℤ) → f (pos 0) ≡ pos 0 → (zs : List ℤ) (i : ℕ) → get_or (map f zs) i (pos 0) ≡ f (get_or zs i (pos 0))
-get_d_map f e zs i = ap (get_or (map f zs) i) (sym e) ∙ ListN.get_d_map f zs i (pos 0)
+get_d_map f e zs i = ap (get_or (map f zs) i) (sym e) ∙ ListN.get_or-map f zs i (pos 0)
 
 dot-times : (p : ℤ) (zs xs : List ℤ) → dot (map (λ (z : ℤ). p *ℤ z) zs) xs ≡ p *ℤ dot zs xs
 dot-times p [] xs = sym (*ℤ-zero p)
