@@ -34,10 +34,10 @@ module _ (t : tie.In-loop-e invariant-loop decreases-loop) where
   st = m.before.before
 
   code : is_division (get_or st.args.s.now m.loop-e.at 0) ≡ true
-  code = sym t.before.division_at.ensures ∙ t.loop-e-test.taken
+  code = sym t.before.division_at.ensures ∙ t.loop-e-test.true
 
-  here : DivisionAt m.loop-e.inv.n st.args.s.now m.loop-e.at m.loop-e.inv.k
-  here = dividing-at st.args.s.now st.args.start st.args.x.now m.loop-e.at m.loop-e.d m.loop-e.q m.loop-e.inv code
+  here : DivisionAt m.loop-e.invariant.n st.args.s.now m.loop-e.at m.loop-e.invariant.k
+  here = dividing-at st.args.s.now st.args.start st.args.x.now m.loop-e.at m.loop-e.d m.loop-e.q m.loop-e.invariant code
 
 division-at-requires : tie.Need-division_at-requires invariant-loop decreases-loop
 division-at-requires c κs = search rules
@@ -62,7 +62,7 @@ slice-set-from-v c =
     let f = (here t).few in let g = i.counts in let l = i.places in omega arith
 
 add-d : tie.Need-overflow_add-d invariant-loop decreases-loop
-add-d c = let f = (m c.before.before.before).loop-e.inv.few in omega arith
+add-d c = let f = (m c.before.before.before).loop-e.invariant.few in omega arith
 
 next-requires : tie.Need-next-at-requires invariant-loop decreases-loop
 next-requires c κs = (here c.before.before.before).whole
@@ -75,7 +75,7 @@ loop-again c =
     let v = c.before in let b = v.before in let e = b.before in let t = e.before in let a = (st t).args in let l = (m t).loop-e in
     let k = result_is w64 v.quotient_at-v.result v.quotient_at-v.type_inv in
     subst (λ (p : ℕ). Dividing a.s.now a.start a.x.now p (l.d + 1) (set l.q l.d (to_z w64 (of_z w64 v.quotient_at-v.result)))) (sym c.next-at.ensures)
-    (dividing-next a.s.now a.start a.x.now l.at l.d l.q l.inv (code t) _
+    (dividing-next a.s.now a.start a.x.now l.at l.d l.q l.invariant (code t) _
     (k ∙ v.quotient_at-v.ensures.0 ∙ ap₂ (λ (d : ℕ) (t : List ℕ). quotient a.x.now (read_division d t)) e.head-e.ensures.0 b.body-t.ensures) (subst (Within 549755813888) (sym k) v.quotient_at-v.ensures.1))
 
 same_length : tie.Need-shape_of-q invariant-loop decreases-loop

@@ -20,19 +20,19 @@ array-share-prefix-q c = search rules
 
 slice-aggregate-judged : tie.Need-slice_bounds-judged-end
 slice-aggregate-judged c =
-    let d = c.before.before in let k = d.divided-p.auto.1.1.1.0 in let l = d.before.before.no_values-q.ensures.0 in let f = d.divided-p.ensures.few in
-    omega (arith, length-take d.divided-p.result.count d.divided-p.new.1.1.1.0)
+    let d = c.before.before in let k = d.divided-p.auto.q in let l = d.before.before.no_values-q.ensures.0 in let f = d.divided-p.ensures.few in
+    omega (arith, length-take d.divided-p.result.count d.divided-p.new.q)
 
 judged-requires : tie.Need-judged-requires
 judged-requires c κs =
     let d = c.before.before in let st = d.before.before.before.before in
-    let k = d.divided-p.auto.1.1.1.0 in let l = d.before.before.no_values-q.ensures.0 in let f = d.divided-p.ensures.few in
-    (d.divided-p.ensures.past.there, st.requires.1, record { few = omega (arith, length-take d.divided-p.result.count d.divided-p.new.1.1.1.0); values = take_within _ d.divided-p.new.1.1.1.0 d.divided-p.result.count d.divided-p.ensures.values })
+    let k = d.divided-p.auto.q in let l = d.before.before.no_values-q.ensures.0 in let f = d.divided-p.ensures.few in
+    (d.divided-p.ensures.past.there, st.requires.1, record { few = omega (arith, length-take d.divided-p.result.count d.divided-p.new.q); values = take_within _ d.divided-p.new.q d.divided-p.result.count d.divided-p.ensures.values })
 
 returns : tie.Need-returns
 returns c =
     let d = c.before.before.before in let st = d.before.before.before.before in
-    spanned-is st.args.s.now st.args.start st.args.x.now d.divided-p.new.1.1.1.0 d.divided-p.result c.judged.result d.divided-p.ensures c.judged.ensures
+    spanned-is st.args.s.now st.args.start st.args.x.now d.divided-p.new.q d.divided-p.result c.judged.result d.divided-p.ensures c.judged.ensures
 
 pub spanned_spec : {M : Type 1} → statement M
 spanned_spec =

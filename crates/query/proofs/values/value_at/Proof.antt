@@ -1,5 +1,4 @@
 use mathlib.Core.Path.{sym, ap₂, ◌∙◌}
-use Prim.Native.Nat.{◌+◌, ◌-◌}
 use lib.IntN.{◌+ℤ◌}
 use mir.Syntax.{w64}
 use Rattle.integers.specs.Mach.{to_z_of_z, result_is}
