@@ -3,8 +3,8 @@ use mathlib.Core.Path.{◌≡◌, refl, sym, ap, ap₂, ◌∙◌, subst}
 use mathlib.Core.Bool.{Bool, true, false, not, ◌&&◌, ◌||◌, cond}
 use mathlib.Core.List.{List, [], ◌∷◌, map, tail}
 use mathlib.Core.Option.{Option, none, some}
-use mathlib.Core.Logic.{◌⊎◌, ⊎_elim}
-use Prim.Native.Nat.{ℕ, zero, suc, ◌+◌, ◌-◌, ◌*◌, ◌≤◌, ◌<◌, zero-le, suc-le-suc}
+use mathlib.Core.Logic.{⊎_elim}
+use Prim.Native.Nat.{ℕ, zero, suc, ◌+◌, ◌-◌, ◌≤◌, ◌<◌, zero-le, suc-le-suc}
 use native.Mathlib.Nat.{not-suc-le-zero, zero-add, le_refl}
 use native.Mathlib.Omega.{arith}
 use borrow.Author.Tests.{lt-ltb, le-ltb, eqb-true, eqb-false}
@@ -21,7 +21,7 @@ use Rattle.feasibility.specs.Tableau as T
 use Rattle.feasibility.specs.Tableau.{Row, Tableau, constant_of, violates, helps, lowest, violated_rows, helpful_cols, look, row, column, none_violated, none_helps, pivot, no_row}
 use Rattle.simplex.specs.declared.Verdict.TheVariants.{Point, Dropped, Long, Wide}
 use Rattle.simplex.specs.declared.Move.TheVariants.{Stop, Pivot}
-use Rattle.tableau.specs.Rows.{den, narrow_rows_at, first, violated_by, violated_at, violated, helps_by, helps_at, helping}
+use Rattle.tableau.specs.Rows.{narrow_rows_at, first, violated_by, violated_at, violated, helps_by, helps_at, helping}
 use Rattle.simplex.specs.Table.{column_of, number_at, layout, kind_number, move_at}
 use Rattle.feasibility.proofs.Exchange as X
 use Rattle.feasibility.proofs.Exchange.{Shaped}

@@ -3,7 +3,7 @@ use mathlib.Core.Path.{◌≡◌, refl, sym, ap, ap₂, ◌∙◌, subst}
 use mathlib.Core.Bool.{Bool, true, false, cond}
 use mathlib.Core.List.{List, [], ◌∷◌, ◌++◌, map, append_assoc}
 use mathlib.Core.Option.{none, some}
-use mathlib.Core.Logic.{◌⊎◌, ⊎_elim}
+use mathlib.Core.Logic.{⊎_elim}
 use Prim.Native.Nat.{ℕ, zero, suc, ◌+◌, ◌-◌, ◌*◌, ◌≤◌, ◌<◌}
 use native.Mathlib.Nat.{le_of_suc-le-suc, not-suc-le-zero, add-zero, zero-add, suc-add, add-suc}
 use native.Mathlib.Numerals.{add-one, add-two}
@@ -27,7 +27,6 @@ use Rattle.model.specs.declared.Division.{Division}
 use Rattle.model.specs.declared.Constraint.{Constraint}
 use Rattle.model.specs.declared.BasicSet.{BasicSet}
 pub use Rattle.model.proofs.Lists.{map-append, map_get}
-use Rattle.feasibility.specs.Tableau as T
 use Rattle.feasibility.specs.Tableau.{pad}
 use Rattle.simplex.specs.Table.{number_at, start_row, place_at, kind_number, Copied, Started, Named, Bounded, Ruled}
 use Rattle.tableau.proofs.Lines.{zeros, zeros-at, map-zero, within-minus}

@@ -3,8 +3,7 @@ use mathlib.Core.Path.{◌≡◌, refl, sym, ap, ap₂, ◌∙◌, subst}
 use mathlib.Core.Bool.{Bool, true, false}
 use mathlib.Core.List.{List, [], ◌∷◌, map}
 use mathlib.Core.Logic.{◌⊎◌, inl, inr, ⊎_elim}
-use Prim.Native.Nat.{ℕ, zero, suc, ◌+◌, ◌-◌, ◌≤◌, ◌<◌}
-use native.Mathlib.Nat.{le_of_suc-le-suc, not-suc-le-zero}
+use Prim.Native.Nat.{ℕ, ◌+◌, ◌-◌, ◌≤◌, ◌<◌}
 use native.Mathlib.Omega.{arith}
 use borrow.Author.Tests.{eqb-true, eqb-false}
 use lib.Dec.{eqb}
@@ -12,8 +11,7 @@ use lib.ListN.{length, get_or, set, length-set, length-map}
 use lib.Seq.{get_or-set_same, get_or-set_other}
 use lib.IntN.{ℤ, pos}
 use Rattle.model.proofs.Lists.{map_get, map-set}
-use Rattle.feasibility.specs.Tableau.{Row, Tableau, exchange, row, solved, replaced, no_row}
-use Rattle.simplex.specs.declared.Move.TheVariants.{Pivot}
+use Rattle.feasibility.specs.Tableau.{Row, Tableau, exchange, solved, replaced, no_row}
 use Rattle.tableau.specs.Rows.{den, solve_row, rebuild_row, exchange_rows, exchange_by}
 use Rattle.simplex.specs.Table.{column_of, standing, layout, pivot_rows, pivot_place}
 use Rattle.feasibility.proofs.Exchange as X

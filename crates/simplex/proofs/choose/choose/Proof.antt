@@ -2,10 +2,6 @@ use borrow.Author.Rules.{rules}
 use Rattle.simplex.proofs.Moves.{choose-point}
 use Rattle.simplex.proofs.choose.choose.Statement.{statement}
 use Rattle.simplex.proofs.choose.choose.Tie as tie
-use Rattle.simplex.proofs.choose.choose.Reads as reads
-use Rattle.simplex.proofs.choose.choose.Lts as lts
-use Rattle.simplex.proofs.choose.choose_at.Reads as choose-at-reads
-use Rattle.tableau.proofs.violated.Reads as violated-reads
 
 violated-requires : tie.Need-violated-v-requires
 violated-requires c κs = search rules

@@ -9,11 +9,6 @@ use Rattle.simplex.specs.Table.{Started}
 use borrow.Author.Rules.{rules}
 use Rattle.simplex.proofs.fill.constraint_row.Statement.{statement}
 use Rattle.simplex.proofs.fill.constraint_row.Tie as tie
-use Rattle.simplex.proofs.fill.constraint_row.Reads as reads
-use Rattle.simplex.proofs.fill.constraint_row.Lts as lts
-use Rattle.simplex.proofs.fill.copy.Reads as copy-reads
-use Rattle.simplex.proofs.fill.row_of.Reads as row-of-reads
-use Rattle.simplex.proofs.fill.wide.Reads as wide-reads
 
 wide-requires : tie.Need-wide-requires
 wide-requires c κs = search rules
@@ -30,9 +25,9 @@ returns c =
     let w = c.before.before.before.wide in
     let r = s.args.c in
     let z : to_z w64 (of_z w64 w.result) ≡ r.constant =
-    to_z-of_z (record { sfits = w.type_inv }) ∙ w.ensures ∙ to_z-of_z {w = w32} {z = r.constant} (record { sfits = c.before.before.before.before.before.before.before.struct_told-1.given.1.1.0.1 }) in
-    let l = c.before.before.row_of.new.0 in
-    constraint-is s.args.k (constraint_of r) l c.copy.new.0 s.requires
+    to_z-of_z {w = w64} (record { sfits = w.type_inv }) ∙ w.ensures ∙ to_z-of_z {w = w32} {z = r.constant} (record { sfits = c.before.before.before.before.before.before.before.struct_told-1.given.1.1.0.1 }) in
+    let l = c.before.before.row_of.new.r in
+    constraint-is s.args.k (constraint_of r) l c.copy.new.r s.requires
     (subst (λ z. Started s.args.k z (pos 1) r.axes l) z c.before.before.row_of.ensures) c.copy.ensures
 
 pub constraint_row_spec : {M : Type 1} → statement M

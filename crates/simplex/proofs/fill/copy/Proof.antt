@@ -11,9 +11,6 @@ use Rattle.simplex.specs.Table.{Copied}
 use Rattle.simplex.proofs.Fills.{copied_none, copied_more}
 use Rattle.simplex.proofs.fill.copy.Statement.{statement}
 use Rattle.simplex.proofs.fill.copy.Tie as tie
-use Rattle.simplex.proofs.fill.copy.Reads as reads
-use Rattle.simplex.proofs.fill.copy.Lts as lts
-use Rattle.simplex.proofs.fill.times.Reads as times-reads
 
 abbrev invariant-loop : tie.invariant-loop-i
 invariant-loop r₀ base s n a i₀ r i = (i ≤ n) × Copied base (to_z w64 s) i a r₀ r
@@ -57,7 +54,7 @@ loop-again c =
     let b = s.requires.1.0 in (
       omega arith,
       copied_more s.args.base _ l.i s.args.a s.args.r.now l.r _ (omega arith)
-          (to_z-of_z (record { sfits = c.times.type_inv }) ∙ c.times.ensures ∙ ap (λ z. to_z w64 (of_z w64 s.args.s) *ℤ z) x) l.invariant.1,
+          (to_z-of_z {w = w64} (record { sfits = c.times.type_inv }) ∙ c.times.ensures ∙ ap (λ z. to_z w64 (of_z w64 s.args.s) *ℤ z) x) l.invariant.1,
     )
 
 returns : tie.Need-returns invariant-loop decreases-loop

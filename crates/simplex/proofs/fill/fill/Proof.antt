@@ -28,7 +28,7 @@ begun c = start (naming c)
 -- the table at a turn of the loop, and its room for one more
 filling : (c : tie.At-loop-i invariant-loop decreases-loop) →
     let s = begun c in
-    Filling s.args.b c.loop-i.i s.args.rows.now c.loop-i.rows s.args.place.now (naming c).name_variables.new.1.1.0 s.args.kinds.now c.loop-i.kinds
+    Filling s.args.b c.loop-i.i s.args.rows.now c.loop-i.rows s.args.place.now (naming c).name_variables.new.place s.args.kinds.now c.loop-i.kinds
 filling c =
     record {
       valid = (begun c).requires.0;

@@ -7,10 +7,6 @@ use Rattle.simplex.specs.Table.{Bounded}
 use Rattle.simplex.proofs.Fills.{bounded-none, bounded-more}
 use Rattle.simplex.proofs.fill.fill_bounds.Statement.{statement}
 use Rattle.simplex.proofs.fill.fill_bounds.Tie as tie
-use Rattle.simplex.proofs.fill.fill_bounds.Reads as reads
-use Rattle.simplex.proofs.fill.fill_bounds.Lts as lts
-use Rattle.simplex.proofs.fill.lower_row.Reads as lower-row-reads
-use Rattle.simplex.proofs.fill.upper_row.Reads as upper-row-reads
 
 abbrev invariant-loop : tie.invariant-loop-i
 invariant-loop k rows₀ ds i₀ rows i = (i ≤ k) × Bounded ds k i rows₀ rows

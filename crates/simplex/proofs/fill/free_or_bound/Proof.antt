@@ -5,8 +5,6 @@ use borrow.Author.Rules.{rules}
 use borrow.Author.Tests.{lt-ltb, le-ltb}
 use Rattle.simplex.proofs.fill.free_or_bound.Statement.{statement}
 use Rattle.simplex.proofs.fill.free_or_bound.Tie as tie
-use Rattle.simplex.proofs.fill.free_or_bound.Reads as reads
-use Rattle.simplex.proofs.fill.free_or_bound.Lts as lts
 
 add-if1 : tie.Need-overflow_add-k
 add-if1 c = search rules

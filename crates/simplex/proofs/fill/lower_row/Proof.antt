@@ -10,11 +10,6 @@ use Rattle.simplex.specs.Table.{Started}
 use borrow.Author.Rules.{rules}
 use Rattle.simplex.proofs.fill.lower_row.Statement.{statement}
 use Rattle.simplex.proofs.fill.lower_row.Tie as tie
-use Rattle.simplex.proofs.fill.lower_row.Reads as reads
-use Rattle.simplex.proofs.fill.lower_row.Lts as lts
-use Rattle.simplex.proofs.fill.opposite.Reads as opposite-reads
-use Rattle.simplex.proofs.fill.row_of.Reads as row-of-reads
-use Rattle.simplex.proofs.fill.wide.Reads as wide-reads
 
 wide-requires : tie.Need-wide-requires
 wide-requires c κs = search rules
@@ -39,9 +34,9 @@ returns c =
     let s = c.before.before.before.before.before.before in
     let w = c.before.before.wide in
     let z : to_z w64 (of_z w64 w.result) ≡ s.args.e.constant =
-    to_z-of_z (record { sfits = w.type_inv }) ∙ w.ensures ∙ to_z-of_z {w = w32} {z = s.args.e.constant} (record { sfits = c.before.before.before.before.before.struct_told-1.given.1.0.1 }) in
-    let l = c.before.row_of.new.0 in
-    ap (set l (s.args.i + 2)) (to_z-of_z (record { sfits = c.opposite.type_inv }) ∙ c.opposite.ensures)
+    to_z-of_z {w = w64} (record { sfits = w.type_inv }) ∙ w.ensures ∙ to_z-of_z {w = w32} {z = s.args.e.constant} (record { sfits = c.before.before.before.before.before.struct_told-1.given.1.0.1 }) in
+    let l = c.before.row_of.new.r in
+    ap (set l (s.args.i + 2)) (to_z-of_z {w = w64} (record { sfits = c.opposite.type_inv }) ∙ c.opposite.ensures)
     ∙ lower-is s.args.k s.args.i s.args.e.divisor s.args.e.constant s.args.e.axes l s.requires.1 s.requires.0 (subst (λ z. Started s.args.k z (pos 1) s.args.e.axes l) z c.before.row_of.ensures)
 
 pub lower_row_spec : {M : Type 1} → statement M

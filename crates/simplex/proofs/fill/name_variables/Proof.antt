@@ -6,10 +6,6 @@ use Rattle.simplex.specs.Table.{Named}
 use Rattle.simplex.proofs.Fills.{named_none, named_more}
 use Rattle.simplex.proofs.fill.name_variables.Statement.{statement}
 use Rattle.simplex.proofs.fill.name_variables.Tie as tie
-use Rattle.simplex.proofs.fill.name_variables.Reads as reads
-use Rattle.simplex.proofs.fill.name_variables.Lts as lts
-use Rattle.simplex.proofs.fill.free_or_bound.Reads as free-or-bound-reads
-use Rattle.simplex.proofs.fill.place_of.Reads as place-of-reads
 
 abbrev invariant-loop : tie.invariant-loop-v
 invariant-loop k n place₀ kinds₀ v₀ place kinds v = (v ≤ n) × Named k v place₀ place kinds₀ kinds

@@ -6,8 +6,6 @@ use Rattle.tableau.proofs.Lines.{minus_is}
 use Rattle.simplex.proofs.Fills.{count_is, minus-fits}
 use Rattle.simplex.proofs.fill.opposite.Statement.{statement}
 use Rattle.simplex.proofs.fill.opposite.Tie as tie
-use Rattle.simplex.proofs.fill.opposite.Reads as reads
-use Rattle.simplex.proofs.fill.opposite.Lts as lts
 
 cast-result : tie.Need-overflow_cast-result
 cast-result c = search rules

@@ -6,8 +6,6 @@ use borrow.Author.Tests.{lt-ltb, le-ltb}
 use lib.Dec.{ltb}
 use Rattle.simplex.proofs.fill.place_of.Statement.{statement}
 use Rattle.simplex.proofs.fill.place_of.Tie as tie
-use Rattle.simplex.proofs.fill.place_of.Reads as reads
-use Rattle.simplex.proofs.fill.place_of.Lts as lts
 
 add-result : tie.Need-overflow_add-result
 add-result c = search rules

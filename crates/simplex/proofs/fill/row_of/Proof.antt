@@ -7,9 +7,6 @@ use Rattle.simplex.specs.Table.{Copied}
 use borrow.Author.Rules.{rules}
 use Rattle.simplex.proofs.fill.row_of.Statement.{statement}
 use Rattle.simplex.proofs.fill.row_of.Tie as tie
-use Rattle.simplex.proofs.fill.row_of.Reads as reads
-use Rattle.simplex.proofs.fill.row_of.Lts as lts
-use Rattle.simplex.proofs.fill.copy.Reads as copy-reads
 
 element-set-of-r : tie.Need-bounds-r-0
 element-set-of-r c = search rules
@@ -26,8 +23,8 @@ copy-requires c κs = let s = c.before.before in (refl, (omega arith, (omega ari
 returns : tie.Need-returns
 returns c =
     let s = c.before.before.before in
-    started s.args.k s.args.z s.args.s s.args.a c.copy.new.0 s.requires.0
-    (subst₂ (λ x z. Copied (s.args.k + 2) x 8 s.args.a (fresh z) c.copy.new.0) (to_z-of_z s.ranges.s) (to_z-of_z s.ranges.z) c.copy.ensures)
+    started s.args.k s.args.z s.args.s s.args.a c.copy.new.r s.requires.0
+    (subst₂ (λ x z. Copied (s.args.k + 2) x 8 s.args.a (fresh z) c.copy.new.r) (to_z-of_z s.ranges.s) (to_z-of_z s.ranges.z) c.copy.ensures)
 
 pub row_of_spec : {M : Type 1} → statement M
 row_of_spec =

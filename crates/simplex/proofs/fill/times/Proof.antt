@@ -1,10 +1,7 @@
 use mir.Facts.{to_z-of_z}
-use Rattle.tableau.proofs.Lines.{fits}
 use Rattle.simplex.proofs.Fills.{short-fits, times-fit}
 use Rattle.simplex.proofs.fill.times.Statement.{statement}
 use Rattle.simplex.proofs.fill.times.Tie as tie
-use Rattle.simplex.proofs.fill.times.Reads as reads
-use Rattle.simplex.proofs.fill.times.Lts as lts
 
 cast-result : tie.Need-overflow_cast-result
 cast-result c = simp (to_z-of_z c.ranges.x) (short-fits c.ranges.x)

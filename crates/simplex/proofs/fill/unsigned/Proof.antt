@@ -2,8 +2,6 @@ use borrow.Author.Rules.{rules}
 use Rattle.simplex.proofs.Fills.{count_is}
 use Rattle.simplex.proofs.fill.unsigned.Statement.{statement}
 use Rattle.simplex.proofs.fill.unsigned.Tie as tie
-use Rattle.simplex.proofs.fill.unsigned.Reads as reads
-use Rattle.simplex.proofs.fill.unsigned.Lts as lts
 
 cast-result : tie.Need-overflow_cast-result
 cast-result c = search rules

@@ -3,8 +3,6 @@ use mir.Facts.{to_z-of_z}
 use Rattle.simplex.proofs.Fills.{count_is, less-fits, word_fits, upper_fits}
 use Rattle.simplex.proofs.fill.upper_constant.Statement.{statement}
 use Rattle.simplex.proofs.fill.upper_constant.Tie as tie
-use Rattle.simplex.proofs.fill.upper_constant.Reads as reads
-use Rattle.simplex.proofs.fill.upper_constant.Lts as lts
 
 cast-result : tie.Need-overflow_cast-result
 cast-result c = search rules

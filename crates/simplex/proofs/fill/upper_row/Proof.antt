@@ -10,11 +10,6 @@ use Rattle.simplex.specs.Table.{Started}
 use borrow.Author.Rules.{rules}
 use Rattle.simplex.proofs.fill.upper_row.Statement.{statement}
 use Rattle.simplex.proofs.fill.upper_row.Tie as tie
-use Rattle.simplex.proofs.fill.upper_row.Reads as reads
-use Rattle.simplex.proofs.fill.upper_row.Lts as lts
-use Rattle.simplex.proofs.fill.row_of.Reads as row-of-reads
-use Rattle.simplex.proofs.fill.unsigned.Reads as unsigned_reads
-use Rattle.simplex.proofs.fill.upper_constant.Reads as upper-constant-reads
 
 upper-constant-requires : tie.Need-upper_constant-requires
 upper-constant-requires c κs = search rules
@@ -40,10 +35,10 @@ returns c =
     let w = c.before.before.upper_constant in
     let d = s.args.e.divisor in
     let z : to_z w64 (of_z w64 w.result) ≡ pos d -ℤ pos 1 -ℤ s.args.e.constant =
-    to_z-of_z (record { sfits = w.type_inv }) ∙ w.ensures
+    to_z-of_z {w = w64} (record { sfits = w.type_inv }) ∙ w.ensures
     ∙ ap (λ z. pos d -ℤ pos 1 -ℤ z) (to_z-of_z {w = w32} {z = s.args.e.constant} (record { sfits = c.before.before.before.before.before.struct_told-1.given.1.0.1 })) in
-    let l = c.before.row_of.new.0 in
-    ap (set l (s.args.i + 2)) (to_z-of_z (record { sfits = c.unsigned.type_inv }) ∙ c.unsigned.ensures)
+    let l = c.before.row_of.new.r in
+    ap (set l (s.args.i + 2)) (to_z-of_z {w = w64} (record { sfits = c.unsigned.type_inv }) ∙ c.unsigned.ensures)
     ∙ upper_is s.args.k s.args.i d s.args.e.constant s.args.e.axes l s.requires.1 s.requires.0 (subst (λ z. Started s.args.k z (negsuc 0) s.args.e.axes l) z c.before.row_of.ensures)
 
 pub upper_row_spec : {M : Type 1} → statement M

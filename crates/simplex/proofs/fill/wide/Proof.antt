@@ -2,8 +2,6 @@ use mir.Facts.{to_z-of_z}
 use Rattle.simplex.proofs.Fills.{word_fits}
 use Rattle.simplex.proofs.fill.wide.Statement.{statement}
 use Rattle.simplex.proofs.fill.wide.Tie as tie
-use Rattle.simplex.proofs.fill.wide.Reads as reads
-use Rattle.simplex.proofs.fill.wide.Lts as lts
 
 cast-result : tie.Need-overflow_cast-result
 cast-result c = simp (to_z-of_z c.ranges.x) (word_fits c.ranges.x)

@@ -3,9 +3,6 @@ use Rattle.simplex.specs.Table.{pivot_rows, pivot_place}
 use borrow.Author.Rules.{rules}
 use Rattle.simplex.proofs.run.pivot_counted.Statement.{statement}
 use Rattle.simplex.proofs.run.pivot_counted.Tie as tie
-use Rattle.simplex.proofs.run.pivot_counted.Reads as reads
-use Rattle.simplex.proofs.run.pivot_counted.Lts as lts
-use Rattle.tableau.proofs.exchange.Reads as exchange-reads
 
 mul-i : tie.Need-offset_bounds-place-v
 mul-i c = search rules
