@@ -11,8 +11,6 @@ use borrow.Author.Rules.{rules}
 use Rattle.algebra.specs.Cut.{move}
 use Rattle.joining.proofs.divisions.at_places.Statement.{statement}
 use Rattle.joining.proofs.divisions.at_places.Tie as tie
-use Rattle.joining.proofs.divisions.at_places.Reads as reads
-use Rattle.joining.proofs.divisions.at_places.Lts as lts
 
 abbrev invariant-loop : tie.invariant-loop-k
 invariant-loop n from places to₀ k₀ to k = (k ≤ n) × (to ≡ move (drop k (take n places)) (drop k from))

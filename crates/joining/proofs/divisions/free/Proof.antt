@@ -3,13 +3,9 @@ use Rattle.model.specs.Values.{division_of}
 use Rattle.joining.proofs.Placing.{and-true, and-false}
 use mathlib.Core.Path.{sym, ap, ◌∙◌}
 use mathlib.Core.Bool.{Bool, not, ◌&&◌}
-use Prim.Native.Nat.{◌-◌}
 use borrow.Author.Rules.{rules}
 use Rattle.joining.proofs.divisions.free.Statement.{statement}
 use Rattle.joining.proofs.divisions.free.Tie as tie
-use Rattle.joining.proofs.divisions.free.Reads as reads
-use Rattle.joining.proofs.divisions.free.Lts as lts
-use Rattle.joining.proofs.divisions.same.Reads as same_Reads
 
 -- src/divisions.rt:56:9
 returns : tie.Need-returns-then-taken

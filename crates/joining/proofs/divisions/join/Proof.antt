@@ -1,7 +1,7 @@
+use Rattle.joining.proofs.divisions.join.Lts.{then-i-n, else-i-n+else-divs-eq-DIVISIONS}
 use mathlib.Core.Path.{◌≡◌, refl, sym, ap, ◌∙◌}
 use mathlib.Core.Bool.{true, false}
 use mathlib.Core.List.{List, [], ◌∷◌, ◌++◌, map}
-use mathlib.Core.Logic.{⊎_elim}
 use Prim.Native.Nat.{ℕ, zero, suc, ◌+◌, ◌-◌, ◌≤◌, ◌<◌}
 use native.Mathlib.Omega.{arith}
 use native.Mathlib.Numerals.{add-one}
@@ -18,9 +18,6 @@ use Rattle.joining.specs.Joining.{place_of}
 use Rattle.joining.proofs.Placing.{no_division, map-pushed, Halfway, halfway-start, halfway-found, halfway-new, halfway-full, halfway-end}
 use Rattle.joining.proofs.divisions.join.Statement.{statement}
 use Rattle.joining.proofs.divisions.join.Tie as tie
-use Rattle.joining.proofs.divisions.join.Reads as reads
-use Rattle.joining.proofs.divisions.join.Lts as lts
-use Rattle.joining.proofs.divisions.seek.Reads as seek-reads
 use Rattle.integers.specs.Mach.{clash}
 
 zeros : (n i : ℕ) → get_or (replicate n false) i false ≡ false
@@ -76,13 +73,13 @@ returns c =
     let a = lo.before.args in
     let L = lo.loop-k in
     let D = map division_of (take a.n a.ds) in
-    let E = map division_of (take a.m a.t3) in
+    let E = map division_of (take a.m a.es) in
     let J = map division_of (take L.divs L.all) in
-    let e = get_or a.t3 L.k no_division in
-    let l : length a.t3 ≡ 8 = search rules in
-    let w : length (take a.m a.t3) ≡ a.m = length-take-le a.m a.t3 (omega arith) in
-    let h : L.k < length E = omega (arith, length-map (take a.m a.t3) division_of) in
-    let g : get_or E L.k (division_of no_division) ≡ division_of e = get_or-map division_of (take a.m a.t3) L.k no_division ∙ ap division_of (get_or-take a.m a.t3 L.k no_division (omega arith)) in
+    let e = get_or a.es L.k no_division in
+    let l : length a.es ≡ 8 = search rules in
+    let w : length (take a.m a.es) ≡ a.m = length-take-le a.m a.es (omega arith) in
+    let h : L.k < length E = omega (arith, length-map (take a.m a.es) division_of) in
+    let g : get_or E L.k (division_of no_division) ≡ division_of e = get_or-map division_of (take a.m a.es) L.k no_division ∙ ap division_of (get_or-take a.m a.es L.k no_division (omega arith)) in
     let s : (used : List ℕ) → ((i : ℕ) → i < a.n → get_or L.taken i false ≡ any (eqb i) used) → C.seek (get_or E L.k (division_of no_division)) used 0 D ≡ place_of a.n c.before.before.seek-i.result =
     λ used q. ap (λ (f : S.Division). C.seek f used 0 D) g ∙ c.before.before.seek-i.ensures.found used q in
     let j : length J ≡ L.divs = length-map (take L.divs L.all) division_of ∙ length-take-le L.divs L.all (omega arith) in
@@ -128,43 +125,43 @@ loop-again c =
     let a = lo.before.args in
     let L = lo.loop-k in
     let D = map division_of (take a.n a.ds) in
-    let E = map division_of (take a.m a.t3) in
+    let E = map division_of (take a.m a.es) in
     let J = map division_of (take L.divs L.all) in
-    let e = get_or a.t3 L.k no_division in
-    let l : length a.t3 ≡ 8 = search rules in
-    let w : length (take a.m a.t3) ≡ a.m = length-take-le a.m a.t3 (omega arith) in
-    let h : L.k < length E = omega (arith, length-map (take a.m a.t3) division_of) in
-    let g : get_or E L.k (division_of no_division) ≡ division_of e = get_or-map division_of (take a.m a.t3) L.k no_division ∙ ap division_of (get_or-take a.m a.t3 L.k no_division (omega arith)) in
+    let e = get_or a.es L.k no_division in
+    let l : length a.es ≡ 8 = search rules in
+    let w : length (take a.m a.es) ≡ a.m = length-take-le a.m a.es (omega arith) in
+    let h : L.k < length E = omega (arith, length-map (take a.m a.es) division_of) in
+    let g : get_or E L.k (division_of no_division) ≡ division_of e = get_or-map division_of (take a.m a.es) L.k no_division ∙ ap division_of (get_or-take a.m a.es L.k no_division (omega arith)) in
     let s : (used : List ℕ) → ((i : ℕ) → i < a.n → get_or L.taken i false ≡ any (eqb i) used) → C.seek (get_or E L.k (division_of no_division)) used 0 D ≡ place_of a.n c.before.seek-i.result =
     λ used q. ap (λ (f : S.Division). C.seek f used 0 D) g ∙ c.before.seek-i.ensures.found used q in
     let j : length J ≡ L.divs = length-map (take L.divs L.all) division_of ∙ length-take-le L.divs L.all (omega arith) in
-    ⊎_elim
-    (λ w.
-    let n = halfway-found D E a.n L.k J L.taken (take L.k L.places) L.invariant.6 (division_of no_division) h c.before.seek-i.result s w.0.taken L.invariant.5 (omega arith) in
-    let p : take (L.k + 1) (set L.places L.k c.before.seek-i.result) ≡ take L.k L.places ++ (c.before.seek-i.result ∷ []) = rw (add-one) (take-suc-set L.places L.k c.before.seek-i.result (omega arith)) in
-    rw (w.1, w.2, w.3, w.4) (
-      omega arith,
-      omega arith,
-      omega arith,
-      L.invariant.3,
-      length-set L.places L.k c.before.seek-i.result ∙ L.invariant.4,
-      length-set L.taken c.before.seek-i.result true ∙ L.invariant.5,
-      rw p n,
-    ))
-    (λ w.
-    let n = halfway-new D E a.n L.k J L.taken (take L.k L.places) L.invariant.6 (division_of no_division) h c.before.seek-i.result s w.0.left in
-    let p : take (L.k + 1) (set L.places L.k L.divs) ≡ take L.k L.places ++ (length J ∷ []) = rw (add-one, j) (take-suc-set L.places L.k L.divs (omega arith)) in
-    let q : map division_of (take (L.divs + 1) (set L.all L.divs e)) ≡ J ++ (get_or E L.k (division_of no_division) ∷ []) = rw g (map-pushed division_of no_division L.all L.divs e (omega arith)) in
-    rw (w.2, w.3, w.4, w.5) (
-      omega arith,
-      omega arith,
-      omega arith,
-      length-set L.all L.divs e ∙ L.invariant.3,
-      length-set L.places L.k L.divs ∙ L.invariant.4,
-      L.invariant.5,
-      rw (p, q) n,
-    ))
-    c.if-i-n.branch
+    elim c.if-i-n.branch [
+      | then-i-n w ↦
+          let n = halfway-found D E a.n L.k J L.taken (take L.k L.places) L.invariant.6 (division_of no_division) h c.before.seek-i.result s w.if-i-n.true L.invariant.5 (omega arith) in
+          let p : take (L.k + 1) (set L.places L.k c.before.seek-i.result) ≡ take L.k L.places ++ (c.before.seek-i.result ∷ []) = rw (add-one) (take-suc-set L.places L.k c.before.seek-i.result (omega arith)) in
+          rw (w.all-is, w.divs-is, w.taken-is, w.places-is) (
+            omega arith,
+            omega arith,
+            omega arith,
+            L.invariant.3,
+            length-set L.places L.k c.before.seek-i.result ∙ L.invariant.4,
+            length-set L.taken c.before.seek-i.result true ∙ L.invariant.5,
+            rw p n,
+          )
+      | else-i-n+else-divs-eq-DIVISIONS w ↦
+          let n = halfway-new D E a.n L.k J L.taken (take L.k L.places) L.invariant.6 (division_of no_division) h c.before.seek-i.result s w.if-i-n.false in
+          let p : take (L.k + 1) (set L.places L.k L.divs) ≡ take L.k L.places ++ (length J ∷ []) = rw (add-one, j) (take-suc-set L.places L.k L.divs (omega arith)) in
+          let q : map division_of (take (L.divs + 1) (set L.all L.divs e)) ≡ J ++ (get_or E L.k (division_of no_division) ∷ []) = rw g (map-pushed division_of no_division L.all L.divs e (omega arith)) in
+          rw (w.all-is, w.divs-is, w.taken-is, w.places-is) (
+            omega arith,
+            omega arith,
+            omega arith,
+            length-set L.all L.divs e ∙ L.invariant.3,
+            length-set L.places L.k L.divs ∙ L.invariant.4,
+            L.invariant.5,
+            rw (p, q) n,
+          )
+    ]
 
 -- src/divisions.rt:76:1
 returns-2 : tie.Need-returns invariant-loop decreases-loop
@@ -172,11 +169,11 @@ returns-2 c =
     let a = c.before.before.args in
     let L = c.before.loop-k in
     let D = map division_of (take a.n a.ds) in
-    let E = map division_of (take a.m a.t3) in
-    let l : length a.t3 ≡ 8 = search rules in
+    let E = map division_of (take a.m a.es) in
+    let l : length a.es ≡ 8 = search rules in
     let z : L.k ≡ a.m = omega arith in
     let j : length (map division_of (take L.divs L.all)) ≡ L.divs = length-map (take L.divs L.all) division_of ∙ length-take-le L.divs L.all (omega arith) in
-    let w : length E ≡ a.m = length-map (take a.m a.t3) division_of ∙ length-take-le a.m a.t3 (omega arith) in
+    let w : length E ≡ a.m = length-map (take a.m a.es) division_of ∙ length-take-le a.m a.es (omega arith) in
     let e = halfway-end D E a.n L.k (map division_of (take L.divs L.all)) L.taken (take L.k L.places) L.invariant.6 (omega arith) in
     let f : length (C.join D E).all ≡ L.divs = ap length e.0 ∙ j in
     record {

@@ -1,14 +1,10 @@
 use Rattle.model.specs.Values.{kind_is}
-use Prim.Native.Nat.{◌-◌}
 use mir.Syntax.{w32}
 use mir.Val.{SFits}
 use Rattle.integers.specs.Mach.{to_z_of_z}
 use borrow.Author.Rules.{rules}
 use Rattle.joining.proofs.divisions.moved.Statement.{statement}
 use Rattle.joining.proofs.divisions.moved.Tie as tie
-use Rattle.joining.proofs.divisions.moved.Reads as reads
-use Rattle.joining.proofs.divisions.moved.Lts as lts
-use Rattle.joining.proofs.divisions.at_places.Reads as at-places-reads
 
 -- src/divisions.rt:128:9
 at-places-requires : tie.Need-at_places-divisions-requires

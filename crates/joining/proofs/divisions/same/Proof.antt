@@ -3,16 +3,12 @@ use Rattle.algebra.specs.Cut.{sameℤ, same_list}
 use Rattle.joining.proofs.Placing.{same-yes, same-no}
 use mathlib.Core.Path.{sym, ap, ap₂, ◌∙◌}
 use mathlib.Core.Bool.{Bool, ◌&&◌}
-use Prim.Native.Nat.{◌-◌}
 use mir.Syntax.{w32}
 use mir.Val.{SFits, of_z}
 use Rattle.integers.specs.Mach.{of_z-same}
 use borrow.Author.Rules.{rules}
 use Rattle.joining.proofs.divisions.same.Statement.{statement}
 use Rattle.joining.proofs.divisions.same.Tie as tie
-use Rattle.joining.proofs.divisions.same.Reads as reads
-use Rattle.joining.proofs.divisions.same.Lts as lts
-use Rattle.joining.proofs.divisions.same_axes.Reads as same-axes-reads
 
 -- src/divisions.rt:44:9
 returns : tie.Need-returns-then-d-g

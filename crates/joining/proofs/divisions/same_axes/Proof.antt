@@ -12,8 +12,6 @@ use borrow.Author.Rules.{rules}
 use Rattle.algebra.specs.Cut.{same_list}
 use Rattle.joining.proofs.divisions.same_axes.Statement.{statement}
 use Rattle.joining.proofs.divisions.same_axes.Tie as tie
-use Rattle.joining.proofs.divisions.same_axes.Reads as reads
-use Rattle.joining.proofs.divisions.same_axes.Lts as lts
 
 abbrev invariant-loop : tie.invariant-loop-i
 invariant-loop x y i₀ i = (i ≤ 8) × (same_list (drop i x) (drop i y) ≡ same_list x y)

@@ -17,9 +17,6 @@ use Rattle.model.specs.Lists.{any}
 use Rattle.algebra.specs.Cut as C
 use Rattle.joining.proofs.divisions.seek.Statement.{statement}
 use Rattle.joining.proofs.divisions.seek.Tie as tie
-use Rattle.joining.proofs.divisions.seek.Reads as reads
-use Rattle.joining.proofs.divisions.seek.Lts as lts
-use Rattle.joining.proofs.divisions.free.Reads as free-reads
 
 abbrev invariant-loop : tie.invariant-loop-i
 invariant-loop e n ds taken i₀ i =
@@ -55,13 +52,13 @@ returns c =
     let lo = c.before.before.before.before in
     let a = lo.before.args in
     let i = lo.loop-i.i in
-    let D = map division_of (take a.n a.t2) in
-    let l : length a.t2 ≡ 8 = search rules in
-    let w : length (take a.n a.t2) ≡ a.n = length-take-le a.n a.t2 (omega arith) in
-    let h : i < length D = omega (arith, length-map (take a.n a.t2) division_of) in
-    let e : get_or D i (division_of no_division) ≡ division_of (get_or a.t2 i no_division) =
-    get_or-map division_of (take a.n a.t2) i no_division ∙ ap division_of (get_or-take a.n a.t2 i no_division (omega arith)) in
-    let t : (used : List ℕ) → get_or a.t4 i false ≡ any (eqb i) used → c.before.free.result ≡ same_division (division_of a.e) (get_or D i (division_of no_division)) && not (any (eqb i) used) =
+    let D = map division_of (take a.n a.ds) in
+    let l : length a.ds ≡ 8 = search rules in
+    let w : length (take a.n a.ds) ≡ a.n = length-take-le a.n a.ds (omega arith) in
+    let h : i < length D = omega (arith, length-map (take a.n a.ds) division_of) in
+    let e : get_or D i (division_of no_division) ≡ division_of (get_or a.ds i no_division) =
+    get_or-map division_of (take a.n a.ds) i no_division ∙ ap division_of (get_or-take a.n a.ds i no_division (omega arith)) in
+    let t : (used : List ℕ) → get_or a.taken i false ≡ any (eqb i) used → c.before.free.result ≡ same_division (division_of a.e) (get_or D i (division_of no_division)) && not (any (eqb i) used) =
     λ used s. c.before.free.ensures ∙ ap₂ (λ (f : S.Division) (b : Bool). same_division (division_of a.e) f && not b) (sym e) s in
     record { found = λ used s. lo.loop-i.invariant.1 used s ∙ seek-yes (division_of a.e) used D i (division_of no_division) h (sym (t used (s i (omega arith))) ∙ c.if-free.true) ∙ sym (place-some a.n i (omega arith)) }
 
@@ -79,13 +76,13 @@ loop-again c =
     let lo = c.before.before.before.before in
     let a = lo.before.args in
     let i = lo.loop-i.i in
-    let D = map division_of (take a.n a.t2) in
-    let l : length a.t2 ≡ 8 = search rules in
-    let w : length (take a.n a.t2) ≡ a.n = length-take-le a.n a.t2 (omega arith) in
-    let h : i < length D = omega (arith, length-map (take a.n a.t2) division_of) in
-    let e : get_or D i (division_of no_division) ≡ division_of (get_or a.t2 i no_division) =
-    get_or-map division_of (take a.n a.t2) i no_division ∙ ap division_of (get_or-take a.n a.t2 i no_division (omega arith)) in
-    let t : (used : List ℕ) → get_or a.t4 i false ≡ any (eqb i) used → c.before.free.result ≡ same_division (division_of a.e) (get_or D i (division_of no_division)) && not (any (eqb i) used) =
+    let D = map division_of (take a.n a.ds) in
+    let l : length a.ds ≡ 8 = search rules in
+    let w : length (take a.n a.ds) ≡ a.n = length-take-le a.n a.ds (omega arith) in
+    let h : i < length D = omega (arith, length-map (take a.n a.ds) division_of) in
+    let e : get_or D i (division_of no_division) ≡ division_of (get_or a.ds i no_division) =
+    get_or-map division_of (take a.n a.ds) i no_division ∙ ap division_of (get_or-take a.n a.ds i no_division (omega arith)) in
+    let t : (used : List ℕ) → get_or a.taken i false ≡ any (eqb i) used → c.before.free.result ≡ same_division (division_of a.e) (get_or D i (division_of no_division)) && not (any (eqb i) used) =
     λ used s. c.before.free.ensures ∙ ap₂ (λ (f : S.Division) (b : Bool). same_division (division_of a.e) f && not b) (sym e) s in
     (omega arith, λ used s. lo.loop-i.invariant.1 used s ∙ seek-no (division_of a.e) used D i (division_of no_division) h (sym (t used (s i (omega arith))) ∙ c.if-free.false))
 
@@ -93,10 +90,10 @@ loop-again c =
 returns-2 : tie.Need-returns invariant-loop decreases-loop
 returns-2 c =
     let a = c.before.before.args in
-    let D = map division_of (take a.n a.t2) in
-    let l : length a.t2 ≡ 8 = search rules in
-    let w : length (take a.n a.t2) ≡ a.n = length-take-le a.n a.t2 (omega arith) in
-    let m : length D ≡ a.n = length-map (take a.n a.t2) division_of ∙ w in
+    let D = map division_of (take a.n a.ds) in
+    let l : length a.ds ≡ 8 = search rules in
+    let w : length (take a.n a.ds) ≡ a.n = length-take-le a.n a.ds (omega arith) in
+    let m : length D ≡ a.n = length-map (take a.n a.ds) division_of ∙ w in
     let z : c.before.loop-i.i ≡ a.n = omega arith in
     record { found = λ used s. c.before.loop-i.invariant.1 used s ∙ ap (λ (i : ℕ). C.seek (division_of a.e) used i (drop i D)) z ∙ seek-end (division_of a.e) used D a.n m ∙ sym (place_none a.n a.n (omega arith)) }
 

@@ -1,5 +1,4 @@
 use mathlib.Core.Path.{ap, ◌∙◌}
-use Prim.Native.Nat.{◌-◌}
 use lib.IntN.{ℤ, pos, ◌-ℤ◌}
 use Rattle.integers.specs.Mach.{to_z_of_z}
 use Rattle.joining.proofs.Placing.{minus_is, minus-fits}

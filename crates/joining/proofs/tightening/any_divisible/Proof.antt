@@ -1,15 +1,11 @@
-use mathlib.Core.Path.{◌≡◌, refl, sym, ap, ◌∙◌}
-use mathlib.Core.Bool.{Bool, false}
-use Prim.Native.Nat.{◌≤◌, ◌-◌}
+use mathlib.Core.Path.{◌≡◌}
+use Prim.Native.Nat.{◌-◌}
 use native.Mathlib.Omega.{arith}
 use borrow.Author.Rules.{rules}
-use lib.ListN.{length, length-map}
+use lib.ListN.{length}
 use Rattle.joining.proofs.Dividing.{Undivided, undivided-start, undivided-hit, undivided-next, undivided-end}
 use Rattle.joining.proofs.tightening.any_divisible.Statement.{statement}
 use Rattle.joining.proofs.tightening.any_divisible.Tie as tie
-use Rattle.joining.proofs.tightening.any_divisible.Reads as reads
-use Rattle.joining.proofs.tightening.any_divisible.Lts as lts
-use Rattle.joining.proofs.tightening.content.Reads as content-reads
 
 abbrev invariant-loop : tie.invariant-loop-k
 invariant-loop b n k₀ k = Undivided b k
@@ -18,7 +14,7 @@ abbrev decreases-loop : tie.decreases-loop-k
 decreases-loop b n k₀ k = n - k
 
 long : (c : tie.Start invariant-loop decreases-loop) → length c.args.b.constraints ≡ 48
-long c = simp length-map at c.well_formed.0.1.1.1.0.1.0.1
+long c = search rules
 
 loop-holds : tie.Need-loop-k-init invariant-loop decreases-loop
 loop-holds c = undivided-start c.args.b

@@ -11,9 +11,6 @@ use Rattle.joining.specs.Joining.{common_from}
 use Rattle.joining.proofs.Dividing.{gcd-small, common-step, common-one, fits-small}
 use Rattle.joining.proofs.tightening.common.Statement.{statement}
 use Rattle.joining.proofs.tightening.common.Tie as tie
-use Rattle.joining.proofs.tightening.common.Reads as reads
-use Rattle.joining.proofs.tightening.common.Lts as lts
-use Rattle.joining.proofs.tightening.divisor_with.Reads as divisor-with-reads
 
 abbrev invariant-loop : tie.invariant-loop-k
 invariant-loop g xs r₀ k₀ r k = (k ≤ 8) × (r ≡ common_from g (drop k xs)) × (r ≤ 32768)

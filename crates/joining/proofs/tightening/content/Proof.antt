@@ -6,8 +6,6 @@ use Rattle.joining.specs.Joining.{common_from}
 use Rattle.joining.proofs.Dividing.{common-parts, common-zero, unit-first, unit-last}
 use Rattle.joining.proofs.tightening.content.Statement.{statement}
 use Rattle.joining.proofs.tightening.content.Tie as tie
-use Rattle.joining.proofs.tightening.content.Reads as reads
-use Rattle.joining.proofs.tightening.content.Lts as lts
 
 unit-in-requires : tie.Need-unit_in-requires
 unit-in-requires c κs = search rules

@@ -13,8 +13,6 @@ use Rattle.model.specs.Values.{kind_is}
 use Rattle.joining.proofs.Dividing.{down-mag}
 use Rattle.joining.proofs.tightening.divided_down.Statement.{statement}
 use Rattle.joining.proofs.tightening.divided_down.Tie as tie
-use Rattle.joining.proofs.tightening.divided_down.Reads as reads
-use Rattle.joining.proofs.tightening.divided_down.Lts as lts
 
 quotients-requires : tie.Need-quotients-axes-requires
 quotients-requires c κs = search rules

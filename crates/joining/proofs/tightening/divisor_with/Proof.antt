@@ -8,8 +8,6 @@ use Rattle.feasibility.specs.Tableau.{gcd}
 use Rattle.joining.proofs.Dividing.{same-gcd}
 use Rattle.joining.proofs.tightening.divisor_with.Statement.{statement}
 use Rattle.joining.proofs.tightening.divisor_with.Tie as tie
-use Rattle.joining.proofs.tightening.divisor_with.Reads as reads
-use Rattle.joining.proofs.tightening.divisor_with.Lts as lts
 
 cast-magnitude : tie.Need-overflow_cast-x
 cast-magnitude c = let f = c.ranges.x in let m = f.sfits in rw (to_z_of_z f) (record { sfits = omega arith })

@@ -6,11 +6,8 @@ use mir.Val.{of_z}
 use Rattle.integers.specs.Mach.{of_z-same}
 use Rattle.joining.specs.Joining.{is_unit}
 use Rattle.joining.proofs.Dividing.{not-unit}
-use borrow.Author.Rules.{rules}
 use Rattle.joining.proofs.tightening.is_unit.Statement.{statement}
 use Rattle.joining.proofs.tightening.is_unit.Tie as tie
-use Rattle.joining.proofs.tightening.is_unit.Reads as reads
-use Rattle.joining.proofs.tightening.is_unit.Lts as lts
 
 returns : tie.Need-returns-then-x-eq1
 returns c = let e : c.before.args.x ≡ pos 1 = of_z-same c.before.ranges.x (record { sfits = omega arith }) c.if-x-eq1.true in sym (ap is_unit e)

@@ -7,11 +7,6 @@ use Rattle.joining.specs.Joining.{reduced_of}
 use Rattle.joining.proofs.Dividing.{unit-reduced}
 use Rattle.joining.proofs.tightening.joining_rule.Statement.{statement}
 use Rattle.joining.proofs.tightening.joining_rule.Tie as tie
-use Rattle.joining.proofs.tightening.joining_rule.Reads as reads
-use Rattle.joining.proofs.tightening.joining_rule.Lts as lts
-use Rattle.joining.proofs.divisions.moved.Reads as moved-reads
-use Rattle.joining.proofs.tightening.unit_in.Reads as unit-in-reads
-use Rattle.joining.proofs.tightening.reduce.Reads as reduce-reads
 
 unit-in-requires : tie.Need-unit_in-requires
 unit-in-requires c κs = search rules

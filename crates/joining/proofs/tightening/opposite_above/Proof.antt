@@ -1,14 +1,9 @@
 use mathlib.Core.Path.{sym, ap, ◌∙◌}
-use borrow.Author.Rules.{rules}
 use Rattle.model.specs.Values.{kind_is, constraint_of}
 use Rattle.algebra.specs.Cut as C
 use Rattle.algebra.proofs.Tightened.{tight-above}
 use Rattle.joining.proofs.tightening.opposite_above.Statement.{statement}
 use Rattle.joining.proofs.tightening.opposite_above.Tie as tie
-use Rattle.joining.proofs.tightening.opposite_above.Reads as reads
-use Rattle.joining.proofs.tightening.opposite_above.Lts as lts
-use Rattle.joining.proofs.opposites.above.Reads as above-reads
-use Rattle.joining.proofs.tightening.tight_above.Reads as tight-above-reads
 
 tight-above-requires : tie.Need-tight_above-requires
 tight-above-requires c κs = c.before.requires.1

@@ -1,14 +1,9 @@
 use mathlib.Core.Path.{sym, ap, ◌∙◌}
-use borrow.Author.Rules.{rules}
 use Rattle.model.specs.Values.{constraint_of}
 use Rattle.algebra.specs.Cut as C
 use Rattle.algebra.proofs.Tightened.{tight-below}
 use Rattle.joining.proofs.tightening.opposite_below.Statement.{statement}
 use Rattle.joining.proofs.tightening.opposite_below.Tie as tie
-use Rattle.joining.proofs.tightening.opposite_below.Reads as reads
-use Rattle.joining.proofs.tightening.opposite_below.Lts as lts
-use Rattle.joining.proofs.opposites.below.Reads as below-reads
-use Rattle.joining.proofs.tightening.tight_below.Reads as tight-below-reads
 
 tight-below-requires : tie.Need-tight_below-requires
 tight-below-requires c κs = c.before.requires.0

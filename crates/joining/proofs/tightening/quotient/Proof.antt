@@ -12,8 +12,6 @@ use Rattle.model.specs.Sets.{floor_div}
 use Rattle.joining.proofs.Dividing.{down-mag}
 use Rattle.joining.proofs.tightening.quotient.Statement.{statement}
 use Rattle.joining.proofs.tightening.quotient.Tie as tie
-use Rattle.joining.proofs.tightening.quotient.Reads as reads
-use Rattle.joining.proofs.tightening.quotient.Lts as lts
 
 cast-floor-div : tie.Need-overflow_cast-x
 cast-floor-div c = let f = c.ranges.x in let m = f.sfits in rw (to_z_of_z f) (record { sfits = omega arith })

@@ -1,20 +1,15 @@
-use mathlib.Core.Path.{◌≡◌, refl, ap, ◌∙◌}
-use mathlib.Core.List.{List}
+use mathlib.Core.Path.{◌≡◌, ap, ◌∙◌}
 use Prim.Native.Nat.{◌≤◌, ◌-◌}
 use native.Mathlib.Omega.{arith}
 use borrow.Author.Rules.{rules}
-use lib.IntN.{ℤ, pos}
-use lib.ListN.{length, get_or, set}
+use lib.IntN.{pos}
+use lib.ListN.{length, get_or}
 use mir.Syntax.{w16}
-use mir.Val.{to_z, of_z}
 use Rattle.integers.specs.Mach.{result_is}
 use Rattle.joining.specs.Joining.{down_by}
 use Rattle.model.proofs.Lists.{up_to, up_to-none, up_to-more, up_to-each, each, each_at}
 use Rattle.joining.proofs.tightening.quotients.Statement.{statement}
 use Rattle.joining.proofs.tightening.quotients.Tie as tie
-use Rattle.joining.proofs.tightening.quotients.Reads as reads
-use Rattle.joining.proofs.tightening.quotients.Lts as lts
-use Rattle.joining.proofs.tightening.quotient.Reads as quotient-reads
 
 abbrev invariant-loop : tie.invariant-loop-i
 invariant-loop g r₀ i₀ r i = (i ≤ 8) × (r ≡ up_to (each (down_by g)) i r₀)

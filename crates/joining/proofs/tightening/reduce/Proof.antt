@@ -9,8 +9,6 @@ use Rattle.algebra.specs.Tighten as T
 use Rattle.joining.proofs.Dividing.{void-over, reduced-void, reduced-over, void-plain, reduced-plain}
 use Rattle.joining.proofs.tightening.reduce.Statement.{statement}
 use Rattle.joining.proofs.tightening.reduce.Tie as tie
-use Rattle.joining.proofs.tightening.reduce.Reads as reads
-use Rattle.joining.proofs.tightening.reduce.Lts as lts
 
 content-requires : tie.Need-content-g-requires
 content-requires c κs = search rules

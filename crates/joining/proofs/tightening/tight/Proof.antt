@@ -6,8 +6,6 @@ use Rattle.model.specs.Values.{constraint_of}
 use Rattle.joining.proofs.Dividing.{tight-over, tight-plain}
 use Rattle.joining.proofs.tightening.tight.Statement.{statement}
 use Rattle.joining.proofs.tightening.tight.Tie as tie
-use Rattle.joining.proofs.tightening.tight.Reads as reads
-use Rattle.joining.proofs.tightening.tight.Lts as lts
 
 content-requires : tie.Need-content-divisor-requires
 content-requires c κs = search rules

@@ -3,10 +3,6 @@ use Rattle.algebra.specs.Tighten as T
 use borrow.Author.Rules.{rules}
 use Rattle.joining.proofs.tightening.tight_above.Statement.{statement}
 use Rattle.joining.proofs.tightening.tight_above.Tie as tie
-use Rattle.joining.proofs.tightening.tight_above.Reads as reads
-use Rattle.joining.proofs.tightening.tight_above.Lts as lts
-use Rattle.joining.proofs.opposites.above.Reads as above-reads
-use Rattle.joining.proofs.tightening.tight.Reads as tight-reads
 
 above-requires : tie.Need-above-o-requires
 above-requires c κs = search rules

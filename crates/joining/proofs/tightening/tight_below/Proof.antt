@@ -3,10 +3,6 @@ use Rattle.algebra.specs.Tighten as T
 use borrow.Author.Rules.{rules}
 use Rattle.joining.proofs.tightening.tight_below.Statement.{statement}
 use Rattle.joining.proofs.tightening.tight_below.Tie as tie
-use Rattle.joining.proofs.tightening.tight_below.Reads as reads
-use Rattle.joining.proofs.tightening.tight_below.Lts as lts
-use Rattle.joining.proofs.opposites.below.Reads as below-reads
-use Rattle.joining.proofs.tightening.tight.Reads as tight-reads
 
 below-requires : tie.Need-below-o-requires
 below-requires c κs = search rules

@@ -2,13 +2,10 @@ use mathlib.Core.Path.{◌≡◌}
 use Prim.Native.Nat.{◌-◌}
 use native.Mathlib.Omega.{arith}
 use borrow.Author.Rules.{rules}
-use lib.ListN.{length, length-map}
+use lib.ListN.{length}
 use Rattle.joining.proofs.Dividing.{Passed, passed_start, passed-void, passed-next, passed-end}
 use Rattle.joining.proofs.tightening.tight_set.Statement.{statement}
 use Rattle.joining.proofs.tightening.tight_set.Tie as tie
-use Rattle.joining.proofs.tightening.tight_set.Reads as reads
-use Rattle.joining.proofs.tightening.tight_set.Lts as lts
-use Rattle.joining.proofs.tightening.reduce.Reads as reduce-reads
 
 abbrev invariant-loop : tie.invariant-loop-k
 invariant-loop b n w₀ k₀ w k = Passed b w k
@@ -17,7 +14,7 @@ abbrev decreases-loop : tie.decreases-loop-k
 decreases-loop b n w₀ k₀ w k = n - k
 
 long : (c : tie.Start invariant-loop decreases-loop) → length c.args.b.constraints ≡ 48
-long c = simp length-map at c.well_formed.0.1.1.1.0.1.0.1
+long c = search rules
 
 loop-holds : tie.Need-loop-k-init invariant-loop decreases-loop
 loop-holds c = passed_start c.args.b

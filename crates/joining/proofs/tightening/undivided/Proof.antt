@@ -11,8 +11,6 @@ use Rattle.model.specs.Values.{kind_is}
 use Rattle.algebra.specs.Tighten as T
 use Rattle.joining.proofs.tightening.undivided.Statement.{statement}
 use Rattle.joining.proofs.tightening.undivided.Tie as tie
-use Rattle.joining.proofs.tightening.undivided.Reads as reads
-use Rattle.joining.proofs.tightening.undivided.Lts as lts
 
 returns : tie.Need-returns-then-not-equality
 returns c = sym (ap (λ (e : Bool). T.undivided (kind_is e) c.before.args.g c.before.args.k) (not-true c.before.args.equality c.if-not-equality.true-raw))

@@ -1,11 +1,11 @@
+use Rattle.joining.proofs.tightening.unit_in.Lts.{then-is_unit, else-is_unit}
 use mathlib.Core.Path.{◌≡◌, refl, sym, ap, ◌∙◌}
-use mathlib.Core.Logic.{⊎_elim}
 use mathlib.Core.Bool.{Bool, ◌||◌}
 use Prim.Native.Nat.{◌≤◌, ◌-◌, ◌+◌}
 use native.Mathlib.Omega.{arith}
 use borrow.Author.Rules.{rules}
 use lib.IntN.{pos}
-use lib.ListN.{length, drop, get_or, drop_of_length-le}
+use lib.ListN.{length, drop, get_or}
 use mir.Syntax.{w16}
 use Rattle.integers.specs.Mach.{result_is}
 use Rattle.model.specs.Lists.{any}
@@ -13,9 +13,6 @@ use Rattle.joining.specs.Joining.{is_unit}
 use Rattle.joining.proofs.Dividing.{found-yes, found-no, found-end}
 use Rattle.joining.proofs.tightening.unit_in.Statement.{statement}
 use Rattle.joining.proofs.tightening.unit_in.Tie as tie
-use Rattle.joining.proofs.tightening.unit_in.Reads as reads
-use Rattle.joining.proofs.tightening.unit_in.Lts as lts
-use Rattle.joining.proofs.tightening.is_unit.Reads as is-unit-reads
 
 abbrev invariant-loop : tie.invariant-loop-i
 invariant-loop xs found₀ i₀ found i = (i ≤ 8) × ((found || any is_unit (drop i xs)) ≡ any is_unit xs)
@@ -51,10 +48,10 @@ loop-again c =
     let h = u.before.before.loop-i-test.true in
     let e : u.is_unit.result ≡ is_unit (get_or xs i (pos 0)) = u.is_unit.ensures ∙ ap is_unit (result_is w16 (get_or xs i (pos 0)) u.before.is_unit-arg-1.given) in (
       omega arith,
-      ⊎_elim
-          (λ w. ap (λ (b : Bool). b || any is_unit (drop (i + 1) xs)) w.1 ∙ sym (found-yes is_unit xs i (omega arith) lo.loop-i.found (sym e ∙ w.0.taken)) ∙ lo.loop-i.invariant.1)
-          (λ w. ap (λ (b : Bool). b || any is_unit (drop (i + 1) xs)) w.1 ∙ found-no is_unit xs i (omega arith) lo.loop-i.found (sym e ∙ w.0.left) ∙ lo.loop-i.invariant.1)
-          c.if-is_unit.branch,
+      elim c.if-is_unit.branch [
+        | then-is_unit w ↦ ap (λ (b : Bool). b || any is_unit (drop (i + 1) xs)) w.found-is ∙ sym (found-yes is_unit xs i (omega arith) lo.loop-i.found (sym e ∙ w.if-is_unit.true)) ∙ lo.loop-i.invariant.1
+        | else-is_unit w ↦ ap (λ (b : Bool). b || any is_unit (drop (i + 1) xs)) w.found-is ∙ found-no is_unit xs i (omega arith) lo.loop-i.found (sym e ∙ w.if-is_unit.false) ∙ lo.loop-i.invariant.1
+      ],
     )
 
 returns : tie.Need-returns invariant-loop decreases-loop

@@ -11,10 +11,6 @@ use borrow.Author.Tests.{not-true}
 use Rattle.algebra.proofs.Tightened.{inequality-solvable}
 use Rattle.joining.proofs.tightening.void.Statement.{statement}
 use Rattle.joining.proofs.tightening.void.Tie as tie
-use Rattle.joining.proofs.tightening.void.Reads as reads
-use Rattle.joining.proofs.tightening.void.Lts as lts
-use Rattle.joining.proofs.tightening.content.Reads as content-reads
-use Rattle.joining.proofs.tightening.undivided.Reads as undivided-reads
 
 returns : tie.Need-returns-then-not-equality
 returns c =
