@@ -22,7 +22,7 @@ same_length : tie.Need-shape_of-heads
 same_length c = search rules
 
 returns : tie.Need-returns
-returns c = let a = c.before.before in let s = a.before.before.before in put-ranks (map (forgotten s.args.rank)) s.args.heads.now a.forget.new.0 a.forget.ensures
+returns c = let a = c.before.before in let s = a.before.before.before in put-ranks (map (forgotten s.args.rank)) s.args.heads.now a.forget.new.ranks a.forget.ensures
 
 pub forget_after_spec : {M : Type 1} → statement M
 forget_after_spec =

@@ -21,7 +21,7 @@ same_length : tie.Need-shape_of-heads
 same_length c = search rules
 
 returns : tie.Need-returns
-returns c = let a = c.before.before in let s = a.before.before.before in put-ranks (newest s.args.name) s.args.heads.now a.newest.new.0 a.newest.ensures
+returns c = let a = c.before.before in let s = a.before.before.before in put-ranks (newest s.args.name) s.args.heads.now a.newest.new.ranks a.newest.ensures
 
 pub mark_newest_spec : {M : Type 1} → statement M
 mark_newest_spec =

@@ -3,7 +3,7 @@ use Prim.Native.Nat.{◌+◌, ◌-◌, ◌≤◌}
 use Rattle.memory.proofs.Counts.{marks-skip, marks-more, marks-end}
 use Rattle.memory.specs.Memory.{marks}
 use lib.ListN.{length, drop}
-use mathlib.Core.Logic.{⊎_elim}
+use Rattle.memory.proofs.ranks.marks.Lts.{then-ranks-i-ne0, else-ranks-i-ne0}
 use mathlib.Core.Path.{◌≡◌}
 use native.Mathlib.Omega.{arith}
 use borrow.Author.Rules.{rules}
@@ -38,8 +38,10 @@ loop-again : tie.Need-loop-i-preserved invariant-loop decreases-loop
 loop-again c =
     let m = c.before.before.before in let l = m.loop-i in let r = m.before.args.ranks.now in
     let t = c.before.before.loop-i-test.true in
-    ⊎_elim (λ w. let q = marks-more r l.i l.n t w.0.taken in (omega arith, omega arith, omega (arith, l.invariant.2)))
-    (λ w. let q = marks-skip r l.i l.n t w.0.left in (omega arith, omega arith, omega (arith, l.invariant.2))) c.if-ranks-i-ne0.branch
+    elim c.if-ranks-i-ne0.branch [
+      | then-ranks-i-ne0 w ↦ let q = marks-more r l.i l.n t w.if-ranks-i-ne0.true in let e = w.n-is in (omega arith, omega arith, omega (arith, l.invariant.2))
+      | else-ranks-i-ne0 w ↦ let q = marks-skip r l.i l.n t w.if-ranks-i-ne0.false in let e = w.n-is in (omega arith, omega arith, omega (arith, l.invariant.2))
+    ]
 
 returns : tie.Need-returns invariant-loop decreases-loop
 returns c =

@@ -10,12 +10,12 @@ use Rattle.memory.proofs.ranks.newest.Tie as tie
 
 -- where the others have fallen
 abbrev falls : tie.After-marks-n → tie.After-lower
-falls c = c.before.before.before.before
+falls c = c.before.before.before
 
 abbrev start : tie.After-lower → tie.Start
 start c = c.before.before.before.before
 
-long : (c : tie.After-lower) → length c.lower.new.0 ≡ length (start c).args.ranks.now
+long : (c : tie.After-lower) → length c.lower.new.ranks ≡ length (start c).args.ranks.now
 long c = ap length c.lower.ensures ∙ simp (length-map, length-set)
 
 mul-old : tie.Need-offset_bounds-ranks-name
@@ -52,7 +52,7 @@ returns : tie.Need-returns
 unfolding newest
 returns c =
     let a = falls c in let k = (start a).args.name in
-    ap (λ (n : ℕ). set a.lower.last.0 k (n + 1)) c.marks-n.ensures.0 ∙ ap (last k) a.lower.ensures
+    ap (λ (n : ℕ). set a.lower.new.ranks k (n + 1)) c.marks-n.ensures.0 ∙ ap (last k) a.lower.ensures
 
 pub newest_spec : {M : Type 1} → statement M
 newest_spec =

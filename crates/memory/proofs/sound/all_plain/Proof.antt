@@ -32,14 +32,14 @@ mul-l : tie.Need-offset_bounds-r-i-in-loop-i invariant-loop decreases-loop
 mul-l c = search rules
 
 element-copy-out-l : tie.Need-bounds-r-i-in-loop-i invariant-loop decreases-loop
-element-copy-out-l c = let j = c.before in let l = j.before.loop in let t = j.loop-test.true in omega (arith, l.invariant.0, l.invariant.2)
+element-copy-out-l c = let j = c.before.before in let l = j.before.loop-i in let t = j.loop-i-test.true in omega (arith, l.invariant.0, l.invariant.2)
 
 is-plain-requires : tie.Need-is_plain-requires invariant-loop decreases-loop
 is-plain-requires c κs = search rules
 
 returns : tie.Need-returns-then-not-is_plain invariant-loop decreases-loop
 returns c =
-    let i = c.before.before.before.before in let l = i.before.loop in let t = i.loop-test.true in
+    let i = c.before.before.before.before.before in let l = i.before.loop-i in let t = i.loop-i-test.true in
     plain-stop _ l.i _ l.invariant.3 (omega (arith, l.invariant.0, l.invariant.2)) (sym c.before.is_plain.ensures ∙ not-true _ c.if-not-is_plain.true-raw)
 
 add-i : tie.Need-overflow_add-i invariant-loop decreases-loop
@@ -50,7 +50,7 @@ loop-less c = search rules
 
 loop-again : tie.Need-loop-i-preserved invariant-loop decreases-loop
 loop-again c =
-    let i = c.before.before.before.before in let l = i.before.loop in let t = i.loop-test.true in
+    let i = c.before.before.before.before.before in let l = i.before.loop-i in let t = i.loop-i-test.true in
     (l.invariant.0, omega (arith, l.invariant.2), omega (arith, l.invariant.2), plain-next _ l.i _ l.invariant.3 (omega (arith, l.invariant.0, l.invariant.2)) (sym c.before.is_plain.ensures ∙ not-false _ c.if-not-is_plain.false-raw))
 
 returns-2 : tie.Need-returns invariant-loop decreases-loop

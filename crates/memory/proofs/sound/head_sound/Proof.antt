@@ -36,7 +36,7 @@ is-word-requires : tie.Need-is_word-requires
 is-word-requires c κs = search rules
 
 returns-6 : tie.Need-returns
-returns-6 c = let e = c.before in let d = e.before in let b = d.before in let a = b.before in rw (over a.before, le-leb _ _ a.if-n-gt-AXES.false, le-leb _ _ b.if-k-gt-DIVISIONS.false, le-leb _ _ d.if-rules-gt-CONSTRAINTS.false, le-leb _ _ e.if-k-rules.false) c.is_IsWord.ensures
+returns-6 c = let e = c.before in let d = e.before in let b = d.before in let a = b.before in rw (over a.before, le-leb _ _ a.if-n-gt-AXES.false, le-leb _ _ b.if-k-gt-DIVISIONS.false, le-leb _ _ d.if-rules-gt-CONSTRAINTS.false, le-leb _ _ e.if-k-rules.false) c.is_word.ensures
 
 pub head_sound_spec : {M : Type 1} → statement M
 head_sound_spec =

@@ -37,12 +37,12 @@ shared-slice-element-row-sound : tie.Need-bounds-t-i-in-loop-i invariant-loop de
 shared-slice-element-row-sound c = search rules
 
 row-sound-requires : tie.Need-row_sound-requires invariant-loop decreases-loop
-row-sound-requires c κs = c.before.has-length.ensures
+row-sound-requires c κs = c.has_length.ensures
 
 returns : tie.Need-returns-then-not-row_sound invariant-loop decreases-loop
 returns c =
-    let j = c.before.before.before.before.before in let l = j.before.loop in
-    scan-stop [] _ _ l.i _ l.invariant.1 j.loop-test.true (sym c.before.row_sound.ensures ∙ not-true _ c.if-not-row_sound.true-raw)
+    let j = c.before.before.before.before in let l = j.before.loop-i in
+    scan-stop [] _ _ l.i _ l.invariant.1 j.loop-i-test.true (sym c.before.row_sound.ensures ∙ not-true _ c.if-not-row_sound.true-raw)
 
 add-i : tie.Need-overflow_add-i invariant-loop decreases-loop
 add-i c = search rules
@@ -52,7 +52,7 @@ loop-less c = search rules
 
 loop-again : tie.Need-loop-i-preserved invariant-loop decreases-loop
 loop-again c =
-    let j = c.before.before.before.before.before in let l = j.before.loop in let t = j.loop-test.true in
+    let j = c.before.before.before.before in let l = j.before.loop-i in let t = j.loop-i-test.true in
     (omega arith, scan-next [] _ _ l.i _ l.invariant.1 t (sym c.before.row_sound.ensures ∙ not-false _ c.if-not-row_sound.false-raw))
 
 returns-2 : tie.Need-returns invariant-loop decreases-loop

@@ -52,37 +52,37 @@ unfolding sound
 returns c = rw (sym c.before.head_sound.ensures ∙ not-true _ c.if-not-head_sound.true-raw)
 
 slice-aggregate-rows-sound : tie.Need-slice_bounds-rows_sound-end
-slice-aggregate-rows-sound c = let e = c.before in let s = start e.before in let f = few-rows e in let r = s.requires.rows in sym (length-take-le (head s 3) s.args.rows.now (omega arith))
+slice-aggregate-rows-sound c = let e = c in let s = start e.before in let f = few-rows e in let r = s.requires.rows in sym (length-take-le (head s 3) s.args.rows.now (omega arith))
 
 add-rows-sound : tie.Need-overflow_add-k
-add-rows-sound c = record { fits = let e = c.before in let h = (heads e).few in omega arith }
+add-rows-sound c = record { fits = let e = c in let h = (heads e).few in omega arith }
 
 rows-sound-requires : tie.Need-rows_sound-requires
 rows-sound-requires c κs = search rules
 
 returns-2 : tie.Need-returns-then-not-rows_sound
 unfolding sound
-returns-2 c = let e = c.before.before.before in rw (head-is e, sym c.before.rows_sound.ensures ∙ not-true _ c.if-not-rows_sound.true-raw)
+returns-2 c = let e = c.before.before in rw (head-is e, sym c.before.rows_sound.ensures ∙ not-true _ c.if-not-rows_sound.true-raw)
 
 add-names : tie.Need-overflow_add-names
-add-names c = record { fits = let e = c.before.before.before in let h = (heads e).few in omega arith }
+add-names c = record { fits = let e = c.before.before in let h = (heads e).few in omega arith }
 
 add-names-2 : tie.Need-overflow_add-names-2
-add-names-2 c = record { fits = let e = c.before.before.before in let h = (heads e).few in let f = few-rows e in omega arith }
+add-names-2 c = record { fits = let e = c.before.before in let h = (heads e).few in let f = few-rows e in omega arith }
 
 slice-aggregate-places-sound : tie.Need-slice_bounds-places_sound-end
 slice-aggregate-places-sound c =
-    let e = c.before.before.before.before in let s = start e.before in let h = (heads e).few in let f = few-rows e in let p = s.requires.place in
+    let e = c.before.before in let s = start e.before in let h = (heads e).few in let f = few-rows e in let p = s.requires.place in
     sym (length-take-le (8 + head s 1 + head s 3) s.args.place.now (omega arith))
 
 places-sound-requires : tie.Need-places_sound-requires
-places-sound-requires c κs = let e = c.before.before.before.before in (heads e).few
+places-sound-requires c κs = let e = c.before.before in (heads e).few
 
 returns-3 : tie.Need-returns
 unfolding sound
 returns-3 c =
-    let f = c.before.before in let e = f.before.before.before in
-    rw (head-is e, sym f.before.rows-sound.ensures ∙ not-false _ f.if2.false) c.places_sound.ensures
+    let f = c.before in let e = f.before.before in
+    rw (head-is e, sym f.before.rows_sound.ensures ∙ not-false _ f.if-not-rows_sound.false-raw) c.places_sound.ensures
 
 pub sound_spec : {M : Type 1} → statement M
 sound_spec =
