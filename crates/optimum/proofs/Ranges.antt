@@ -12,7 +12,8 @@ use lib.Signed.{non_neg}
 use lib.ListN.{length, get_or, set}
 use Rattle.integers.specs.Z.{Within}
 use Rattle.integers.specs.Div.{floor-within}
-use Rattle.integers.specs.Size.{within-mono, within-neg, products}
+use Rattle.integers.specs.Size.{within-mono, within-neg}
+use Rattle.integers.proofs.BoundedProducts.{products}
 use Rattle.model.specs.Lists.{all, All}
 use Rattle.model.specs.Sets.{Constraint, BasicSet, is_zero, floor_div, conditions}
 use Rattle.model.proofs.Lists.{all_app, all-mapped}

@@ -9,7 +9,8 @@ use lib.IntN.{ℤ, pos, neg_ℤ, ◌*ℤ◌}
 use lib.ListN.{length, get_or}
 use Rattle.integers.specs.Z.{Within}
 use Rattle.integers.specs.Div.{floor-within}
-use Rattle.integers.specs.Size.{within-neg, products}
+use Rattle.integers.specs.Size.{within-neg}
+use Rattle.integers.proofs.BoundedProducts.{products}
 use Rattle.model.specs.Sets.{Kind, Division, equality, Constraint, BasicSet, is_zero, floor_div, bounds, conditions}
 use Rattle.model.specs.Lists.{All}
 use Rattle.model.proofs.Lists.{all_app}

@@ -18,7 +18,8 @@ use Rattle.integers.specs.Z.{Within}
 use Rattle.integers.specs.Gcd.{gcd, gcd-is, gcd-zero, gcd-step, gcd-comm}
 use Rattle.integers.specs.Order.{mul-pos-pos}
 use Rattle.integers.specs.Ring.{quote, ring}
-use Rattle.integers.specs.Size.{within-neg, within-mono, within-fits, within-add, within-sub, products}
+use Rattle.integers.specs.Size.{within-neg, within-mono, within-fits, within-add, within-sub}
+use Rattle.integers.proofs.BoundedProducts.{products}
 use Rattle.model.specs.Sets.{is_zero}
 use Rattle.model.proofs.Values.{is_zero-no}
 use Rattle.model.specs.Lists.{filter, cons_if}

@@ -13,7 +13,8 @@ use lib.Signed.{lt_z}
 use borrow.Author.Tests.{le-leb, lt-leb, le-ltb}
 use Rattle.integers.specs.Part.{lt-or-le}
 use Rattle.integers.specs.Z.{Within}
-use Rattle.integers.specs.Size.{bound, products}
+use Rattle.integers.specs.Size.{bound}
+use Rattle.integers.proofs.BoundedProducts.{products}
 use Rattle.wide.specs.declared.Wide.{Wide}
 use Rattle.wide.specs.Wide.{size, value_of}
 use Rattle.wide.specs.Wide.{signed}

@@ -1,6 +1,6 @@
 -- `integers::products::determinant` meets its contract, as it would at every width. Assumes nothing.
 use mir.Syntax.{w64}
-use Rattle.integers.specs.Det.{mul-ask, det-ask, det-is}
+use Rattle.integers.proofs.Det.{mul-ask, det-ask, det-is}
 use Rattle.integers.proofs.products.determinant.Statement.{statement}
 use Rattle.integers.proofs.products.determinant.Tie as tie
 

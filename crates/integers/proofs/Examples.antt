@@ -7,7 +7,8 @@ use Rattle.integers.specs.Z.{Within}
 use Rattle.integers.specs.Ring.{ring, quote}
 use Rattle.integers.specs.Lin.{le, lt, eq, fits, abs, lin, lia-le, lia-lt, lia-no, lia-nat, lia-fits}
 use Rattle.integers.specs.Order.{mul-nonneg, <ℤ-≤ℤ}
-use Rattle.integers.specs.Size.{nat_abs-lt, products-fit, within-fits, within-mul, within-mono}
+use Rattle.integers.specs.Size.{nat_abs-lt, within-fits, within-mul, within-mono}
+use Rattle.integers.proofs.BoundedProducts.{products-fit}
 use Rattle.integers.specs.Div.{floor_div, floor-within, quot_fits}
 use Rattle.integers.specs.Sum.{AllWithin, dot, numerator-within, value-within}
 use Rattle.integers.specs.Bound.{bounds, fits_by}

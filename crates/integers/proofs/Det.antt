@@ -3,7 +3,8 @@ use Rattle.std.specs.Prelude.{◌≡◌, ℤ, ◌-ℤ◌, ◌*ℤ◌}
 use Rattle.std.specs.Int.{Width}
 use mir.Val.{SFits, to_z, of_z, bits}
 use Rattle.integers.specs.Z.{Within}
-use Rattle.integers.specs.Size.{bound, bound-fits, within-fits, products-fit}
+use Rattle.integers.specs.Size.{bound, within-fits}
+use Rattle.integers.proofs.BoundedProducts.{bound-fits, products-fit}
 use Rattle.integers.specs.Mach.{Bits, b-of, b-op, ask}
 
 -- z as it is read back from its bits

@@ -1,0 +1,3 @@
+pub mod BoundedProducts
+pub mod Det
+mod Examples
