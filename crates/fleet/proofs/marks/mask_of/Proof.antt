@@ -40,16 +40,16 @@ abbrev flags_of : tie.Start invariant-loop decreases-loop → List Bool
 flags_of st = take st.args.k st.args.flags
 
 long : (m : tie.At-loop-i invariant-loop decreases-loop) → length (flags_of m.before) ≤ 64
-long m = let l = m.loop-i.invariant.1 in let a = m.before.args in let p = m.before.requires in omega (arith, length-take-le a.k a.t1 (omega arith))
+long m = let l = m.loop-i.invariant.1 in let a = m.before.args in let p = m.before.requires in omega (arith, length-take-le a.k a.flags (omega arith))
 
 turn : (c : tie.After-one-b invariant-loop decreases-loop)
     → c.before.before.loop-i.m * 2 + c.one-b.result ≡ mask_of itself (drop (c.before.before.loop-i.i - 1) (flags_of c.before.before.before))
 turn c =
     let l = c.before in let m = l.before in let st = m.before in let a = st.args in
     let h = m.loop-i.invariant.0 in let z = m.loop-i.invariant.1 in let p = st.requires in let t = l.loop-i-test.true in
-    let e = length-take-le a.k a.t1 (omega arith) in
+    let e = length-take-le a.k a.flags (omega arith) in
     mask-turn itself (flags_of st) m.loop-i.i m.loop-i.m c.one-b.result false (omega arith) (omega arith) m.loop-i.invariant.2
-    (c.one-b.ensures ∙ ap bit (sym (get_or-take a.k a.t1 (m.loop-i.i - 1) false (omega arith))))
+    (c.one-b.ensures ∙ ap bit (sym (get_or-take a.k a.flags (m.loop-i.i - 1) false (omega arith))))
 
 fits : (c : tie.After-one-b invariant-loop decreases-loop) → c.before.before.loop-i.m * 2 + c.one-b.result < 2 ^ 64
 fits c = let m = c.before.before in subst (λ (v : ℕ). v < 2 ^ 64) (sym (turn c)) (mask_fits itself (flags_of m.before) (m.loop-i.i - 1) (long m))

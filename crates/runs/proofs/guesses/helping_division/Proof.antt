@@ -1,4 +1,4 @@
-use mathlib.Core.Path.{◌≡◌, sym, ◌∙◌, subst, subst₂}
+use mathlib.Core.Path.{sym, ◌∙◌, subst, subst₂}
 use mathlib.Core.List.{List}
 use native.Mathlib.Omega.{arith}
 use borrow.Author.Rules.{rules}
@@ -28,11 +28,11 @@ module _ (t : tie.In-loop-u invariant-loop decreases-loop) where
   abbrev st : tie.Start invariant-loop decreases-loop
   st = m.before.before.before
 
-  here : DivisionAt m.loop-u.inv.n st.args.s.now m.loop-u.at m.loop-u.inv.k
-  here = division-at m.loop-u.inv.n st.args.s.now m.loop-u.at m.loop-u.inv.k m.loop-u.inv.here (sym t.before.division_at.ensures ∙ t.loop-u-test.taken)
+  here : DivisionAt m.loop-u.invariant.n st.args.s.now m.loop-u.at m.loop-u.invariant.k
+  here = division-at m.loop-u.invariant.n st.args.s.now m.loop-u.at m.loop-u.invariant.k m.loop-u.invariant.here (sym t.before.division_at.ensures ∙ t.loop-u-test.true)
 
   few : m.loop-u.j < 8
-  few = let f = here.few in let e = m.loop-u.inv.counts in omega arith
+  few = let f = here.few in let e = m.loop-u.invariant.counts in omega arith
 
 division-at-requires : tie.Need-division_at-requires invariant-loop decreases-loop
 division-at-requires c κs = search rules
@@ -79,7 +79,7 @@ loop-again : tie.Need-loop-u-preserved invariant-loop decreases-loop
 loop-again c =
     let n = c.before in let y = n.before in let t = y.before.before.before.before in let l = (m t).loop-u in
     subst₂ (λ (p : ℕ) (g : Helper). Seeking (st t).args.s.now p (l.j + 1) g) (sym c.next-at.ensures) (sym n.noted-g.ensures)
-    (seeking-next (st t).args.s.now l.at l.j l.g y.division_helps.result l.inv (here t))
+    (seeking-next (st t).args.s.now l.at l.j l.g y.division_helps.result l.invariant (here t))
 
 returns : tie.Need-returns invariant-loop decreases-loop
 returns c = c.before.before.loop-u.invariant.helping

@@ -1,4 +1,3 @@
-use Prim.Native.Nat.{◌-◌}
 use borrow.Author.Tests.{ne_eqb}
 use Rattle.runs.proofs.guesses.noted.Statement.{statement}
 use Rattle.runs.proofs.guesses.noted.Tie as tie

@@ -35,7 +35,7 @@ array-share-prefix-ql c = search rules
 slice-aggregate-first-failing : tie.Need-slice_bounds-first_failing-end
 slice-aggregate-first-failing c =
     let d = c.before.before.before in let f = d.bounded-p.ensures.few in let l = d.bounded-p.ensures.lows in
-    omega (arith, length-take d.bounded-p.result.count d.bounded-p.new.1.1.1.1.1.0)
+    omega (arith, length-take d.bounded-p.result.count d.bounded-p.new.ql)
 
 array-share-prefix-qh : tie.Need-slice_bounds-qh-end
 array-share-prefix-qh c = search rules
@@ -43,12 +43,12 @@ array-share-prefix-qh c = search rules
 slice-aggregate-first-failing-2 : tie.Need-slice_bounds-first_failing-end-2
 slice-aggregate-first-failing-2 c =
     let d = c.before.before.before.before in let f = d.bounded-p.ensures.few in let l = d.bounded-p.ensures.highs in
-    omega (arith, length-take d.bounded-p.result.count d.bounded-p.new.1.1.1.1.1.1.0)
+    omega (arith, length-take d.bounded-p.result.count d.bounded-p.new.qh)
 
 first-failing-requires : tie.Need-first_failing-f-requires
 first-failing-requires c κs =
     let d = c.before.before.before.before in let st = d.before.before.before.before.before.before in let e = d.bounded-p.ensures in
-    let ql = d.bounded-p.new.1.1.1.1.1.0 in let qh = d.bounded-p.new.1.1.1.1.1.1.0 in let m = d.bounded-p.result.count in
+    let ql = d.bounded-p.new.ql in let qh = d.bounded-p.new.qh in let m = d.bounded-p.result.count in
     let f = e.few in let l = e.lows in let h = e.highs in (
       st.requires.0,
       st.requires.1,
@@ -66,7 +66,7 @@ returns c =
     let y = c.before in let d = y.before.before.before.before.before in let a = d.before.before.before.before.before.before.args in
     let e = y.first_failing-f.ensures in let xs = box_of a.low.now a.high.now in let b = basic_at a.s.now (start_of a.r.now) in
     let m = d.bounded-p.result.count in
-    let qs = box_of (take m d.bounded-p.new.1.1.1.1.1.0) (take m d.bounded-p.new.1.1.1.1.1.1.0) in
+    let qs = box_of (take m d.bounded-p.new.ql) (take m d.bounded-p.new.qh) in
     let whole : all (can_stand xs qs) b.constraints ≡ can_hold xs b = ap (λ (z : List Interval). all (can_stand xs z) b.constraints) d.bounded-p.ensures.is in
     told y.first_failing-f.result.fails (can_hold xs b) (λ q. sym whole ∙ e.among q (can_stand xs qs) (e.falls q)) (λ q. sym whole ∙ e.stands q)
 

@@ -31,21 +31,21 @@ array-share-prefix-ql c = search rules
 
 slice-aggregate-constraints-run : tie.Need-slice_bounds-constraints_run-end
 slice-aggregate-constraints-run c =
-    let d = c.before.before.before.before in let f = d.bounded.ensures.few in let l = d.bounded.ensures.lows in
-    omega (arith, length-take d.bounded.result.count d.bounded.new.1.1.1.1.1.0)
+    let d = c.before.before.before in let f = d.bounded-p.ensures.few in let l = d.bounded-p.ensures.lows in
+    omega (arith, length-take d.bounded-p.result.count d.bounded-p.new.ql)
 
 array-share-prefix-qh : tie.Need-slice_bounds-qh-end
 array-share-prefix-qh c = search rules
 
 slice-aggregate-constraints-run-2 : tie.Need-slice_bounds-constraints_run-end-2
 slice-aggregate-constraints-run-2 c =
-    let d = c.before.before.before.before.before in let f = d.bounded.ensures.few in let l = d.bounded.ensures.highs in
-    omega (arith, length-take d.bounded.result.count d.bounded.new.1.1.1.1.1.1.0)
+    let d = c.before.before.before.before in let f = d.bounded-p.ensures.few in let l = d.bounded-p.ensures.highs in
+    omega (arith, length-take d.bounded-p.result.count d.bounded-p.new.qh)
 
 constraints-run-requires : tie.Need-constraints_run-requires
 constraints-run-requires c κs =
-    let d = c.before.before.before.before.before in let y = d.before.before.before.before.before.before in let st = y.before.before.before in let e = d.bounded.ensures in
-    let ql = d.bounded.new.1.1.1.1.1.0 in let qh = d.bounded.new.1.1.1.1.1.1.0 in let m = d.bounded.result.count in
+    let d = c.before.before.before.before in let y = d.before.before.before.before.before in let st = y.before.before.before in let e = d.bounded-p.ensures in
+    let ql = d.bounded-p.new.ql in let qh = d.bounded-p.new.qh in let m = d.bounded-p.result.count in
     let f = e.few in let l = e.lows in let h = e.highs in (
       y.settle.ensures.0,
       st.requires.1,
@@ -59,7 +59,7 @@ constraints-run-requires c κs =
 
 returns : tie.Need-returns
 returns c =
-    let d = c.before.before.before.before.before.before in let y = d.before.before.before.before.before.before in let st = y.before.before.before in let a = st.args in
+    let d = c.before.before.before.before.before in let y = d.before.before.before.before.before in let st = y.before.before.before in let a = st.args in
     record {
       run = subst (λ (p : ℕ). Failing a.s.now a.k a.low.now a.high.now p a.most c.constraints_run.result) y.settle.ensures.1 c.constraints_run.ensures;
       row = y.settle.ensures.0.row;

@@ -80,7 +80,7 @@ module _ (t : tie.In-loop-k-2 invariant-loop2 decreases-loop2 invariant-loop dec
   st₁ = m₁.before.before.before
 
   test₁ : is_constraint (get_or (s st₁) m₁.loop-k-2.at 0) ≡ true
-  test₁ = ap (λ (x : Bool). x || is_numbered (get_or (s st₁) m₁.loop-k-2.at 0)) (sym t.before.bare_at.ensures ∙ t.loop-k-2-test.taken)
+  test₁ = ap (λ (x : Bool). x || is_numbered (get_or (s st₁) m₁.loop-k-2.at 0)) (sym t.before.bare_at.ensures ∙ t.loop-k-2-test.true)
 
 bare-at-requires : tie.Need-bare_at-requires invariant-loop2 decreases-loop2 invariant-loop decreases-loop
 bare-at-requires c κs = search rules
@@ -92,21 +92,21 @@ failed₁ : (c : tie.Then-not-can_stand invariant-loop2 decreases-loop2 invarian
 failed₁ c = sym c.before.can_stand.ensures ∙ not-true _ c.if-not-can_stand.true-raw
 
 returns : tie.Need-returns-then-not-can_stand invariant-loop2 decreases-loop2 invariant-loop decreases-loop
-returns c = let t = c.before.before in let l = (m₁ t).loop-k-2 in stops (st₁ t) l.at l.i l.inv.0 (test₁ t) (failed₁ c)
+returns c = let t = c.before.before in let l = (m₁ t).loop-k-2 in stops (st₁ t) l.at l.i l.invariant.0 (test₁ t) (failed₁ c)
 
 next-requires : tie.Need-next-at-requires invariant-loop2 decreases-loop2 invariant-loop decreases-loop
-next-requires c κs = let t = c.before.before in let l = (m₁ t).loop-k-2 in (here (st₁ t) l.at l.i l.inv.0 (test₁ t)).whole
+next-requires c κs = let t = c.before.before in let l = (m₁ t).loop-k-2 in (here (st₁ t) l.at l.i l.invariant.0 (test₁ t)).whole
 
 add-i : tie.Need-overflow_add-i invariant-loop2 decreases-loop2 invariant-loop decreases-loop
-add-i c = let t = c.before.before.before in let l = (m₁ t).loop-k-2 in let f = (rule (st₁ t) l.at l.i l.inv.0 (test₁ t)).few in omega arith
+add-i c = let t = c.before.before.before in let l = (m₁ t).loop-k-2 in let f = (rule (st₁ t) l.at l.i l.invariant.0 (test₁ t)).few in omega arith
 
 loop2-less : tie.Need-loop-k-2-smaller invariant-loop2 decreases-loop2 invariant-loop decreases-loop
-loop2-less c = let t = c.before.before.before in let l = (m₁ t).loop-k-2 in less (st₁ t) l.at l.i l.inv.0 (test₁ t) c.next-at.result c.next-at.ensures
+loop2-less c = let t = c.before.before.before in let l = (m₁ t).loop-k-2 in less (st₁ t) l.at l.i l.invariant.0 (test₁ t) c.next-at.result c.next-at.ensures
 
 loop2-again : tie.Need-loop-k-2-preserved invariant-loop2 decreases-loop2 invariant-loop decreases-loop
 loop2-again c =
-    let e = c.before in let y = e.before in let t = y.before in let l = (m₁ t).loop-k-2 in let b = l.inv.1 in
-    (on (st₁ t) l.at l.i l.inv.0 (test₁ t) c.next-at.result c.next-at.ensures (sym y.can_stand.ensures ∙ not-false _ e.if-not-can_stand.false-raw), omega (arith, c.next-at.ensures))
+    let e = c.before in let y = e.before in let t = y.before in let l = (m₁ t).loop-k-2 in let b = l.invariant.1 in
+    (on (st₁ t) l.at l.i l.invariant.0 (test₁ t) c.next-at.result c.next-at.ensures (sym y.can_stand.ensures ∙ not-false _ e.if-not-can_stand.false-raw), omega (arith, c.next-at.ensures))
 
 -- ---- one of the others
 constraint-at-requires : tie.Need-constraint_at-requires invariant-loop2 decreases-loop2 invariant-loop decreases-loop
@@ -130,7 +130,7 @@ module _ (t : tie.Else-not-constraint_at invariant-loop2 decreases-loop2 invaria
   st₂ = m₂.before.before.before
 
   test₂ : is_constraint (get_or (s st₂) m₂.loop-k-2.at 0) ≡ true
-  test₂ = sym t.before.constraint_at.ensures ∙ not-false _ t.if-not-constraint_at.left
+  test₂ = sym t.before.constraint_at.ensures ∙ t.if-not-constraint_at.false
 
 can-stand-requires-2 : tie.Need-can_stand-requires-in-loop-k invariant-loop2 decreases-loop2 invariant-loop decreases-loop
 can-stand-requires-2 c κs = let p = (st₂ c).requires in (p.0, p.1, p.2, rule (st₂ c) (m₂ c).loop-k-2.at (m₂ c).loop-k-2.i (m₂ c).loop-k-2.invariant.0 (test₂ c))
@@ -139,23 +139,23 @@ failed₂ : (c : tie.Then-not-can_stand-2 invariant-loop2 decreases-loop2 invari
 failed₂ c = sym c.before.can_stand-in-loop-k.ensures ∙ not-true _ c.if-not-can_stand-2.true-raw
 
 returns-3 : tie.Need-returns-then-not-can_stand-2 invariant-loop2 decreases-loop2 invariant-loop decreases-loop
-returns-3 c = let t = c.before.before in let l = (m₂ t).loop-k-2 in stops (st₂ t) l.at l.i l.inv.0 (test₂ t) (failed₂ c)
+returns-3 c = let t = c.before.before in let l = (m₂ t).loop-k-2 in stops (st₂ t) l.at l.i l.invariant.0 (test₂ t) (failed₂ c)
 
 next-requires-2 : tie.Need-next-at-requires-in-loop-k invariant-loop2 decreases-loop2 invariant-loop decreases-loop
-next-requires-2 c κs = let t = c.before.before in let l = (m₂ t).loop-k-2 in (here (st₂ t) l.at l.i l.inv.0 (test₂ t)).whole
+next-requires-2 c κs = let t = c.before.before in let l = (m₂ t).loop-k-2 in (here (st₂ t) l.at l.i l.invariant.0 (test₂ t)).whole
 
 add-i-2 : tie.Need-overflow_add-i-in-loop-k invariant-loop2 decreases-loop2 invariant-loop decreases-loop
-add-i-2 c = let t = c.before.before.before in let l = (m₂ t).loop-k-2 in let f = (rule (st₂ t) l.at l.i l.inv.0 (test₂ t)).few in omega arith
+add-i-2 c = let t = c.before.before.before in let l = (m₂ t).loop-k-2 in let f = (rule (st₂ t) l.at l.i l.invariant.0 (test₂ t)).few in omega arith
 
 loop-less : tie.Need-loop-k-smaller invariant-loop2 decreases-loop2 invariant-loop decreases-loop
 loop-less c =
-    let t = c.before.before.before in let l = (m₂ t).loop-k-2 in let b = l.inv.1 in
-    let f = less (st₂ t) l.at l.i l.inv.0 (test₂ t) c.next-at-in-loop-k.result c.next-at-in-loop-k.ensures in omega arith
+    let t = c.before.before.before in let l = (m₂ t).loop-k-2 in let b = l.invariant.1 in
+    let f = less (st₂ t) l.at l.i l.invariant.0 (test₂ t) c.next-at-in-loop-k.result c.next-at-in-loop-k.ensures in omega arith
 
 loop-again : tie.Need-loop-k-preserved invariant-loop2 decreases-loop2 invariant-loop decreases-loop
 loop-again c =
     let e = c.before in let y = e.before in let t = y.before in let l = (m₂ t).loop-k-2 in
-    on (st₂ t) l.at l.i l.inv.0 (test₂ t) c.next-at-in-loop-k.result c.next-at-in-loop-k.ensures (sym y.can_stand-in-loop-k.ensures ∙ not-false _ e.if-not-can_stand-2.false-raw)
+    on (st₂ t) l.at l.i l.invariant.0 (test₂ t) c.next-at-in-loop-k.result c.next-at-in-loop-k.ensures (sym y.can_stand-in-loop-k.ensures ∙ not-false _ e.if-not-can_stand-2.false-raw)
 
 pub first_failing_spec : {M : Type 1} → statement M
 first_failing_spec =

@@ -61,19 +61,19 @@ module _ (t : tie.In-loop-k invariant-loop decreases-loop) where
   start = start_of st.args.r.now
 
   test : is_constraint (get_or s m.loop-k.at 0) ≡ true
-  test = sym t.before.constraint_at.ensures ∙ t.loop-k-test.taken
+  test = sym t.before.constraint_at.ensures ∙ t.loop-k-test.true
 
-  here : ConstraintAt m.loop-k.inv.0.tail.n s m.loop-k.at m.loop-k.inv.0.tail.k
-  here = opening-at s start whichever m.loop-k.at m.loop-k.i m.loop-k.inv.0 test
+  here : ConstraintAt m.loop-k.invariant.0.tail.n s m.loop-k.at m.loop-k.invariant.0.tail.k
+  here = opening-at s start whichever m.loop-k.at m.loop-k.i m.loop-k.invariant.0 test
 
   few : m.loop-k.i < 56
-  few = opening-few s start whichever m.loop-k.at m.loop-k.i m.loop-k.inv.0 test
+  few = opening-few s start whichever m.loop-k.at m.loop-k.i m.loop-k.invariant.0 test
 
 constraint-at-requires : tie.Need-constraint_at-requires invariant-loop decreases-loop
 constraint-at-requires c κs = search rules
 
 returns : tie.Need-returns-then-m-eq1 invariant-loop decreases-loop
-returns c = let v = (m c.before).loop-k.inv in let a = v.1 in let b = v.2 in (omega arith, omega arith)
+returns c = let v = (m c.before).loop-k.invariant in let a = v.1 in let b = v.2 in (omega arith, omega arith)
 
 constraint-keeps-requires : tie.Need-constraint_keeps-m-requires invariant-loop decreases-loop
 constraint-keeps-requires c κs =
@@ -81,8 +81,8 @@ constraint-keeps-requires c κs =
       row_loose a.s.now (length a.low.now) a.r.now p.1.few p.0.row,
       p.2,
       record { axis = axis (st t); from_size = back-within (omega arith) g1.gap-from.ensures.1; to_size = back-within (omega arith) g2.gap-to.ensures.1 },
-      record { whole = (here t).whole; body = (here t).body; few = few t; form = opening-form (s t) (start t) whichever l.at l.i l.inv.0 (test t) },
-      l.inv.1,
+      record { whole = (here t).whole; body = (here t).body; few = few t; form = opening-form (s t) (start t) whichever l.at l.i l.invariant.0 (test t) },
+      l.invariant.1,
     )
 
 next-requires : tie.Need-next-at-requires invariant-loop decreases-loop
@@ -100,7 +100,7 @@ loop-less c = let h = (here (turn c)).whole in let r = h.room in let w = h.known
 
 loop-again : tie.Need-loop-k-preserved invariant-loop decreases-loop
 loop-again c =
-    let t = turn c in let l = (m t).loop-k in let v = l.inv in let b = v.2 in let k = c.before.constraint_keeps-m.ensures in let d = k.1 in (
+    let t = turn c in let l = (m t).loop-k in let v = l.invariant in let b = v.2 in let k = c.before.constraint_keeps-m.ensures in let d = k.1 in (
       subst (λ (p : ℕ). Opening (s t) (start t) whichever p (l.i + 1)) (sym c.next-at.ensures) (opening-next (s t) (start t) whichever l.at l.i v.0 (test t) refl),
       k.0,
       omega arith,

@@ -1,4 +1,4 @@
-use mathlib.Core.Path.{◌≡◌, sym, ap, ap₂, ◌∙◌, subst}
+use mathlib.Core.Path.{◌≡◌, sym, ap₂, ◌∙◌, subst}
 use mathlib.Core.List.{List}
 use native.Mathlib.Omega.{arith}
 use Prim.Native.Nat.{ℕ, ◌+◌, ◌-◌}
@@ -19,11 +19,11 @@ settle-requires : tie.Need-settle-requires
 settle-requires c κs = search rules
 
 keeps-requires : tie.Need-keeps-m-requires
-keeps-requires c κs = let y = c.before in let st = y.before.before.before in (y.settle.ensures.0, st.requires.1, st.requires.4)
+keeps-requires c κs = let y = c in let st = y.before.before.before in (y.settle.ensures.0, st.requires.1, st.requires.4)
 
 returns : tie.Need-returns-then-m-eq1
 returns c =
-    let k = c.before in let y = k.before.before in let st = y.before.before.before in let h = st.requires.4 in
+    let k = c.before in let y = k.before in let st = y.before.before.before in let h = st.requires.4 in
     record { some = omega arith; few = omega arith; is = λ l. absurd (omega arith); row = y.settle.ensures.0.row; place = y.settle.ensures.1 }
 
 -- past the guess
@@ -32,7 +32,7 @@ module _ (e : tie.Else-m-eq1) where
   guessed = e.before
 
   abbrev settled : tie.After-settle
-  settled = guessed.before.before
+  settled = guessed.before
 
   abbrev st : tie.Start
   st = settled.before.before.before
@@ -64,14 +64,14 @@ lows-are x = x.raised-w.ensures.0
 
 can-hold-requires : tie.Need-can_hold-requires
 can-hold-requires c κs =
-    let x = c.before.before in let e = x.before in let a = (st e).args in let p = (st e).requires in let d = (settled e).settle.ensures.0 in (
-      subst (λ (u : List ℤ). Settled a.s.now a.k u a.high.now (settled e).settle.new.1.1.1.1.0) (sym (lows-are x)) (settled_up a.s.now a.k a.low.now a.high.now _ (m e - 1) d),
+    let x = c.before in let e = x.before in let a = (st e).args in let p = (st e).requires in let d = (settled e).settle.ensures.0 in (
+      subst (λ (u : List ℤ). Settled a.s.now a.k u a.high.now (settled e).settle.new.r) (sym (lows-are x)) (settled_up a.s.now a.k a.low.now a.high.now _ (m e - 1) d),
       subst (λ (u : List ℤ). Ends u a.high.now most_coordinate) (sym (lows-are x)) (ends-up a.k a.low.now a.high.now (m e - 1) p.1 p.2 (reach e)),
     )
 
 returns-2 : tie.Need-returns-then-can_hold
 returns-2 c =
-    let f = c.before in let x = f.before.before.before in let e = x.before in let a = (st e).args in let y = (settled e).settle.ensures in record {
+    let f = c.before in let x = f.before.before in let e = x.before in let a = (st e).args in let y = (settled e).settle.ensures in record {
       some = (guessed e).keeps-m.ensures.0;
       few = (guessed e).keeps-m.ensures.1;
       is = λ _. sym
@@ -83,7 +83,7 @@ returns-2 c =
 
 returns-3 : tie.Need-returns
 returns-3 c =
-    let f = c.before in let e = f.before.before.before.before in let h = (st e).requires.4 in let y = (settled e).settle.ensures in
+    let f = c.before in let e = f.before.before.before in let h = (st e).requires.4 in let y = (settled e).settle.ensures in
     record { some = omega arith; few = omega arith; is = λ l. absurd (omega arith); row = y.0.row; place = y.1 }
 
 pub keeping_run_spec : {M : Type 1} → statement M

@@ -28,7 +28,7 @@ array-share-prefix-ql c = search rules
 slice-aggregate-constraints-keep : tie.Need-slice_bounds-constraints_keep-end
 slice-aggregate-constraints-keep c =
     let d = c.before.before.before in let f = d.bounded-p.ensures.few in let l = d.bounded-p.ensures.lows in
-    omega (arith, length-take d.bounded-p.result.count d.bounded-p.new.1.1.1.1.1.0)
+    omega (arith, length-take d.bounded-p.result.count d.bounded-p.new.ql)
 
 array-share-prefix-qh : tie.Need-slice_bounds-qh-end
 array-share-prefix-qh c = search rules
@@ -36,12 +36,12 @@ array-share-prefix-qh c = search rules
 slice-aggregate-constraints-keep-2 : tie.Need-slice_bounds-constraints_keep-end-2
 slice-aggregate-constraints-keep-2 c =
     let d = c.before.before.before.before in let f = d.bounded-p.ensures.few in let l = d.bounded-p.ensures.highs in
-    omega (arith, length-take d.bounded-p.result.count d.bounded-p.new.1.1.1.1.1.1.0)
+    omega (arith, length-take d.bounded-p.result.count d.bounded-p.new.qh)
 
 constraints-keep-requires : tie.Need-constraints_keep-requires
 constraints-keep-requires c κs =
     let d = c.before.before.before.before in let st = d.before.before.before.before.before.before in let e = d.bounded-p.ensures in
-    let ql = d.bounded-p.new.1.1.1.1.1.0 in let qh = d.bounded-p.new.1.1.1.1.1.1.0 in let m = d.bounded-p.result.count in
+    let ql = d.bounded-p.new.ql in let qh = d.bounded-p.new.qh in let m = d.bounded-p.result.count in
     let f = e.few in let l = e.lows in let h = e.highs in (
       st.requires.0,
       st.requires.1,

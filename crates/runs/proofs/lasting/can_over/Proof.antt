@@ -30,19 +30,19 @@ array-share-prefix-ql c = search rules
 
 slice-aggregate-can-stand : tie.Need-slice_bounds-can_stand-end
 slice-aggregate-can-stand c =
-    let d = c.before.before.before in let f = d.bounded-p.ensures.few in let l = d.bounded-p.ensures.lows in omega (arith, length-take d.bounded-p.result.count d.bounded-p.new.1.1.1.1.1.0)
+    let d = c.before.before.before in let f = d.bounded-p.ensures.few in let l = d.bounded-p.ensures.lows in omega (arith, length-take d.bounded-p.result.count d.bounded-p.new.ql)
 
 array-share-prefix-qh : tie.Need-slice_bounds-qh-end
 array-share-prefix-qh c = search rules
 
 slice-aggregate-can-stand-2 : tie.Need-slice_bounds-can_stand-end-2
 slice-aggregate-can-stand-2 c =
-    let d = c.before.before.before.before in let f = d.bounded-p.ensures.few in let l = d.bounded-p.ensures.highs in omega (arith, length-take d.bounded-p.result.count d.bounded-p.new.1.1.1.1.1.1.0)
+    let d = c.before.before.before.before in let f = d.bounded-p.ensures.few in let l = d.bounded-p.ensures.highs in omega (arith, length-take d.bounded-p.result.count d.bounded-p.new.qh)
 
 can-stand-requires : tie.Need-can_stand-requires
 can-stand-requires c κs =
     let d = c.before.before.before.before in let st = d.before.before.before.before.before.before in let e = d.bounded-p.ensures in
-    let ql = d.bounded-p.new.1.1.1.1.1.0 in let qh = d.bounded-p.new.1.1.1.1.1.1.0 in let m = d.bounded-p.result.count in
+    let ql = d.bounded-p.new.ql in let qh = d.bounded-p.new.qh in let m = d.bounded-p.result.count in
     let f = e.few in let l = e.lows in let h = e.highs in
     (st.requires.0, st.requires.1, record { few = omega (arith, length-take m ql); same = omega (arith, length-take m ql, length-take m qh); lows = take_within 549755813888 ql m e.low_size; highs = take_within 549755813888 qh m e.high_size }, st.requires.2)
 

@@ -46,7 +46,7 @@ loop-less c = let h = c.before.loop-i-test.true in omega arith
 loop-again : tie.Need-loop-i-preserved invariant-loop decreases-loop
 loop-again c =
     let m = c.before.before in let st = m.before.before in
-    copying-next st.args.high.now m.loop-i.w m.loop-i.i m.loop-i.invariant st.requires.0 c.before.loop-i-test.true _ (to_z_of_z (within-fits (omega arith) (st.requires.2.at m.loop-i.i)))
+    copying-next st.args.high.now m.loop-i.w m.loop-i.i m.loop-i.invariant st.requires.0 c.before.loop-i-test.true _ (to_z_of_z {w = w64} (within-fits (omega arith) (st.requires.2.at m.loop-i.i)))
 
 mul-v : tie.Need-offset_bounds-high-k invariant-loop decreases-loop
 mul-v c = let p = c.before.before.before.requires in let a = p.0 in let b = p.1 in omega arith
@@ -61,7 +61,7 @@ sum_is : (c : tie.After-v-1 invariant-loop decreases-loop) → let st = c.before
     to_z w64 (of_z w64 (get_or st.args.high.now st.args.k (pos 0))) +ℤ to_z w64 st.args.up ≡ get_or st.args.high.now st.args.k (pos 0) +ℤ pos st.args.up
 sum_is c =
     let st = c.before.before.before.before in
-    ap₂ ◌+ℤ◌ (to_z_of_z (within-fits (omega arith) (st.requires.2.at st.args.k))) (to_z-nat w64 st.args.up 2097153 (omega (arith, st.requires.3)) tt)
+    ap₂ ◌+ℤ◌ (to_z_of_z {w = w64} (within-fits (omega arith) (st.requires.2.at st.args.k))) (to_z-nat w64 st.args.up 2097153 (omega (arith, st.requires.3)) tt)
 
 sum-size : (c : tie.After-v-1 invariant-loop decreases-loop) → let st = c.before.before.before.before in Within 3145728 (get_or st.args.high.now st.args.k (pos 0) +ℤ pos st.args.up)
 sum-size c =
