@@ -28,7 +28,7 @@ returns : tie.Need-returns
 returns c =
     let x = c.before.before in let w = x.before in let o = w.before.before in let s = o.before.before.before in
     record {
-      is = bare-is s.args.z (value_of o.widen-one.result) (value_of x.widen-x.result) w.set_cell.new.0 c.set_cell-2.new.0 o.widen-one.ensures.0 (simp (to_z-of_z s.ranges.z, to_z-of_z (word_fits s.ranges.z)) at x.widen-x.ensures.0) w.set_cell.ensures.is c.set_cell-2.ensures.is;
+      is = bare-is s.args.z (value_of o.widen-one.result) (value_of x.widen-x.result) w.set_cell.new.r c.set_cell-2.new.r o.widen-one.ensures.0 (simp (to_z-of_z s.ranges.z, to_z-of_z (word_fits s.ranges.z)) at x.widen-x.ensures.0) w.set_cell.ensures.is c.set_cell-2.ensures.is;
       sheet = c.set_cell-2.ensures.sheet;
       waits = blank;
     }

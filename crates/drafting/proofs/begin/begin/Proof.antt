@@ -30,7 +30,7 @@ loop-holds c =
       omega arith,
       e.sheet,
       e.waits,
-      put-start r s.args.place.now s.args.k (sketch_of c.bare.new.1.0 c.bare.new.1.1.0) (to_z w32 (of_z w32 r.constant)) e.is (to_z-of_z {w = w32} {z = r.constant} (record { sfits = o.struct_told-1.given.1.1.0.1 })),
+      put-start r s.args.place.now s.args.k (sketch_of c.bare.new.row c.bare.new.waiting) (to_z w32 (of_z w32 r.constant)) e.is (to_z-of_z {w = w32} {z = r.constant} (record { sfits = o.struct_told-1.given.1.1.0.1 })),
     )
 
 add-loop : tie.Need-overflow_add-k invariant-loop decreases-loop

@@ -15,7 +15,7 @@ returns : tie.Need-returns-then-i-lt64
 returns c =
     let t = c.before.before in let s = t.before in
     record {
-      is = put_low s.args.v s.args.i (value_of s.args.x) s.args.row.now s.args.waiting.now c.set_cell.new.0 t.if-i-lt64.true c.set_cell.ensures.is;
+      is = put_low s.args.v s.args.i (value_of s.args.x) s.args.row.now s.args.waiting.now c.set_cell.new.r t.if-i-lt64.true c.set_cell.ensures.is;
       sheet = s.requires.0;
       waits = c.set_cell.ensures.sheet;
     }
@@ -30,7 +30,7 @@ returns-2 : tie.Need-returns
 returns-2 c =
     let t = c.before.before in let s = t.before in
     record {
-      is = put-high s.args.v s.args.i (value_of s.args.x) s.args.row.now s.args.waiting.now c.set_cell-2.new.0 t.if-i-lt64.false c.set_cell-2.ensures.is;
+      is = put-high s.args.v s.args.i (value_of s.args.x) s.args.row.now s.args.waiting.now c.set_cell-2.new.r t.if-i-lt64.false c.set_cell-2.ensures.is;
       sheet = c.set_cell-2.ensures.sheet;
       waits = s.requires.1;
     }

@@ -22,7 +22,7 @@ returns : tie.Need-returns
 returns c =
     let b = c.before.before.before in let s = b.before.before.before.before in
     record {
-      is = rule-is (bound 128) s.args.k (rows_of s.args.t.now) s.args.place.now (constraint_of s.args.c) (sketch_of b.begin.new.1.1.1.0 b.begin.new.1.1.1.1.0) c.settle.result (cells c.settle.new.0) (cells c.settle.new.1.0) b.begin.ensures.is c.settle.ensures.is;
+      is = rule-is (bound 128) s.args.k (rows_of s.args.t.now) s.args.place.now (constraint_of s.args.c) (sketch_of b.begin.new.row b.begin.new.waiting) c.settle.result (cells c.settle.new.row) (cells c.settle.new.waiting) b.begin.ensures.is c.settle.ensures.is;
       sheet = c.settle.ensures.sheet;
     }
 

@@ -27,7 +27,7 @@ returns-2 : tie.Need-returns
 returns-2 c =
     let d = c.before.before in let s = d.before.before.before.before in
     record {
-      is = divided-is (size s.args.g) (sketch_of s.args.row.now s.args.waiting.now) (cells d.divide.new.0) (cells c.divide-2.new.0) d.divide.ensures.is c.divide-2.ensures.is;
+      is = divided-is (size s.args.g) (sketch_of s.args.row.now s.args.waiting.now) (cells d.divide.new.r) (cells c.divide-2.new.r) d.divide.ensures.is c.divide-2.ensures.is;
       sheet = d.divide.ensures.sheet;
       waits = c.divide-2.ensures.sheet;
     }

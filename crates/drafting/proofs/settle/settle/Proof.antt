@@ -38,7 +38,7 @@ settle-at-requires c κs =
 returns : tie.Need-returns-then-not-settle_at invariant-loop decreases-loop
 returns c =
     let a = c.before in let i = a.before.before.before in let l = i.before.loop-v in let s = i.before.before.before in let e = a.settle_at.ensures in
-    let o = sketch_of l.row l.waiting in let o' = sketch_of a.settle_at.new.0 a.settle_at.new.1.0 in
+    let o = sketch_of l.row l.waiting in let o' = sketch_of a.settle_at.new.row a.settle_at.new.waiting in
     record {
       is = sym l.invariant.4 ∙ settle-wide (bound 128) (rows_of s.args.t.now) s.args.place.now (8 + s.args.k) l.v o i.loop-v-test.true (e.is ∙ ap (λ (b : Bool). cond b (some o') none) (not-true a.settle_at.result c.if-not-settle_at.true-raw));
       sheet = e.sheet;
@@ -54,7 +54,7 @@ loop-less c = search rules
 loop-again : tie.Need-loop-v-preserved invariant-loop decreases-loop
 loop-again c =
     let a = c.before in let i = a.before.before.before in let l = i.before.loop-v in let s = i.before.before.before in let e = a.settle_at.ensures in
-    let rows = rows_of s.args.t.now in let place = s.args.place.now in let o = sketch_of l.row l.waiting in let o' = sketch_of a.settle_at.new.0 a.settle_at.new.1.0 in
+    let rows = rows_of s.args.t.now in let place = s.args.place.now in let o = sketch_of l.row l.waiting in let o' = sketch_of a.settle_at.new.row a.settle_at.new.waiting in
     let q = e.is ∙ ap (λ (b : Bool). cond b (some o') none) (not-false a.settle_at.result c.if-not-settle_at.false-raw) in (
       omega arith,
       e.sheet,

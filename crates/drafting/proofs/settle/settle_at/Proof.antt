@@ -20,7 +20,7 @@ use Rattle.drafting.proofs.settle.settle_at.Statement.{statement}
 use Rattle.drafting.proofs.settle.settle_at.Tie as tie
 
 abbrev start : tie.After-is_zero → tie.Start
-start c = c.before.before.before.before.before
+start c = c.before.before.before.before
 
 tested : (c : tie.After-is_zero) → let s = start c in c.is_zero.result ≡ is_zero (get_or (cells s.args.waiting.now) (s.args.v + 2) (pos 0))
 tested c =
@@ -69,15 +69,15 @@ shared-slice-element-replace c = let h = inside c.before.before.before in search
 
 replace-requires : tie.Need-replace-requires
 replace-requires c κs =
-    let e = c.before.before.before.before in let s = start e.before in let i = get_or s.args.place.now s.args.v 0 in let h = inside e in let t = s.args.t.now in
+    let e = c.before.before.before in let s = start e.before in let i = get_or s.args.place.now s.args.v 0 in let h = inside e in let t = s.args.t.now in
     let b : i < length (rows_of t) = omega (arith, h, rows-length t) in
     (s.requires.1, s.requires.2, s.requires.0.at i h, omega (arith, s.requires.5, s.requires.3.few), record { whole = s.requires.4.whole; line = subst (Line (s.args.k + 10)) (rows_at t i) (s.requires.3.line i b); over = subst (λ (l : List ℤ). pos 0 <ℤ den l) (rows_at t i) (s.requires.3.over i b) })
 
 returns-2 : tie.Need-returns
 returns-2 c =
-    let e = c.before.before.before.before.before in let z = e.before in let s = start z in let t = s.args.t.now in let o = sketch_of s.args.row.now s.args.waiting.now in let v = s.args.v in
+    let e = c.before.before.before.before in let z = e.before in let s = start z in let t = s.args.t.now in let o = sketch_of s.args.row.now s.args.waiting.now in let v = s.args.v in
     record {
-      is = settled-one (bound 128) (rows_of t) s.args.place.now v o (sym (tested z) ∙ e.if1.false) ∙ ap (λ (l : List ℤ). replaced_by (bound 128) v l o) (rows_at t (get_or s.args.place.now v 0)) ∙ c.replace.ensures.is;
+      is = settled-one (bound 128) (rows_of t) s.args.place.now v o (sym (tested z) ∙ e.if-is_zero.false) ∙ ap (λ (l : List ℤ). replaced_by (bound 128) v l o) (rows_at t (get_or s.args.place.now v 0)) ∙ c.replace.ensures.is;
       sheet = c.replace.ensures.sheet;
       waits = c.replace.ensures.waits;
     }

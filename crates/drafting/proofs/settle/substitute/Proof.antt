@@ -12,7 +12,7 @@ use Rattle.drafting.proofs.settle.substitute.Statement.{statement}
 use Rattle.drafting.proofs.settle.substitute.Tie as tie
 
 abbrev copied : tie.After-clear → tie.After-wipe
-copied c = c.before.before.before.before.before.before
+copied c = c.before.before.before.before.before
 
 abbrev start : tie.After-clear → tie.Start
 start c = (copied c).before.before.before.before
@@ -21,7 +21,7 @@ abbrev first : tie.After-combine-h → tie.After-combine-g
 first c = c.before.before.before
 
 parts : (c : tie.After-clear) → let s = start c in let n = c.before.before.before in
-    K.Parts s.args.v (cells s.args.r.now) (sketch_of s.args.row.now s.args.waiting.now) (value_of (copied c).before.before.before.cell_at-m.result) (value_of n.negate-c.result) (value_of c.before.before.zero-z.result) (cells (copied c).wipe.new.0) (cells c.clear.new.0)
+    K.Parts s.args.v (cells s.args.r.now) (sketch_of s.args.row.now s.args.waiting.now) (value_of (copied c).before.before.before.cell_at-m.result) (value_of n.negate-c.result) (value_of c.before.before.zero-z.result) (cells (copied c).wipe.new.r) (cells c.clear.new.r)
 parts c =
     let z = c.before.before in let n = z.before in
     record {
@@ -33,7 +33,7 @@ parts c =
     }
 
 lowest : (c : tie.After-gcd-d) → let y = c.before in let x = first y in let s = start x.before.before.before in
-    (0 < size c.gcd-d.result) × (divided_by (size c.gcd-d.result) (sketch_of x.combine-g.last.0 y.combine-h.new.0) ≡ substituted s.args.v (cells s.args.r.now) (sketch_of s.args.row.now s.args.waiting.now))
+    (0 < size c.gcd-d.result) × (divided_by (size c.gcd-d.result) (sketch_of x.combine-g.new.r y.combine-h.new.r) ≡ substituted s.args.v (cells s.args.r.now) (sketch_of s.args.row.now s.args.waiting.now))
 lowest c =
     let y = c.before in let x = first y in let k = x.before.before.before in
     let e : size c.gcd-d.result ≡ gcd (size x.combine-g.result) (size y.combine-h.result) = c.gcd-d.ensures in
