@@ -12,7 +12,7 @@ use lib.IntN.{ℤ, pos, nat_abs, ◌+ℤ◌, ◌-ℤ◌, +ℤ_assoc, +ℤ_idr}
 use lib.Signed.{le_z, ◌<ℤ◌}
 use lib.ListN.{length, get_or}
 use Rattle.integers.specs.Lin.{lt, lin, lia-lt, lia-no}
-use Rattle.model.specs.Lists.{all, cons_if, filter, All}
+use Rattle.model.specs.Lists.{cons_if, filter, All}
 use Rattle.model.proofs.Lists.{all_app, all-mapped}
 use Rattle.enumeration.specs.Search.{Interval, width, upright}
 use Rattle.enumeration.proofs.Walks.{Inside, In, Before, up, up_suc, side-index, index-side}

@@ -6,10 +6,9 @@ use mathlib.Core.Logic.{◌↔◌}
 use mathlib.Core.List.{List}
 use Prim.Native.Nat.{ℕ, ◌<◌}
 use native.Mathlib.Omega.{arith}
-use lib.Dec.{T}
 use lib.IntN.{ℤ}
 use lib.ListN.{length, take}
-use Rattle.model.specs.Sets.{Set, in_set}
+use Rattle.model.specs.Sets.{Set}
 use Rattle.model.specs.Existential.{ExistsIn}
 use Rattle.codec.specs.Bytes.{Answer, gives, decode}
 use Rattle.query.proofs.Means.{decoded-means}
