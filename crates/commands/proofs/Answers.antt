@@ -14,7 +14,7 @@ use Rattle.algebra.specs.Result.{table_of, Result}
 use Rattle.session.specs.Script.{room, set_at, fixed_width, set_numbers, fitting, load_bytes}
 use Rattle.listing.specs.Written.{put, Wrote}
 use Rattle.session.specs.Turns.{Memory, state_in, table_at, keeps, is_assignment, answer_of}
-use Rattle.commands.specs.Contracts.{Holds}
+use Rattle.commands.specs.Promises.{Holds}
 use Rattle.session.proofs.Commands.{by-command, set-at}
 
 pub load-operands : (b : ℕ) → b ≡ 0x40 → fixed_width b ≡ 4

@@ -19,7 +19,7 @@ use Rattle.listing.specs.Text as T
 use Rattle.session.specs.Script.{State, Done, set_at, is_binary, fixed_width, set_numbers, command_width, in_place, ending, says, ends, refused_line, opened, stored, told, member_line, search_line, coordinates, perform, execute}
 use Rattle.listing.specs.Written.{Wrote, Writes}
 use Rattle.session.specs.Turns.{Memory, state_in, table_at, keeps, Effect, none, listed, is_assignment, answer_of, performs, effect_of, shown, listing_of, memory_of, header_line, start_of}
-use Rattle.commands.specs.Contracts.{tells, done_line, first_line, Single, Told, CommandIs, Holds, saying}
+use Rattle.commands.specs.Promises.{tells, done_line, first_line, Single, Told, CommandIs, Holds, saying}
 use Rattle.commands.specs.declared.commands.CommandDone.{CommandDone}
 use Rattle.session.specs.declared.Listing.{Listing}
 use Rattle.session.specs.declared.Listing.TheVariants.{Nothing, From}

@@ -9,7 +9,7 @@ ghost use Rattle.session.specs.Script as S;
 ghost use Rattle.session.specs.Script.{room, set_numbers, coordinates, refused_line, member_line, search_line, execute};
 ghost use Rattle.listing.specs.Written.{Writes};
 ghost use Rattle.session.specs.Turns.{Fitted, state_in, answer_of, keeps, is_assignment, performs, effect_of, listed, listing_of, shown, memory_of};
-ghost use Rattle.commands.specs.Contracts.{Operands, Single, Performable, Usable, CommandIs, tells, done_line, first_line, Told, Holds, saying};
+ghost use Rattle.commands.specs.Promises.{Operands, Single, Performable, Usable, CommandIs, tells, done_line, first_line, Told, Holds, saying};
 ghost use Rattle.commands.specs.Found.{found_is};
 ghost use Rattle.session.specs.declared.Listing.TheVariants.{Nothing};
 
@@ -156,7 +156,7 @@ fn assign(
 ) -> usize
     requires { Fitted tables.old lengths.old × Operands b s.now × (is_assignment b ≡ true) × (length res.old ≡ room) × (512 ≤ length out.old) }
     ensures told { Writes 30 (tells done_line (answer_of (state_in axes tables.old lengths.old) b s.now)) out.old 0 result out.new }
-    ensures* kept { λ _. ⌜ Holds (keeps (record { tables = tables.entry.now; lengths = lengths.old; result = res.old }) (get_or s.now 0 0) (answer_of (state_in axes tables.entry.now lengths.old) b s.now)) tables.exit.now lengths.new res.new ⌝ }
+    ensures kept { Holds (keeps (record { tables = tables.old; lengths = lengths.old; result = res.old }) (get_or s.now 0 0) (answer_of (state_in axes tables.old lengths.old) b s.now)) tables.new lengths.new res.new }
 {
     let a = answer(b, axes, s, tables, lengths, res);
     match a {
@@ -213,7 +213,7 @@ fn print(
 ) -> usize
     requires { Performable axes b s.now tables.old lengths.old res.old out.old × (eqb b 0x45 ≡ false) }
     ensures told { Writes 512 (S.perform (state_in axes tables.old lengths.old) b s.now).text out.old 0 result out.new }
-    ensures* kept { λ _. ⌜ Holds (memory_of (record { tables = tables.entry.now; lengths = lengths.old; result = res.old }) (performs (state_in axes tables.entry.now lengths.old) b s.now)) tables.exit.now lengths.new res.new ⌝ }
+    ensures kept { Holds (memory_of (record { tables = tables.old; lengths = lengths.old; result = res.old }) (performs (state_in axes tables.old lengths.old) b s.now)) tables.new lengths.new res.new }
 {
     if b == 0x46 {
         let set = table(tables, lengths, byte(s, 0));
@@ -238,7 +238,7 @@ fn perform(
 ) -> CommandDone
     requires { Performable axes b s.now tables.old lengths.old res.old out.old }
     ensures told { Told (shown (S.perform (state_in axes tables.old lengths.old) b s.now).text (performs (state_in axes tables.old lengths.old) b s.now)) axes true (listing_of (performs (state_in axes tables.old lengths.old) b s.now)) result out.old out.new }
-    ensures* kept { λ _. ⌜ Holds (memory_of (record { tables = tables.entry.now; lengths = lengths.old; result = res.old }) (performs (state_in axes tables.entry.now lengths.old) b s.now)) tables.exit.now lengths.new res.new ⌝ }
+    ensures kept { Holds (memory_of (record { tables = tables.old; lengths = lengths.old; result = res.old }) (performs (state_in axes tables.old lengths.old) b s.now)) tables.new lengths.new res.new }
 {
     if b == 0x45 {
         let m = byte(s, 0);
@@ -259,7 +259,7 @@ pub fn command(
 ) -> CommandDone
     requires { Single axes c.now × Usable axes tables.old lengths.old res.old out.old }
     ensures told { CommandIs (execute (state_in axes tables.old lengths.old) c.now) (effect_of (state_in axes tables.old lengths.old) c.now) result out.old out.new }
-    ensures* kept { λ _. ⌜ Holds (memory_of (record { tables = tables.entry.now; lengths = lengths.old; result = res.old }) (effect_of (state_in axes tables.entry.now lengths.old) c.now)) tables.exit.now lengths.new res.new ⌝ }
+    ensures kept { Holds (memory_of (record { tables = tables.old; lengths = lengths.old; result = res.old }) (effect_of (state_in axes tables.old lengths.old) c.now)) tables.new lengths.new res.new }
 {
     let b = c[0];
     let s = codec::tail(c, 1);

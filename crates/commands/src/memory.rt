@@ -5,7 +5,7 @@ ghost use Rattle.algebra.specs.Result.{Result};
 ghost use Rattle.session.specs.Script.{room, load_bytes};
 ghost use Rattle.listing.specs.Written.{put};
 ghost use Rattle.session.specs.Turns.{Fitted, table_at, state_in, answer_of, is_assignment};
-ghost use Rattle.commands.specs.Contracts.{Operands};
+ghost use Rattle.commands.specs.Promises.{Operands};
 ghost use Rattle.results.specs.Outcome.{outcome_is};
 
 use listing::word;

@@ -16,7 +16,7 @@ use Rattle.session.specs.declared.Next.{Next}
 use Rattle.session.specs.declared.Next.TheVariants.{Goes, Reads, Ends, Misused}
 use Rattle.session.proofs.Turning.{turn-used, turn-short}
 use Rattle.session.proofs.Running.{never-misused}
-use Rattle.script.specs.Contracts.{TurnIs}
+use Rattle.script.specs.Promises.{TurnIs}
 use Rattle.script.specs.declared.turns.Turn.{Turn}
 use Rattle.pitsets.specs.Moving.{unused, Refilled}
 use Rattle.pitsets.specs.declared.Filled.{Filled}

@@ -14,8 +14,8 @@ use Rattle.codec.specs.Bytes.{is_opening, is_division, width_of, first_failing}
 use Rattle.session.specs.Script.{room, fixed_width, load_length, command_width, in_place, ending, refused_line, execute}
 use Rattle.listing.specs.Written.{Wrote, Writes}
 use Rattle.session.specs.Turns.{Memory, memory, state_of, effect_of, shown, memory_of, goes_on, Turned, quiet, state_at, line_of, past, there, line_turn, command_turn, front_turn, front_of, cursor_in, cursor_fits, usable}
-use Rattle.commands.specs.Contracts.{CommandIs, Holds, Single, Usable}
-use Rattle.script.specs.Contracts.{Says, TurnIs, CursorIn, silent_turn, after_turn}
+use Rattle.commands.specs.Promises.{CommandIs, Holds, Single, Usable}
+use Rattle.script.specs.Promises.{Says, TurnIs, CursorIn, silent_turn, after_turn}
 use Rattle.commands.specs.declared.commands.CommandDone.{CommandDone}
 use Rattle.session.specs.declared.Front.TheVariants.{Whole, More, Stop}
 use Rattle.session.specs.declared.Cursor.{Cursor}

@@ -6,7 +6,7 @@ use Rattle.commands.proofs.Answers.{answered-refused, answered-gives, kept-refus
 use Rattle.session.proofs.Commands.{number-good, numbers-one}
 use Rattle.listing.proofs.Writing.{writes-same}
 use Rattle.session.specs.Turns.{state_in, answer_of, memory}
-use Rattle.commands.specs.Contracts.{tells, done_line}
+use Rattle.commands.specs.Promises.{tells, done_line}
 use Rattle.results.specs.Outcome.{outcome_is}
 use Rattle.session.specs.Script.{room}
 use Rattle.codec.specs.Bytes.{Answer}

@@ -5,7 +5,7 @@ use Rattle.listing.proofs.Writing.{writes-same}
 use Rattle.listing.proofs.LineTexts.{one_number}
 use Rattle.listing.specs.Text.{codes}
 use Rattle.session.specs.Script.{search_line}
-use Rattle.commands.specs.Contracts.{tells}
+use Rattle.commands.specs.Promises.{tells}
 use Rattle.commands.specs.Found.{found_by}
 use Rattle.search.specs.declared.first.Outcome.{Outcome}
 use borrow.Author.Rules.{rules}

@@ -3,7 +3,7 @@ use Prim.Native.Nat.{◌-◌}
 use native.Mathlib.Omega.{arith}
 use Rattle.listing.proofs.Writing.{writes-same}
 use Rattle.session.specs.Script.{member_line}
-use Rattle.commands.specs.Contracts.{tells}
+use Rattle.commands.specs.Promises.{tells}
 use Rattle.query.specs.Member.{member_bytes}
 use Rattle.query.specs.Holding.{member_is}
 use Rattle.query.specs.declared.membership.Membership.{Membership}

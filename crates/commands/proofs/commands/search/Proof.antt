@@ -6,7 +6,7 @@ use lib.ListN.{take, drop}
 use Rattle.listing.proofs.Writing.{writes-same}
 use lib.IntN.{ℤ}
 use Rattle.session.specs.Script.{search_line, coordinates}
-use Rattle.commands.specs.Contracts.{tells}
+use Rattle.commands.specs.Promises.{tells}
 use Rattle.commands.specs.Found.{found_is}
 use Rattle.enumeration.specs.Search.{search_bytes}
 use Rattle.search.specs.Sides.{answer_of}

@@ -10,7 +10,7 @@ use Rattle.session.specs.declared.Cursor.{Cursor}
 use Rattle.session.specs.declared.State.{State}
 use Rattle.script.specs.declared.turns.Turn.{Turn}
 use Rattle.session.specs.declared.Next.{Next}
-use Rattle.commands.specs.Contracts.{Holds}
+use Rattle.commands.specs.Promises.{Holds}
 
 -- the contract of a turn: its text in the line, and every byte of the memory
 pub record Says (e : Turned) (r : Turn) (out out' : List ℕ) : Type 0 where
