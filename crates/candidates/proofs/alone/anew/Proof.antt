@@ -37,7 +37,7 @@ test-basic-requires c κs =
     let d = p.ensures.divs in
     let e = p.ensures.cons in
     let n = s.requires.1 in
-    (record { divs = omega arith; cons = omega arith; divisions = simp length-map at p.type_inv.1.1.0.1.0.1; constraints = simp length-map at p.type_inv.1.1.1.0.1.0.1 }, (omega arith, (search rules, search rules)))
+    (record { divs = omega arith; cons = omega arith; divisions = search rules; constraints = simp length-map at p.type_inv.1.1.1.0.1.0.1 }, (omega arith, (search rules, search rules)))
 
 is-kept-requires : tie.Need-is_kept-requires
 is-kept-requires c κs = search rules
@@ -50,7 +50,7 @@ returns c =
     let t = c.before.before.before.before in
     let p = made t in
     let s = p.before in
-    let l : length s.args.w.constraints ≡ 48 = simp length-map at s.good.0.1.1.1.0.1.0.1 in
+    let l : length s.args.w.constraints ≡ 48 = search rules in
     let k = s.requires.0.cons in
     let h : s.args.w.cons ≤ 48 = omega arith in
     c.is_kept.ensures ∙ ap C.is_kept t.test_basic-e.ensures.verdict_is ∙ ap C.keeps (p.put-q.ensures.is ∙ put_last s.args.w l h (constraint_of s.args.o))

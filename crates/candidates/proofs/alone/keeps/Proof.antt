@@ -13,8 +13,8 @@ use Rattle.carrying.proofs.test_basic.Reads as test-basic-reads
 test-basic-requires : tie.Need-test_basic-e-requires
 test-basic-requires c κs =
     let s = c.before.before.before.before.before in
-    let d : length s.args.b.divisions ≡ 8 = simp length-map at s.well_formed.0.1.1.0.1.0.1 in
-    let r : length s.args.b.constraints ≡ 48 = simp length-map at s.well_formed.0.1.1.1.0.1.0.1 in
+    let d : length s.args.b.divisions ≡ 8 = search rules in
+    let r : length s.args.b.constraints ≡ 48 = search rules in
     let t = s.requires.1 in
     let h = t.high in
     let l = t.long in

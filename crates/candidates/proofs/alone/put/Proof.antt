@@ -22,7 +22,7 @@ add-q c = search rules
 
 returns : tie.Need-returns
 returns c =
-    let l : length c.args.w.constraints ≡ 48 = simp length-map at c.well_formed.0.1.1.1.0.1.0.1 in
+    let l : length c.args.w.constraints ≡ 48 = search rules in
     let e = put_is c.args.w.constraints c.args.w.cons c.args.at c.args.r c.requires.0 (omega arith) in
     record { is = λ i. record { divisions = (basic_set_of c.args.w).divisions; constraints = e i }; divs = refl; cons = refl }
 

@@ -66,7 +66,7 @@ candidate-requires-2 c κs =
     let p = u.before.before in
     let s = start (lowered (lower p)) in
     let o = C.above (given p) in
-    (s.requires.0, (opposite-plain u.opposite_above-p.result (T.tight o) u.opposite_above-p.ensures (tight-kind o), (lower p).candidate-v.auto.1.1.1.1.1.1.1.1.0 ∙ s.requires.1.1))
+    (s.requires.0, (opposite-plain u.opposite_above-p.result (T.tight o) u.opposite_above-p.ensures (tight-kind o), (lower p).candidate-v.auto.spare ∙ s.requires.1.1))
 
 is-kept-requires-2 : tie.Need-is_kept-requires
 is-kept-requires-2 c κs = search rules
@@ -86,9 +86,9 @@ returns c =
     let s = start (lowered l) in
     let eq : is_equality (given p).kind ≡ true = ap (λ (b : Bool). is_equality (kind_is b)) u.before.if-equality.true in
     record {
-      is = λ b g n. let z = any_false p.is_IsWide.result c.is_wide.result n in record {
+      is = λ b g n. let z = any_false p.is_wide-far.result c.is_wide.result n in record {
         above = c.before.is_kept.ensures ∙ shared_keeps w.candidate-u.ensures s.requires.0.less b g (sym c.is_wide.ensures ∙ z.1) ∙ ap (λ o. C.keeps (candidate b o)) u.opposite_above-p.ensures ∙ sym (ap (λ (a : Bool). a && C.keeps (candidate b (T.tight (C.above (given p))))) eq);
-        below = p.before.is_kept-below.ensures ∙ shared_keeps l.candidate-v.ensures s.requires.0.less b g (sym p.is_IsWide.ensures ∙ z.0) ∙ ap (λ o. C.keeps (candidate b o)) (lowered l).opposite_below-o.ensures;
+        below = p.before.is_kept-below.ensures ∙ shared_keeps l.candidate-v.ensures s.requires.0.less b g (sym p.is_wide-far.ensures ∙ z.0) ∙ ap (λ o. C.keeps (candidate b o)) (lowered l).opposite_below-o.ensures;
       };
     }
 
@@ -104,7 +104,7 @@ returns-2 c =
     record {
       is = λ b g n. record {
         above = sym (ap (λ (a : Bool). a && C.keeps (candidate b (T.tight (C.above (given p))))) eq);
-        below = p.before.is_kept-below.ensures ∙ shared_keeps l.candidate-v.ensures s.requires.0.less b g (sym p.is_IsWide.ensures ∙ n) ∙ ap (λ o. C.keeps (candidate b o)) (lowered l).opposite_below-o.ensures;
+        below = p.before.is_kept-below.ensures ∙ shared_keeps l.candidate-v.ensures s.requires.0.less b g (sym p.is_wide-far.ensures ∙ n) ∙ ap (λ o. C.keeps (candidate b o)) (lowered l).opposite_below-o.ensures;
       };
     }
 

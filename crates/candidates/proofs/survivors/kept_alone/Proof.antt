@@ -50,7 +50,7 @@ anew-requires-2 : tie.Need-anew-above-requires
 anew-requires-2 c κs =
     let q = c.before.before.before in
     let p = (start (lowered q)).requires in
-    (p.0, q.before.anew-below.auto.1.1.0 ∙ p.2)
+    (p.0, q.before.anew-below.auto.spare ∙ p.2)
 
 same_length : tie.Need-shape_of-spare-then-equality
 same_length c = search rules

@@ -39,7 +39,7 @@ keep-requires c κs =
     let at-answer = c.before.before.before.before.before.before.before.before.before in let st = at-answer.before.before.before.before.before.before.before.before.before in
     let g = number-good _ 0 st.args.s.now st.requires.1.good (numbers-one st.args.b) in
     let e = c.before.byte.ensures.0 in
-    let k = at-answer.answer.auto.1.1.1.1.1.0 in
+    let k = at-answer.answer.auto.res in
     (st.requires.0.tables_long, st.requires.0.lengths_long, omega arith, omega arith)
 
 slice-aggregate-word : tie.Need-slice-aggregate-word
@@ -66,7 +66,7 @@ returns c =
     let st = at-answer.before.before.before.before.before.before.before.before.before in
     let x = subst
     (λ (o : Answer ℕ). Result room (answer_of (state_in st.args.axes st.args.tables.now st.args.lengths.now) st.args.b st.args.s.now) o
-    at-answer.answer.new.1.1.1.1.1.0)
+    at-answer.answer.new.res)
     (ap outcome_is at_a.a-1.given.1) at-answer.answer.ensures in
     let e = answered-refused _ x in (
       writes-same (omega arith) (ap (tells done_line) (sym e)) c.before.before.refused_line.ensures,
@@ -93,7 +93,7 @@ returns-2 c =
     let at-answer = at-a2.before.before.before.before in let st = at-answer.before.before.before.before.before.before.before.before.before in
     let x = subst
     (λ (o : Answer ℕ). Result room (answer_of (state_in st.args.axes st.args.tables.now st.args.lengths.now) st.args.b st.args.s.now) o
-    at-answer.answer.new.1.1.1.1.1.0)
+    at-answer.answer.new.res)
     (ap outcome_is at-a2.a2.given.1) at-answer.answer.ensures in
     let g = answered-gives _ x in (
       writes-same (omega arith) (ap (tells done_line) (sym g.is)) c.before.before.word.ensures,

@@ -59,7 +59,7 @@ returns-3 c =
     (sym
     (load_gives st.args.n st.args.set.now at-check.check.result at-check.check.ensures (set_from st.args.set.now 0)
     (decode_is st.args.n st.args.set.now (sym at-check.check.ensures ∙ at-if1.if1.false)) (omega arith)))
-    (record { answer = ap gives (let e = w.end_is in omega arith); bytes = c.before.before.clear-2.ensures ∙ loaded-table st.args.set.now st.args.res.now at-word.word.new.0 at-word.word.result st.requires (l ∙ st.requires) w })
+    (record { answer = ap gives (let e = w.end_is in omega arith); bytes = c.before.before.clear-2.ensures ∙ loaded-table st.args.set.now st.args.res.now at-word.word.new.out at-word.word.result st.requires (l ∙ st.requires) w })
 
 pub load_spec : {M : Type 1} → statement M
 load_spec =

@@ -23,7 +23,7 @@ same_length c = search rules
 returns : tie.Need-returns-then-k-ne0
 returns c =
     let x = c.before.before in let i = x.before.before in let k = i.before in let a = k.before.before.before.args in
-    subst (λ (y : Answer (List ℕ)). Result (length a.out.now) y (outcome_is x.refuse.result) x.refuse.new.1.0) (sym (k.box_refusal-k.ensures.outsides i.if-k-ne0.true (length a.out.now))) x.refuse.ensures
+    subst (λ (y : Answer (List ℕ)). Result (length a.out.now) y (outcome_is x.refuse.result) x.refuse.new.out) (sym (k.box_refusal-k.ensures.outsides i.if-k-ne0.true (length a.out.now))) x.refuse.ensures
 
 fitted : (c : tie.Else-k-ne0) → let a = c.before.before.before.before.args in Boxed a.n a.set.now a.lows a.highs
 fitted c = c.before.box_refusal-k.ensures.boxed c.if-k-ne0.false
@@ -37,7 +37,7 @@ same-length-2 c = search rules
 returns-2 : tie.Need-returns
 returns-2 c =
     let x = c.before.before in let e = x.before.before in let a = e.before.before.before.before.args in
-    subst (λ (y : Answer (List ℕ)). Result (length a.out.now) y (outcome_is x.taken.result) x.taken.new.1.1.1.1.0)
+    subst (λ (y : Answer (List ℕ)). Result (length a.out.now) y (outcome_is x.taken.result) x.taken.new.out)
     (sym (outside-checked a.n a.set.now a.lows a.highs (fitted e) (length a.out.now))) x.taken.ensures
 
 pub outside_spec : {M : Type 1} → statement M

@@ -18,8 +18,8 @@ same_length c = search rules
 returns : tie.Need-returns
 returns c =
     let f = c.before.before in let d = f.before.before.before.before in let b = d.before.before in let st = b.before.before.before in let a = st.args in
-    taken_is a.n a.set.now a.lows a.highs st.requires b.boxed-p.result b.boxed-p.ensures a.out.now _ f.finish.new.1.0 d.subtract_from-d.result f.finish.result
-    d.subtract_from-d.auto.1.1.0 d.subtract_from-d.ensures f.finish.ensures
+    taken_is a.n a.set.now a.lows a.highs st.requires b.boxed-p.result b.boxed-p.ensures a.out.now _ f.finish.new.out d.subtract_from-d.result f.finish.result
+    d.subtract_from-d.auto.out d.subtract_from-d.ensures f.finish.ensures
 
 pub taken_spec : {M : Type 1} → statement M
 taken_spec =

@@ -29,14 +29,14 @@ same_length c = search rules
 returns : tie.Need-returns-then-k-ne0
 returns c =
     let x = c.before.before.before in let i = x.before.before in let k = i.before in let a = k.before.before.before.args in
-    told-refused a.n a.set.now a.lows a.highs a.inside a.outside (length a.out.now) k.range_refusal-k.result _ _ (k.range_refusal-k.ensures.ranges i.if-k-ne0.taken (length a.out.now))
+    told-refused a.n a.set.now a.lows a.highs a.inside a.outside (length a.out.now) k.range_refusal-k.result _ _ (k.range_refusal-k.ensures.ranges i.if-k-ne0.true (length a.out.now))
     c.plain.ensures x.refuse.ensures.bytes
 
 abbrev begun : tie.Else-k-ne0 → tie.Start
 begun c = c.before.before.before.before
 
 asking : (c : tie.Else-k-ne0) → let a = (begun c).args in Asking a.n a.set.now a.lows a.highs a.inside a.outside
-asking c = c.before.range_refusal-k.ensures.asking c.if-k-ne0.left
+asking c = c.before.range_refusal-k.ensures.asking c.if-k-ne0.false
 
 taken-requires : tie.Need-taken-o-requires
 taken-requires c κs = (asking c.before).boxed
@@ -61,10 +61,10 @@ eight : (c : tie.Start) → (length c.args.lows ≡ 8) × (length c.args.highs �
 eight c = (search rules, search rules)
 
 given : (c : tie.In-Length-2) → let a = (begun (at-else c)).args in
-    Result (length a.out.now) (outside_result a.n (length a.out.now) a.lows a.highs (set_from a.set.now 0)) (gives c.o-in-Length-1.given.0.0) (at-taken c).taken-o.last.1.1.1.1.0
+    Result (length a.out.now) (outside_result a.n (length a.out.now) a.lows a.highs (set_from a.set.now 0)) (gives c.o-in-Length-1.given.0.0) (at-taken c).taken-o.new.out
 given c =
     let x = at-taken c in let a = (begun (at-else c)).args in
-    subst (λ (o : Outcome). Result (length a.out.now) (outside_result a.n (length a.out.now) a.lows a.highs (set_from a.set.now 0)) (outcome_is o) x.taken-o.last.1.1.1.1.0) c.o-in-Length-1.given.1
+    subst (λ (o : Outcome). Result (length a.out.now) (outside_result a.n (length a.out.now) a.lows a.highs (set_from a.set.now 0)) (outcome_is o) x.taken-o.new.out) c.o-in-Length-1.given.1
     x.taken-o.ensures
 
 searched-requires : tie.Need-searched-requires
@@ -82,7 +82,7 @@ returns-2 : tie.Need-returns-in-Refused
 returns-2 c =
     let o = c.before.before in let x = o.before.before.before.before in let e = x.before.before in let a = (begun e).args in
     told_over a.n a.set.now a.lows a.highs a.inside a.outside (length a.out.now) (asking e) o.o-1.given.0.0 _ _
-    (subst (λ (y : Outcome). Result (length a.out.now) (outside_result a.n (length a.out.now) a.lows a.highs (set_from a.set.now 0)) (outcome_is y) x.taken-o.last.1.1.1.1.0) o.o-1.given.1
+    (subst (λ (y : Outcome). Result (length a.out.now) (outside_result a.n (length a.out.now) a.lows a.highs (set_from a.set.now 0)) (outcome_is y) x.taken-o.new.out) o.o-1.given.1
     x.taken-o.ensures)
     c.plain-in-Refused.ensures
 

@@ -28,10 +28,10 @@ abbrev joined : tie.At-loop-k invariant-loop decreases-loop → tie.Else-not-fit
 joined c = c.before.before.before
 
 first-long : (c : tie.Start invariant-loop decreases-loop) → length c.args.a.constraints ≡ 48
-first-long c = simp length-map at c.well_formed.0.1.1.1.0.1.0.1
+first-long c = search rules
 
 second-long : (c : tie.Start invariant-loop decreases-loop) → length c.args.c.constraints ≡ 48
-second-long c = simp length-map at c.well_formed.1.0.1.1.1.0.1.0.1
+second-long c = search rules
 
 fits-is : (c : tie.Else-not-fits invariant-loop decreases-loop) → c.before.join-j.result.fits ≡ true
 fits-is c = not-false c.before.join-j.result.fits c.if-not-fits.false-raw
@@ -103,7 +103,7 @@ loop-again c =
     let e = joined l in
     let s = start e in
     let j = e.before.join-j in
-    (omega arith, gathered-more s.args.a s.args.c j.result s.requires j.ensures (first-long s) (second-long s) (fits-is e) l.loop-k.k l.loop-k.set.constraints l.loop-k.inv.1 (omega arith) (room l) c.moved-r.result c.moved-r.ensures)
+    (omega arith, gathered-more s.args.a s.args.c j.result s.requires j.ensures (first-long s) (second-long s) (fits-is e) l.loop-k.k l.loop-k.set.constraints l.loop-k.invariant.1 (omega arith) (room l) c.moved-r.result c.moved-r.ensures)
 
 add-set : tie.Need-overflow_add-set invariant-loop decreases-loop
 add-set c = let h = room c.before.before in omega arith

@@ -62,10 +62,10 @@ abbrev followed : tie.After-cols-in-loop-k-2-1 invariant-loop decreases-loop →
 followed c = c.before.before.before.before.before
 
 first-long : (c : tie.Start invariant-loop decreases-loop) → length c.args.a.constraints ≡ 48
-first-long c = simp length-map at c.well_formed.0.1.1.1.0.1.0.1
+first-long c = search rules
 
 second-long : (c : tie.Start invariant-loop decreases-loop) → length c.args.c.constraints ≡ 48
-second-long c = simp length-map at c.well_formed.1.0.1.1.1.0.1.0.1
+second-long c = search rules
 
 -- once joined
 opened : (c : tie.Else-not-fits invariant-loop decreases-loop) → Opened (entered c).args.a (entered c).args.c c.before.before.before.before.join-j.result (stepped c.before.begin-s.result.working c.before.begin-s.result.steps c.before.begin-s.result.count)
@@ -91,7 +91,7 @@ turning c = opened-turning (opened (joins (in-turn c).before)) (in-turn c).befor
 
 -- its candidates, by the shared tests, or alone where one of those is wide
 spare-long : (c : tie.After-kept-arg5 invariant-loop decreases-loop) → length (in-turn (ruled c)).before.loop-k.spare ≡ 64
-spare-long c = let l = (in-turn (ruled c)).before in l.loop.inv.2 ∙ (entered (joins l)).requires.2.high
+spare-long c = let l = (in-turn (ruled c)).before in l.loop-k.invariant.2 ∙ (entered (joins l)).requires.2.high
 
 judged : (c : tie.Joined-far invariant-loop decreases-loop) → Keeping (basic_set_of (in-turn (ruled (tried c))).before.loop-k.w) (constraint_of (ruled (tried c)).joining_rule-r.result) c.if-far.x
 judged c =
@@ -105,14 +105,14 @@ judged c =
 
 spare-kept : (c : tie.Joined-far invariant-loop decreases-loop) → length c.if-far.spare ≡ length (in-turn (ruled (tried c))).before.loop-k.spare
 spare-kept c =
-    let k = c.before.before.kept-x.auto.1.1.1.1.1.1.1.1.0 in
+    let k = c.before.before.kept-x.auto.spare in
     ⊎_elim (λ y. ap length y.4 ∙ y.2.kept.1.1.0 ∙ k) (λ y. ap length y.1 ∙ k) c.if-far.branch
 
 -- once it has joined, or has not
-turn : (c : tie.After-one invariant-loop decreases-loop) → Turned (stepped (in-turn (ruled (tried (settled c)))).before.loop-k.w (in-turn (ruled (tried (settled c)))).before.loop-k.steps (in-turn (ruled (tried (settled c)))).before.loop-k.count) (ruled (tried (settled c))).joining_rule-r.result (settled c).if-far.x (stepped (lengthened (in-turn (ruled (tried (settled c)))).before.loop-k.w (ruled (tried (settled c))).joining_rule-r.result c.one.result) c.before.before.before.mark-count.new.0 c.before.before.before.mark-count.result)
+turn : (c : tie.After-one invariant-loop decreases-loop) → Turned (stepped (in-turn (ruled (tried (settled c)))).before.loop-k.w (in-turn (ruled (tried (settled c)))).before.loop-k.steps (in-turn (ruled (tried (settled c)))).before.loop-k.count) (ruled (tried (settled c))).joining_rule-r.result (settled c).if-far.x (stepped (lengthened (in-turn (ruled (tried (settled c)))).before.loop-k.w (ruled (tried (settled c))).joining_rule-r.result c.one.result) c.before.before.before.mark-count.new.steps c.before.before.before.mark-count.result)
 turn c =
     let t = ruled (tried (settled c)) in
-    let l = (in-turn t).before.loop-k.inv.4 in
+    let l = (in-turn t).before.loop-k.invariant.4 in
     let m = (turning t).extending.cons in
     turned (omega arith) (judged (settled c)) c.before.before.before.mark-count.ensures c.before.either-on.result c.before.either-on.ensures c.one.result c.one.ensures
 
@@ -142,8 +142,8 @@ start-requires c κs =
       record {
         divs = let e = b.ensures.divs in let z = j.before.before.before.before.join-j.ensures.few in omega arith;
         cons = let e = b.ensures.cons in let z = p.0.cons in omega arith;
-        divisions = simp length-map at b.type_inv.1.1.0.1.1.0.1.0.1;
-        constraints = simp length-map at b.type_inv.1.1.0.1.1.1.0.1.0.1;
+        divisions = search rules;
+        constraints = search rules;
       },
       record { high = p.1.high; long = p.1.long; wide = p.1.wide; many = p.2.many; many' = refl },
     )
@@ -156,19 +156,19 @@ loop-holds c =
     let g = u.ensures in
     let hd : b.result.working.divs ≤ 8 = let e = b.ensures.divs in let z = j.before.before.before.before.join-j.ensures.few in omega arith in
     let hc : b.result.working.cons ≤ 48 = let e = b.ensures.cons in let z = (entered j).requires.0.cons in omega arith in
-    (opened-start (opened j) u.new.1.0 u.new.1.1.0 u.new.1.1.1.0, caught-behind g hd hc, refl, λ z. caught-all g, simp length-map at b.type_inv.1.1.0.1.1.1.0.1.0.1, simp length-map at b.type_inv.1.1.1.0.1.0.1)
+    (opened-start (opened j) u.new.rows u.new.place u.new.kinds, caught-behind g hd hc, refl, λ z. caught-all g, search rules, search rules)
 
 told-requires : tie.Need-told-requires invariant-loop decreases-loop
 told-requires c κs = search rules
 
 same_length : tie.Need-shape_of-rows-then-at-eq-CONSTRAINTS invariant-loop decreases-loop
-same_length c = let l = c.before.before.before in l.loop-k.invariant.0.high ∙ l.before.before.before.before.before.before.before.before.start-h.auto.1.0
+same_length c = let l = c.before.before.before in l.loop-k.invariant.0.high ∙ l.before.before.before.before.before.before.before.before.start-h.auto.rows
 
 same-length-2 : tie.Need-shape_of-place-then-at-eq-CONSTRAINTS invariant-loop decreases-loop
-same-length-2 c = let l = c.before.before.before in l.loop-k.invariant.0.long ∙ l.before.before.before.before.before.before.before.before.start-h.auto.1.1.0
+same-length-2 c = let l = c.before.before.before in l.loop-k.invariant.0.long ∙ l.before.before.before.before.before.before.before.before.start-h.auto.place
 
 same-length-3 : tie.Need-shape_of-kinds-then-at-eq-CONSTRAINTS invariant-loop decreases-loop
-same-length-3 c = let l = c.before.before.before in l.loop-k.invariant.0.wide ∙ l.before.before.before.before.before.before.before.before.start-h.auto.1.1.1.0
+same-length-3 c = let l = c.before.before.before in l.loop-k.invariant.0.wide ∙ l.before.before.before.before.before.before.before.before.start-h.auto.kinds
 
 same-length-4 : tie.Need-shape_of-past-then-at-eq-CONSTRAINTS invariant-loop decreases-loop
 same-length-4 c = let l = c.before.before.before in l.loop-k.invariant.1.stands.many ∙ sym (entered (joins l)).requires.2.many
@@ -192,7 +192,7 @@ joining-rule-requires : tie.Need-joining_rule-r-requires invariant-loop decrease
 joining-rule-requires c κs = let j = joins c.before.before.before in ((entered j).requires.0.divs', opened-placed (opened j))
 
 slice-aggregate-kept : tie.Need-slice_bounds-kept-end invariant-loop decreases-loop
-slice-aggregate-kept c = sym (in-turn c.before.before.before.before.before).before.loop-k.inv.1.stands.many'
+slice-aggregate-kept c = sym (in-turn c.before.before.before.before.before).before.loop-k.invariant.1.stands.many'
 
 kept-requires : tie.Need-kept-x-requires invariant-loop decreases-loop
 kept-requires c κs =
@@ -205,13 +205,13 @@ kept-alone-requires c κs =
     let k = c.before.before.before in
     let r = ruled k.before in
     let e = (turning r).extending in
-    (record { divs = e.divs; cons = e.cons }, opposed e.n _ r.joining_rule-r.result (turning r).settled e.new, k.kept-x.auto.1.1.1.1.1.1.1.1.0 ∙ spare-long k.before)
+    (record { divs = e.divs; cons = e.cons }, opposed e.n _ r.joining_rule-r.result (turning r).settled e.new, k.kept-x.auto.spare ∙ spare-long k.before)
 
 slice-aggregate-mark : tie.Need-slice_bounds-mark-end invariant-loop decreases-loop
-slice-aggregate-mark c = sym (in-turn (ruled (tried c.before))).before.loop-k.inv.5
+slice-aggregate-mark c = sym (in-turn (ruled (tried c.before))).before.loop-k.invariant.5
 
 mark-requires : tie.Need-mark-count-requires invariant-loop decreases-loop
-mark-requires c κs = let r = ruled (tried c.before) in let t = turning r in let m = t.extending.cons in let n = t.count in let l = (in-turn r).before.loop-k.inv.5 in (m, omega arith)
+mark-requires c κs = let r = ruled (tried c.before) in let t = turning r in let m = t.extending.cons in let n = t.count in let l = (in-turn r).before.loop-k.invariant.5 in (m, omega arith)
 
 either-requires : tie.Need-either-on-requires invariant-loop decreases-loop
 either-requires c κs = search rules
@@ -229,19 +229,19 @@ add-w : tie.Need-overflow_add-w invariant-loop decreases-loop
 add-w c = let m = (turning (ruled (tried (settled c)))).extending.cons in let k = c.one.ensures in let j = bit-small c.before.either-on.result in omega arith
 
 passed-requires : tie.Need-passed-k-requires invariant-loop decreases-loop
-passed-requires c κs = (in-turn (ruled (tried (settled c)))).loop-k-test.taken
+passed-requires c κs = (in-turn (ruled (tried (settled c)))).loop-k-test.true
 
 -- the next constraint
 later : (c : tie.After-passed-k invariant-loop decreases-loop) → ((in-turn (ruled (tried (settled c.before)))).before.loop-k.k < c.passed-k.result) × (c.passed-k.result ≤ (entered (joins (in-turn (ruled (tried (settled c.before)))).before)).args.c.cons)
 later c =
     let r = ruled (tried (settled c.before)) in
-    passed_on (c.before.before.either-on.result && void (constraint_of r.joining_rule-r.result)) _ _ _ (in-turn r).loop-k-test.taken c.passed-k.ensures
+    passed_on (c.before.before.either-on.result && void (constraint_of r.joining_rule-r.result)) _ _ _ (in-turn r).loop-k-test.true c.passed-k.ensures
 
 sub-left : tie.Need-overflow_sub-left invariant-loop decreases-loop
 sub-left c = (later c).1
 
 slice-aggregate-follow : tie.Need-slice_bounds-follow-end invariant-loop decreases-loop
-slice-aggregate-follow c = sym (in-turn (ruled (tried (settled (followed c).before)))).before.loop-k.inv.1.stands.many'
+slice-aggregate-follow c = sym (in-turn (ruled (tried (settled (followed c).before)))).before.loop-k.invariant.1.stands.many'
 
 follow-requires : tie.Need-follow-h-requires invariant-loop decreases-loop
 follow-requires c κs = let r = ruled (tried (settled (followed c).before)) in let e = (turning r).extending in caught-growing (caught (in-turn r)) e.divs e.cons
@@ -258,34 +258,34 @@ loop-again c =
     let r = ruled (tried (settled o)) in
     let it = in-turn r in
     let l = it.before.loop-k in
-    let i = l.inv in
+    let i = l.invariant in
     let j = joins it.before in
     let cons = (entered j).args.c.cons in
     let v = turning r in
     let t = turn o in
     let f = behind-followed t (caught it) v.extending.divs v.extending.cons p.either-on.result p.either-on.ensures (cons - pd.passed-k.result) u.follow-h.ensures in (
-      opened-next (opened j) i.0 it.loop-k-test.taken r.before.before.if-at-eq-CONSTRAINTS.left r.joining_rule-r.ensures t pd.passed-k.result
+      opened-next (opened j) i.0 it.loop-k-test.true r.before.before.if-at-eq-CONSTRAINTS.false r.joining_rule-r.ensures t pd.passed-k.result
           (pd.passed-k.ensures ∙ ap (λ (b : Bool). cond (b && void (constraint_of r.joining_rule-r.result)) cons (l.k + 1)) p.either-on.ensures)
-          u.follow-h.new.1.1.1.1.1.0 u.follow-h.new.1.1.1.1.1.1.0 u.follow-h.new.1.1.1.1.1.1.1.0
-          u.follow-h.auto.1.1.1.1.1.0 u.follow-h.auto.1.1.1.1.1.1.0 u.follow-h.auto.1.1.1.1.1.1.1.0,
+          u.follow-h.new.rows u.follow-h.new.place u.follow-h.new.kinds
+          u.follow-h.auto.rows u.follow-h.auto.place u.follow-h.auto.kinds,
       f.0,
       spare-kept (settled o) ∙ i.2,
       λ y. f.1 (omega arith),
       length-set l.w.constraints l.w.cons r.joining_rule-r.result ∙ i.4,
-      o.before.before.before.mark-count.kept.0 ∙ i.5,
+      o.before.before.before.mark-count.auto.steps ∙ i.5,
     )
 
 told-requires-2 : tie.Need-told-requires-2 invariant-loop decreases-loop
 told-requires-2 c κs = search rules
 
 same-length-6 : tie.Need-shape_of-rows invariant-loop decreases-loop
-same-length-6 c = let l = c.before.before in l.loop-k.invariant.0.high ∙ l.before.before.before.before.before.before.before.before.start-h.auto.1.0
+same-length-6 c = let l = c.before.before in l.loop-k.invariant.0.high ∙ l.before.before.before.before.before.before.before.before.start-h.auto.rows
 
 same-length-7 : tie.Need-shape_of-place invariant-loop decreases-loop
-same-length-7 c = let l = c.before.before in l.loop-k.invariant.0.long ∙ l.before.before.before.before.before.before.before.before.start-h.auto.1.1.0
+same-length-7 c = let l = c.before.before in l.loop-k.invariant.0.long ∙ l.before.before.before.before.before.before.before.before.start-h.auto.place
 
 same-length-8 : tie.Need-shape_of-kinds invariant-loop decreases-loop
-same-length-8 c = let l = c.before.before in l.loop-k.invariant.0.wide ∙ l.before.before.before.before.before.before.before.before.start-h.auto.1.1.1.0
+same-length-8 c = let l = c.before.before in l.loop-k.invariant.0.wide ∙ l.before.before.before.before.before.before.before.before.start-h.auto.kinds
 
 same-length-9 : tie.Need-shape_of-past invariant-loop decreases-loop
 same-length-9 c = let l = c.before.before in l.loop-k.invariant.1.stands.many ∙ sym (entered (joins l)).requires.2.many

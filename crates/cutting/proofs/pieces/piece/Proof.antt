@@ -41,35 +41,35 @@ tight-above-requires : tie.Need-tight_above-p-requires
 tight-above-requires c κs =
     let a = c.before.before.args in
     let s = c.before.before.requires in
-    let l : length a.t1.constraints ≡ 48 = simp length-map at c.before.before.well_formed.0.1.1.1.0.1.0.1 in
-    let w : length (take a.t1.cons a.t1.constraints) ≡ a.t1.cons = length-take-le a.t1.cons a.t1.constraints (let z = s.sound.cons in omega arith) in
-    let h : a.v / 2 < a.t1.cons = omega (arith, s.step.inside, length-map (take a.t1.cons a.t1.constraints) constraint_of) in
-    let e = read_is a.t1.constraints a.t1.cons (a.v / 2) h in
-    let u : ValidConstraint s.sound.n (length (basic_set_of a.t1).divisions) (constraint_of (get_or a.t1.constraints (a.v / 2) no_constraint)) =
-    subst (ValidConstraint s.sound.n (length (basic_set_of a.t1).divisions)) e (All-at (ValidConstraint s.sound.n (length (basic_set_of a.t1).divisions)) (basic_set_of a.t1).constraints (a.v / 2) no_rule s.step.inside s.sound.valid.constraints) in
+    let l : length a.w.constraints ≡ 48 = search rules in
+    let w : length (take a.w.cons a.w.constraints) ≡ a.w.cons = length-take-le a.w.cons a.w.constraints (let z = s.sound.cons in omega arith) in
+    let h : a.v / 2 < a.w.cons = omega (arith, s.step.inside, length-map (take a.w.cons a.w.constraints) constraint_of) in
+    let e = read_is a.w.constraints a.w.cons (a.v / 2) h in
+    let u : ValidConstraint s.sound.n (length (basic_set_of a.w).divisions) (constraint_of (get_or a.w.constraints (a.v / 2) no_constraint)) =
+    subst (ValidConstraint s.sound.n (length (basic_set_of a.w).divisions)) e (All-at (ValidConstraint s.sound.n (length (basic_set_of a.w).divisions)) (basic_set_of a.w).constraints (a.v / 2) no_rule s.step.inside s.sound.valid.constraints) in
     above_of (ap (λ (x : S.Constraint). x.kind) (sym e) ∙ s.step.equal c.if-v-eq1.true) u
 
 put-requires : tie.Need-put-requires
 put-requires c κs =
     let a = c.before.before.before.args in
     let s = c.before.before.before.requires in
-    let l : length a.t1.constraints ≡ 48 = simp length-map at c.before.before.before.well_formed.0.1.1.1.0.1.0.1 in
-    let w : length (take a.t1.cons a.t1.constraints) ≡ a.t1.cons = length-take-le a.t1.cons a.t1.constraints (let z = s.sound.cons in omega arith) in
-    let h : a.v / 2 < a.t1.cons = omega (arith, s.step.inside, length-map (take a.t1.cons a.t1.constraints) constraint_of) in
-    let e = read_is a.t1.constraints a.t1.cons (a.v / 2) h in
+    let l : length a.w.constraints ≡ 48 = search rules in
+    let w : length (take a.w.cons a.w.constraints) ≡ a.w.cons = length-take-le a.w.cons a.w.constraints (let z = s.sound.cons in omega arith) in
+    let h : a.v / 2 < a.w.cons = omega (arith, s.step.inside, length-map (take a.w.cons a.w.constraints) constraint_of) in
+    let e = read_is a.w.constraints a.w.cons (a.v / 2) h in
     let z = s.sound.cons in (omega arith, omega arith)
 
 returns : tie.Need-returns-then-v-eq1
 returns c =
     let a = c.before.before.before.before.args in
     let s = c.before.before.before.before.requires in
-    let l : length a.t1.constraints ≡ 48 = simp length-map at c.before.before.before.before.well_formed.0.1.1.1.0.1.0.1 in
-    let w : length (take a.t1.cons a.t1.constraints) ≡ a.t1.cons = length-take-le a.t1.cons a.t1.constraints (let z = s.sound.cons in omega arith) in
-    let h : a.v / 2 < a.t1.cons = omega (arith, s.step.inside, length-map (take a.t1.cons a.t1.constraints) constraint_of) in
-    let e = read_is a.t1.constraints a.t1.cons (a.v / 2) h in
-    let o : T.tight (C.above (get_or (basic_set_of a.t1).constraints (a.v / 2) no_rule)) ≡ constraint_of c.before.tight_above-p.result = ap (λ (x : S.Constraint). T.tight (C.above x)) e ∙ sym c.before.tight_above-p.ensures in
+    let l : length a.w.constraints ≡ 48 = search rules in
+    let w : length (take a.w.cons a.w.constraints) ≡ a.w.cons = length-take-le a.w.cons a.w.constraints (let z = s.sound.cons in omega arith) in
+    let h : a.v / 2 < a.w.cons = omega (arith, s.step.inside, length-map (take a.w.cons a.w.constraints) constraint_of) in
+    let e = read_is a.w.constraints a.w.cons (a.v / 2) h in
+    let o : T.tight (C.above (get_or (basic_set_of a.w).constraints (a.v / 2) no_rule)) ≡ constraint_of c.before.tight_above-p.result = ap (λ (x : S.Constraint). T.tight (C.above x)) e ∙ sym c.before.tight_above-p.ensures in
     record {
-      is = c.put.ensures.is ∙ sym (ap₂ (λ (b : Bool) (x : S.Constraint). with_last (basic_set_of a.t1) (a.v / 2) (cond b x (T.tight (C.below (get_or (basic_set_of a.t1).constraints (a.v / 2) no_rule))))) (eq-eqb (a.v % 2) 1 c.before.before.if-v-eq1.true) o);
+      is = c.put.ensures.is ∙ sym (ap₂ (λ (b : Bool) (x : S.Constraint). with_last (basic_set_of a.w) (a.v / 2) (cond b x (T.tight (C.below (get_or (basic_set_of a.w).constraints (a.v / 2) no_rule))))) (eq-eqb (a.v % 2) 1 c.before.before.if-v-eq1.true) o);
       divs = c.put.ensures.divs;
       cons = let z = s.sound.cons in let y = c.put.ensures.cons in omega arith;
     }
@@ -78,35 +78,35 @@ tight-below-requires : tie.Need-tight_below-o-requires
 tight-below-requires c κs =
     let a = c.before.before.args in
     let s = c.before.before.requires in
-    let l : length a.t1.constraints ≡ 48 = simp length-map at c.before.before.well_formed.0.1.1.1.0.1.0.1 in
-    let w : length (take a.t1.cons a.t1.constraints) ≡ a.t1.cons = length-take-le a.t1.cons a.t1.constraints (let z = s.sound.cons in omega arith) in
-    let h : a.v / 2 < a.t1.cons = omega (arith, s.step.inside, length-map (take a.t1.cons a.t1.constraints) constraint_of) in
-    let e = read_is a.t1.constraints a.t1.cons (a.v / 2) h in
-    let u : ValidConstraint s.sound.n (length (basic_set_of a.t1).divisions) (constraint_of (get_or a.t1.constraints (a.v / 2) no_constraint)) =
-    subst (ValidConstraint s.sound.n (length (basic_set_of a.t1).divisions)) e (All-at (ValidConstraint s.sound.n (length (basic_set_of a.t1).divisions)) (basic_set_of a.t1).constraints (a.v / 2) no_rule s.step.inside s.sound.valid.constraints) in
+    let l : length a.w.constraints ≡ 48 = search rules in
+    let w : length (take a.w.cons a.w.constraints) ≡ a.w.cons = length-take-le a.w.cons a.w.constraints (let z = s.sound.cons in omega arith) in
+    let h : a.v / 2 < a.w.cons = omega (arith, s.step.inside, length-map (take a.w.cons a.w.constraints) constraint_of) in
+    let e = read_is a.w.constraints a.w.cons (a.v / 2) h in
+    let u : ValidConstraint s.sound.n (length (basic_set_of a.w).divisions) (constraint_of (get_or a.w.constraints (a.v / 2) no_constraint)) =
+    subst (ValidConstraint s.sound.n (length (basic_set_of a.w).divisions)) e (All-at (ValidConstraint s.sound.n (length (basic_set_of a.w).divisions)) (basic_set_of a.w).constraints (a.v / 2) no_rule s.step.inside s.sound.valid.constraints) in
     below_of u
 
 put-requires-2 : tie.Need-put-requires-2
 put-requires-2 c κs =
     let a = c.before.before.before.args in
     let s = c.before.before.before.requires in
-    let l : length a.t1.constraints ≡ 48 = simp length-map at c.before.before.before.well_formed.0.1.1.1.0.1.0.1 in
-    let w : length (take a.t1.cons a.t1.constraints) ≡ a.t1.cons = length-take-le a.t1.cons a.t1.constraints (let z = s.sound.cons in omega arith) in
-    let h : a.v / 2 < a.t1.cons = omega (arith, s.step.inside, length-map (take a.t1.cons a.t1.constraints) constraint_of) in
-    let e = read_is a.t1.constraints a.t1.cons (a.v / 2) h in
+    let l : length a.w.constraints ≡ 48 = search rules in
+    let w : length (take a.w.cons a.w.constraints) ≡ a.w.cons = length-take-le a.w.cons a.w.constraints (let z = s.sound.cons in omega arith) in
+    let h : a.v / 2 < a.w.cons = omega (arith, s.step.inside, length-map (take a.w.cons a.w.constraints) constraint_of) in
+    let e = read_is a.w.constraints a.w.cons (a.v / 2) h in
     let z = s.sound.cons in (omega arith, omega arith)
 
 returns-2 : tie.Need-returns
 returns-2 c =
     let a = c.before.before.before.before.args in
     let s = c.before.before.before.before.requires in
-    let l : length a.t1.constraints ≡ 48 = simp length-map at c.before.before.before.before.well_formed.0.1.1.1.0.1.0.1 in
-    let w : length (take a.t1.cons a.t1.constraints) ≡ a.t1.cons = length-take-le a.t1.cons a.t1.constraints (let z = s.sound.cons in omega arith) in
-    let h : a.v / 2 < a.t1.cons = omega (arith, s.step.inside, length-map (take a.t1.cons a.t1.constraints) constraint_of) in
-    let e = read_is a.t1.constraints a.t1.cons (a.v / 2) h in
-    let o : T.tight (C.below (get_or (basic_set_of a.t1).constraints (a.v / 2) no_rule)) ≡ constraint_of c.before.tight_below-o.result = ap (λ (x : S.Constraint). T.tight (C.below x)) e ∙ sym c.before.tight_below-o.ensures in
+    let l : length a.w.constraints ≡ 48 = search rules in
+    let w : length (take a.w.cons a.w.constraints) ≡ a.w.cons = length-take-le a.w.cons a.w.constraints (let z = s.sound.cons in omega arith) in
+    let h : a.v / 2 < a.w.cons = omega (arith, s.step.inside, length-map (take a.w.cons a.w.constraints) constraint_of) in
+    let e = read_is a.w.constraints a.w.cons (a.v / 2) h in
+    let o : T.tight (C.below (get_or (basic_set_of a.w).constraints (a.v / 2) no_rule)) ≡ constraint_of c.before.tight_below-o.result = ap (λ (x : S.Constraint). T.tight (C.below x)) e ∙ sym c.before.tight_below-o.ensures in
     record {
-      is = c.put-2.ensures.is ∙ sym (ap₂ (λ (b : Bool) (x : S.Constraint). with_last (basic_set_of a.t1) (a.v / 2) (cond b (T.tight (C.above (get_or (basic_set_of a.t1).constraints (a.v / 2) no_rule))) x)) (ne_eqb (a.v % 2) 1 c.before.before.if-v-eq1.false) o);
+      is = c.put-2.ensures.is ∙ sym (ap₂ (λ (b : Bool) (x : S.Constraint). with_last (basic_set_of a.w) (a.v / 2) (cond b (T.tight (C.above (get_or (basic_set_of a.w).constraints (a.v / 2) no_rule))) x)) (ne_eqb (a.v % 2) 1 c.before.before.if-v-eq1.false) o);
       divs = c.put-2.ensures.divs;
       cons = let z = s.sound.cons in let y = c.put-2.ensures.cons in omega arith;
     }

@@ -21,7 +21,7 @@ returns-2 : tie.Need-returns
 returns-2 c =
     let w = c.before.before in let v = w.before.before.before.before in let e = v.before.before in let st = e.before.before.before.before in
     union-made st.args.a.now st.args.b.now st.requires.0 st.args.n st.requires.1 (λ i. (e.before.before.before.shared_slice_known-1.given i).fits) (λ i. (e.before.before.shared_slice_known-2-1.given i).fits)
-    st.args.out.now _ w.copy_bytes-e.new.1.0 _ w.copy_bytes-e.result _ e.if-n-gt-BASIC_SETS.false v.copy_bytes-m.ensures w.copy_bytes-e.ensures
+    st.args.out.now _ w.copy_bytes-e.new.out _ w.copy_bytes-e.result _ e.if-n-gt-BASIC_SETS.false v.copy_bytes-m.ensures w.copy_bytes-e.ensures
 
 pub append_spec : {M : Type 1} → statement M
 append_spec = tie.close (tie.spec returns copy-bytes-requires copy-bytes-requires-2 same_length returns-2)

@@ -33,7 +33,7 @@ unfolding complement_bytes
 returns c =
     let a = c.before.before.before.before.before.before.before.before.args in
     let k = c.before.before.before.before.before.check-k in
-    one-refused a.n a.a.now (λ s. result (complement_fits keeps s) (length a.out.now) (C.complement keeps s)) k.result (length a.out.now) (outcome_is c.before.before.refuse.result) c.before.before.refuse.new.1.0 k.ensures c.before.before.before.before.if-k-ne0.true c.before.before.refuse.ensures
+    one-refused a.n a.a.now (λ s. result (complement_fits keeps s) (length a.out.now) (C.complement keeps s)) k.result (length a.out.now) (outcome_is c.before.before.refuse.result) c.before.before.refuse.new.out k.ensures c.before.before.before.before.if-k-ne0.true c.before.before.refuse.ensures
 
 -- src/calls.rt:95:22
 slice-aggregate-subtract : tie.Need-slice_bounds-subtract-end
@@ -60,7 +60,7 @@ unfolding complement_bytes
 returns-2 c =
     let a = c.before.before.before.before.before.before.before.before.before.before.before.before.before.args in
     let d = c.before.before.before.before.before.before.subtract-d in
-    whole-given a.n a.a.now a.out.now _ c.before.before.finish.new.1.0 d.result c.before.before.finish.result (sym c.before.before.before.before.before.before.before.before.before.before.check-k.ensures ∙ c.before.before.before.before.before.before.before.before.before.if-k-ne0.false) d.auto.1.1.0 d.ensures c.before.before.finish.ensures
+    whole-given a.n a.a.now a.out.now _ c.before.before.finish.new.out d.result c.before.before.finish.result (sym c.before.before.before.before.before.before.before.before.before.before.check-k.ensures ∙ c.before.before.before.before.before.before.before.before.before.if-k-ne0.false) d.auto.out d.ensures c.before.before.finish.ensures
 
 pub complement_spec : {M : Type 1} → statement M
 complement_spec =

@@ -32,7 +32,7 @@ unfolding difference_bytes
 returns c =
     let a = c.before.before.before.before.before.before.before.before.before.args in
     let k = c.before.before.before.before.before.check_two-k in
-    two-refused a.n a.a.now a.b.now (λ s t. result (difference_fits keeps s t) (length a.out.now) (C.difference keeps s t)) k.result (length a.out.now) (outcome_is c.before.before.refuse.result) c.before.before.refuse.new.1.0 k.ensures c.before.before.before.before.if-k-ne0.true c.before.before.refuse.ensures
+    two-refused a.n a.a.now a.b.now (λ s t. result (difference_fits keeps s t) (length a.out.now) (C.difference keeps s t)) k.result (length a.out.now) (outcome_is c.before.before.refuse.result) c.before.before.refuse.new.out k.ensures c.before.before.before.before.if-k-ne0.true c.before.before.refuse.ensures
 
 -- src/calls.rt:82:9
 subtract-requires : tie.Need-subtract-d-requires
@@ -53,7 +53,7 @@ returns-2 c =
     let a = c.before.before.before.before.before.before.before.before.before.before.before.before.before.args in
     let k = c.before.before.before.before.before.before.before.before.before.check_two-k in
     let d = c.before.before.before.before.before.before.subtract-d in
-    two-given a.n a.a.now a.b.now k.result (difference_fits keeps) (C.difference keeps) a.out.now _ c.before.before.finish.new.1.0 d.result c.before.before.finish.result k.ensures c.before.before.before.before.before.before.before.before.if-k-ne0.false d.auto.1.1.0 d.ensures c.before.before.finish.ensures
+    two-given a.n a.a.now a.b.now k.result (difference_fits keeps) (C.difference keeps) a.out.now _ c.before.before.finish.new.out d.result c.before.before.finish.result k.ensures c.before.before.before.before.before.before.before.before.if-k-ne0.false d.auto.out d.ensures c.before.before.finish.ensures
 
 pub difference_spec : {M : Type 1} → statement M
 difference_spec =

@@ -32,7 +32,7 @@ unfolding intersection_bytes
 returns c =
     let a = c.before.before.before.before.before.before.before.before.before.args in
     let k = c.before.before.before.before.before.check_two-k in
-    two-refused a.n a.a.now a.b.now (λ s t. result (intersection_fits keeps s t) (length a.out.now) (C.intersection keeps s t)) k.result (length a.out.now) (outcome_is c.before.before.refuse.result) c.before.before.refuse.new.1.0 k.ensures c.before.before.before.before.if-k-ne0.true c.before.before.refuse.ensures
+    two-refused a.n a.a.now a.b.now (λ s t. result (intersection_fits keeps s t) (length a.out.now) (C.intersection keeps s t)) k.result (length a.out.now) (outcome_is c.before.before.refuse.result) c.before.before.refuse.new.out k.ensures c.before.before.before.before.if-k-ne0.true c.before.before.refuse.ensures
 
 -- src/calls.rt:71:9
 intersect-requires : tie.Need-intersect-d-requires
@@ -56,7 +56,7 @@ returns-2 c =
     let a = c.before.before.before.before.before.before.before.before.before.before.before.before.before.args in
     let k = c.before.before.before.before.before.before.before.before.before.check_two-k in
     let d = c.before.before.before.before.before.before.intersect-d in
-    two-given a.n a.a.now a.b.now k.result (intersection_fits keeps) (C.intersection keeps) a.out.now _ c.before.before.finish.new.1.0 d.result c.before.before.finish.result k.ensures c.before.before.before.before.before.before.before.before.if-k-ne0.false d.auto.1.1.0 d.ensures c.before.before.finish.ensures
+    two-given a.n a.a.now a.b.now k.result (intersection_fits keeps) (C.intersection keeps) a.out.now _ c.before.before.finish.new.out d.result c.before.before.finish.result k.ensures c.before.before.before.before.before.before.before.before.if-k-ne0.false d.auto.out d.ensures c.before.before.finish.ensures
 
 pub intersection_spec : {M : Type 1} → statement M
 intersection_spec =

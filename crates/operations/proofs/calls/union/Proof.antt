@@ -32,7 +32,7 @@ unfolding union_bytes
 returns c =
     let a = c.before.before.before.before.before.before.before.before.before.args in
     let k = c.before.before.before.before.before.check_two_counting-c in
-    two-refused a.n a.a.now a.b.now (λ s t. result (union_fits keeps s t) (length a.out.now) (C.union s t)) k.result.refusal (length a.out.now) (outcome_is c.before.before.refuse.result) c.before.before.refuse.new.1.0 k.ensures.checks c.before.before.before.before.if-k-ne0.true c.before.before.refuse.ensures
+    two-refused a.n a.a.now a.b.now (λ s t. result (union_fits keeps s t) (length a.out.now) (C.union s t)) k.result.refusal (length a.out.now) (outcome_is c.before.before.refuse.result) c.before.before.refuse.new.out k.ensures.checks c.before.before.before.before.if-k-ne0.true c.before.before.refuse.ensures
 
 -- src/calls.rt:60:9
 append-requires : tie.Need-append-d-requires
@@ -53,7 +53,7 @@ returns-2 c =
     let a = c.before.before.before.before.before.before.before.before.before.before.before.before.before.args in
     let k = c.before.before.before.before.before.before.before.before.before.check_two_counting-c in
     let d = c.before.before.before.before.before.before.append-d in
-    two-given a.n a.a.now a.b.now k.result.refusal (union_fits keeps) C.union a.out.now _ c.before.before.finish.new.1.0 d.result c.before.before.finish.result k.ensures.checks c.before.before.before.before.before.before.before.before.if-k-ne0.false d.auto.1.1.1.0 d.ensures c.before.before.finish.ensures
+    two-given a.n a.a.now a.b.now k.result.refusal (union_fits keeps) C.union a.out.now _ c.before.before.finish.new.out d.result c.before.before.finish.result k.ensures.checks c.before.before.before.before.before.before.before.before.if-k-ne0.false d.auto.out d.ensures c.before.before.finish.ensures
 
 pub union_spec : {M : Type 1} → statement M
 union_spec =

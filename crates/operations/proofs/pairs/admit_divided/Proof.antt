@@ -29,7 +29,7 @@ emit-kept-requires c κs =
     let s = start e in
     let t = e.before.tight_set-t in
     let given = s.requires.0 in
-    let tight = admit-sound s.args.w t.result t.ensures e.if-none.left given in
+    let tight = admit-sound s.args.w t.result t.ensures e.if-none.false given in
     let ready = s.requires.1 in
     let tables = s.requires.2 in
     search rules
@@ -52,7 +52,7 @@ returns-2 c =
     let e = asked k.before in
     let s = start e in
     let t = e.before.tight_set-t in
-    admit-tested s.args.w t.result t.ensures s.args.out.now s.args.s e.if-none.left k.emit_kept.ensures
+    admit-tested s.args.w t.result t.ensures s.args.out.now s.args.s e.if-none.false k.emit_kept.ensures
 
 pub admit_divided_spec : {M : Type 1} → statement M
 admit_divided_spec =

@@ -51,7 +51,7 @@ meet-first-requires c κs =
     (level-start (bytes_of a.b.now (λ i. (c.before.before.before.before.before.before.before.before.shared_slice_known-2-1.given i).fits)) x.known v d.divs d.cons refl, x.onward.ready, x.tables)
 
 same_length : tie.Need-shape_of-out-then-not-on invariant-loop decreases-loop
-same_length c = c.before.before.before.before.before.before.meet_first-t.auto.1.1.0 ∙ c.before.before.before.before.before.before.before.before.before.before.before.before.before.loop-pos.invariant.same
+same_length c = c.before.before.before.before.before.before.meet_first-t.auto.out ∙ c.before.before.before.before.before.before.before.before.before.before.before.before.before.loop-pos.invariant.same
 
 returns : tie.Need-returns-then-not-on invariant-loop decreases-loop
 returns c = let m = c.before.before.before.before.before.before.meet_first-t in let a = c.before.before.before.before.before.before.before.before.before.before.before.before.before.before.before.before.before.args in intersection-made (set_from a.a.now 0) (set_from a.b.now 0) (along-stop c.before.before.before.before.before.before.before.before.before.before.before.before.before.loop-pos.invariant c.before.before.before.before.before.before.before.before.before.before.before.before.loop-pos-test.true c.before.before.before.before.before.before.before.before.before.before.before.decode_basic-p.ensures m.ensures (not-true m.result.fits c.if-not-on.true-raw))
@@ -68,7 +68,7 @@ loop-less c = let h = c.before.before.before.before.before.before.before.before.
 loop-again : tie.Need-loop-pos-preserved invariant-loop decreases-loop
 loop-again c =
     let m = c.before.before.before.before.before.before.before.meet_first-t in
-    along-next c.before.before.before.before.before.before.before.before.before.before.before.before.before.before.loop-pos.invariant c.before.before.before.before.before.before.before.before.before.before.before.before.before.loop-pos-test.true c.before.before.before.before.before.before.before.before.before.before.before.before.decode_basic-p.ensures m.ensures _ c.end_of-pos.ensures m.auto.1.1.0 m.auto.1.1.1.1.0 m.auto.1.1.1.1.1.0 m.auto.1.1.1.1.1.1.0 (not-false m.result.fits c.before.if-not-on.false-raw)
+    along-next c.before.before.before.before.before.before.before.before.before.before.before.before.before.before.loop-pos.invariant c.before.before.before.before.before.before.before.before.before.before.before.before.before.loop-pos-test.true c.before.before.before.before.before.before.before.before.before.before.before.before.decode_basic-p.ensures m.ensures _ c.end_of-pos.ensures m.auto.out m.auto.rows m.auto.place m.auto.kinds (not-false m.result.fits c.before.if-not-on.false-raw)
 
 same-length-2 : tie.Need-shape_of-out invariant-loop decreases-loop
 same-length-2 c = c.before.loop-pos.invariant.same

@@ -65,7 +65,7 @@ returns-2 c =
     let e = divided k.before in
     let s = start e in
     let i = e.before.both-c in
-    meet-admitted s.args.p s.args.v s.requires.0 i.result i.ensures (not-false i.result.fits e.if-not-fits.left) k.admit_divided.ensures
+    meet-admitted s.args.p s.args.v s.requires.0 i.result i.ensures (not-false i.result.fits e.if-not-fits.false-raw) k.admit_divided.ensures
 
 emit-kept-requires : tie.Need-emit_kept-requires
 emit-kept-requires c κs = let e = (plain c).before.before.before in (sound e, (start e).requires.1, (start e).requires.2)
@@ -89,7 +89,7 @@ returns-3 c =
     let e = d.before.before.before in
     let s = start e in
     let i = e.before.both-c in
-    meet-admitted s.args.p s.args.v s.requires.0 i.result i.ensures (not-false i.result.fits e.if-not-fits.left) (admit-plain i.result.set (sym d.before.any_divisible.ensures ∙ d.if-any_divisible.left) k.emit_kept.ensures)
+    meet-admitted s.args.p s.args.v s.requires.0 i.result i.ensures (not-false i.result.fits e.if-not-fits.false-raw) (admit-plain i.result.set (sym d.before.any_divisible.ensures ∙ d.if-any_divisible.false) k.emit_kept.ensures)
 
 pub meet_spec : {M : Type 1} → statement M
 meet_spec =

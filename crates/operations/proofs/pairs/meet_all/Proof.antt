@@ -43,16 +43,16 @@ meet-requires c κs =
     (record { n = x.n; first = p.valid; second = v; divs = p.divs; cons = p.cons; divs' = d.divs; cons' = d.cons }, x.onward.ready, x.tables)
 
 same_length : tie.Need-shape_of-out-then-not-on invariant-loop decreases-loop
-same_length c = c.before.before.before.before.before.before.before.before.meet-t.auto.1.1.0 ∙ c.before.before.before.before.before.before.before.before.before.before.before.before.before.before.before.loop-pos.invariant.same
+same_length c = c.before.before.before.before.before.before.before.before.meet-t.auto.out ∙ c.before.before.before.before.before.before.before.before.before.before.before.before.before.before.before.loop-pos.invariant.same
 
 same-length-2 : tie.Need-shape_of-rows-then-not-on invariant-loop decreases-loop
-same-length-2 c = c.before.before.before.before.before.before.before.before.meet-t.auto.1.1.1.1.0 ∙ c.before.before.before.before.before.before.before.before.before.before.before.before.before.before.before.loop-pos.invariant.tables.high ∙ sym c.before.before.before.before.before.before.before.before.before.before.before.before.before.before.before.before.before.before.before.before.requires.2.high
+same-length-2 c = c.before.before.before.before.before.before.before.before.meet-t.auto.rows ∙ c.before.before.before.before.before.before.before.before.before.before.before.before.before.before.before.loop-pos.invariant.tables.high ∙ sym c.before.before.before.before.before.before.before.before.before.before.before.before.before.before.before.before.before.before.before.before.requires.2.high
 
 same-length-3 : tie.Need-shape_of-place-then-not-on invariant-loop decreases-loop
-same-length-3 c = c.before.before.before.before.before.before.before.before.meet-t.auto.1.1.1.1.1.0 ∙ c.before.before.before.before.before.before.before.before.before.before.before.before.before.before.before.loop-pos.invariant.tables.long ∙ sym c.before.before.before.before.before.before.before.before.before.before.before.before.before.before.before.before.before.before.before.before.requires.2.long
+same-length-3 c = c.before.before.before.before.before.before.before.before.meet-t.auto.place ∙ c.before.before.before.before.before.before.before.before.before.before.before.before.before.before.before.loop-pos.invariant.tables.long ∙ sym c.before.before.before.before.before.before.before.before.before.before.before.before.before.before.before.before.before.before.before.before.requires.2.long
 
 same-length-4 : tie.Need-shape_of-kinds-then-not-on invariant-loop decreases-loop
-same-length-4 c = c.before.before.before.before.before.before.before.before.meet-t.auto.1.1.1.1.1.1.0 ∙ c.before.before.before.before.before.before.before.before.before.before.before.before.before.before.before.loop-pos.invariant.tables.wide ∙ sym c.before.before.before.before.before.before.before.before.before.before.before.before.before.before.before.before.before.before.before.before.requires.2.wide
+same-length-4 c = c.before.before.before.before.before.before.before.before.meet-t.auto.kinds ∙ c.before.before.before.before.before.before.before.before.before.before.before.before.before.before.before.loop-pos.invariant.tables.wide ∙ sym c.before.before.before.before.before.before.before.before.before.before.before.before.before.before.before.before.before.before.before.before.requires.2.wide
 
 returns : tie.Need-returns-then-not-on invariant-loop decreases-loop
 returns c = let m = c.before.before.before.before.before.before.before.before.meet-t in along-stop c.before.before.before.before.before.before.before.before.before.before.before.before.before.before.before.loop-pos.invariant c.before.before.before.before.before.before.before.before.before.before.before.before.before.before.loop-pos-test.true c.before.before.before.before.before.before.before.before.before.before.before.before.before.decode_basic-v.ensures m.ensures (not-true m.result.fits c.if-not-on.true-raw)
@@ -69,7 +69,7 @@ loop-less c = let h = c.before.before.before.before.before.before.before.before.
 loop-again : tie.Need-loop-pos-preserved invariant-loop decreases-loop
 loop-again c =
     let m = c.before.before.before.before.before.before.before.before.before.meet-t in
-    along-next c.before.before.before.before.before.before.before.before.before.before.before.before.before.before.before.before.loop-pos.invariant c.before.before.before.before.before.before.before.before.before.before.before.before.before.before.before.loop-pos-test.true c.before.before.before.before.before.before.before.before.before.before.before.before.before.before.decode_basic-v.ensures m.ensures _ c.end_of-pos.ensures m.auto.1.1.0 m.auto.1.1.1.1.0 m.auto.1.1.1.1.1.0 m.auto.1.1.1.1.1.1.0 (not-false m.result.fits c.before.if-not-on.false-raw)
+    along-next c.before.before.before.before.before.before.before.before.before.before.before.before.before.before.before.before.loop-pos.invariant c.before.before.before.before.before.before.before.before.before.before.before.before.before.before.before.loop-pos-test.true c.before.before.before.before.before.before.before.before.before.before.before.before.before.before.decode_basic-v.ensures m.ensures _ c.end_of-pos.ensures m.auto.out m.auto.rows m.auto.place m.auto.kinds (not-false m.result.fits c.before.if-not-on.false-raw)
 
 same-length-5 : tie.Need-shape_of-out invariant-loop decreases-loop
 same-length-5 c = c.before.loop-pos.invariant.same

@@ -30,7 +30,7 @@ meet-all-requires c κs =
     let e = asked c in
     let s = start e in
     let t = e.before.tight_set-t in
-    (first-level s.args.p t.result t.ensures e.if-none.left s.requires.0, s.requires.1, s.requires.2)
+    (first-level s.args.p t.result t.ensures e.if-none.false s.requires.0, s.requires.1, s.requires.2)
 
 same_length : tie.Need-shape_of-out
 same_length c = search rules
@@ -50,7 +50,7 @@ returns-2 c =
     let e = asked m.before in
     let s = start e in
     let t = e.before.tight_set-t in
-    first-emits s.args.p t.result t.ensures s.args.out.now s.args.s (set_from s.args.b.now 0) e.if-none.left m.meet_all.ensures
+    first-emits s.args.p t.result t.ensures s.args.out.now s.args.s (set_from s.args.b.now 0) e.if-none.false m.meet_all.ensures
 
 pub meet_divided_spec : {M : Type 1} → statement M
 meet_divided_spec =

@@ -29,7 +29,7 @@ cut-all-requires c κs =
     let e = asked c in
     let s = start e in
     let t = e.before.tight_set-t in
-    (first-level s.args.p t.result t.ensures e.if-none.left s.requires.0, s.requires.1, s.requires.2, s.requires.3, λ z. divided-tight s.args.p t.result t.ensures e.if-none.left)
+    (first-level s.args.p t.result t.ensures e.if-none.false s.requires.0, s.requires.1, s.requires.2, s.requires.3, λ z. divided-tight s.args.p t.result t.ensures e.if-none.false)
 
 same_length : tie.Need-shape_of-out
 same_length c = search rules
@@ -55,7 +55,7 @@ returns-2 c =
     let e = asked k.before in
     let s = start e in
     let t = e.before.tight_set-t in
-    divided-cut s.requires.0 s.requires.4 t.result t.ensures e.if-none.left k.cut_all.ensures
+    divided-cut s.requires.0 s.requires.4 t.result t.ensures e.if-none.false k.cut_all.ensures
 
 pub cut_divided_spec : {M : Type 1} → statement M
 cut_divided_spec =

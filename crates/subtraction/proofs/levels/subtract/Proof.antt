@@ -63,7 +63,7 @@ cut-first-requires c κs =
     (level-start (bytes_of a.b.now (λ i. (c.before.before.before.before.before.before.before.before.before.before.before.shared_slice_known-2-1.given i).fits)) x.known v d.divs d.cons c.before.before.before.before.before.before.before.before.before.count-left.ensures, x.onward.ready, x.tables, st.loop-pos.invariant.1)
 
 same_length : tie.Need-shape_of-out-then-not-on invariant-loop decreases-loop
-same_length c = c.before.before.before.before.before.before.before.before.cut_first-t.auto.1.1.1.0 ∙ c.before.before.before.before.before.before.before.before.before.before.before.before.before.before.before.before.before.loop-pos.invariant.0.same
+same_length c = c.before.before.before.before.before.before.before.before.cut_first-t.auto.out ∙ c.before.before.before.before.before.before.before.before.before.before.before.before.before.before.before.before.before.loop-pos.invariant.0.same
 
 returns : tie.Need-returns-then-not-on invariant-loop decreases-loop
 returns c = let m = c.before.before.before.before.before.before.before.before.cut_first-t in let a = c.before.before.before.before.before.before.before.before.before.before.before.before.before.before.before.before.before.before.before.before.before.before.args in difference-made (set_from a.a.now 0) (set_from a.b.now 0) (along-stop c.before.before.before.before.before.before.before.before.before.before.before.before.before.before.before.before.before.loop-pos.invariant.0 c.before.before.before.before.before.before.before.before.before.before.before.before.before.before.before.before.loop-pos-test.true c.before.before.before.before.before.before.before.before.before.before.before.before.before.before.before.decode_basic-p.ensures m.ensures (not-true m.result.fits c.if-not-on.true-raw))
@@ -81,7 +81,7 @@ loop-again : tie.Need-loop-pos-preserved invariant-loop decreases-loop
 loop-again c =
     let st = c.before.before.before.before.before.before.before.before.before.before.before.before.before.before.before.before.before.before in
     let m = c.before.before.before.before.before.before.before.before.before.cut_first-t in
-    (along-next st.loop-pos.invariant.0 c.before.before.before.before.before.before.before.before.before.before.before.before.before.before.before.before.before.loop-pos-test.true c.before.before.before.before.before.before.before.before.before.before.before.before.before.before.before.before.decode_basic-p.ensures m.ensures _ c.end_of-pos.ensures m.auto.1.1.1.0 m.auto.1.1.1.1.1.0 m.auto.1.1.1.1.1.1.0 m.auto.1.1.1.1.1.1.1.0 (not-false m.result.fits c.before.if-not-on.false-raw), record { many = m.auto.1.1.1.1.1.1.1.1.0 ∙ st.loop-pos.invariant.1.many; high = m.auto.1.1.1.1.1.1.1.1.1.0 ∙ st.loop-pos.invariant.1.high })
+    (along-next st.loop-pos.invariant.0 c.before.before.before.before.before.before.before.before.before.before.before.before.before.before.before.before.before.loop-pos-test.true c.before.before.before.before.before.before.before.before.before.before.before.before.before.before.before.before.decode_basic-p.ensures m.ensures _ c.end_of-pos.ensures m.auto.out m.auto.rows m.auto.place m.auto.kinds (not-false m.result.fits c.before.if-not-on.false-raw), record { many = m.auto.past ∙ st.loop-pos.invariant.1.many; high = m.auto.spare ∙ st.loop-pos.invariant.1.high })
 
 same-length-2 : tie.Need-shape_of-out invariant-loop decreases-loop
 same-length-2 c = c.before.loop-pos.invariant.0.same
