@@ -9,7 +9,7 @@ cd "$(dirname "$0")/.."
 need_rt || exit 1
 need gcc gcc || exit 1
 need cargo cargo || exit 1
-rt check pitsets | grep '^rt:'
+tools/program.sh pitsets | grep '^rt:' || true
 cargo build --release --offline --quiet --manifest-path tools/Cargo.toml
 echo
 cat "$plan"

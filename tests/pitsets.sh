@@ -33,7 +33,7 @@ held() {
 # same NAME: what pitsets printed is what second printed
 same() { held "$1" cmp -s "$work/ours" "$work/theirs"; }
 
-rt check pitsets >"$work/log" 2>&1 || { cat "$work/log"; echo "0 passed, 1 failed"; exit 1; }
+tools/program.sh pitsets >"$work/log" 2>&1 || { cat "$work/log"; echo "0 passed, 1 failed"; exit 1; }
 (cd tools && cargo build --release --offline --quiet) || { echo "0 passed, 1 failed"; exit 1; }
 gcc -O2 -std=gnu11 -Wall -Wextra -Werror -o "$work/drip" tests/drip.c || { echo "0 passed, 1 failed"; exit 1; }
 printf '#!/bin/sh\nulimit -s 1024\nexec %s\n' "$PWD/$program" >"$work/small"

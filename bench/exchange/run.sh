@@ -8,7 +8,7 @@
 #   CORE=0 ..                      the processor that it runs on (default 1)
 #   bench/exchange/run.sh quick    only where the library before is there already
 #
-# The commit before is checked out as a work tree under target/bench and proved there by `rt staticlib`, which takes as
+# The commit before is checked out as a work tree under target/bench and proved there by tools/staticlib.sh, which takes as
 # long as proving everything, the first time.
 cd "$(dirname "$0")/../.." || exit 2
 landing_stands_on=118b089
@@ -34,7 +34,7 @@ one_object() {
 # the library of the commit before, proved in a work tree of its own
 library_before() {
   [ -e "$tree" ] || git worktree add --force --detach "$tree" "$commit" >&2 || return 1
-  (cd "$tree" && rt staticlib probe >&2)
+  "$tree/tools/staticlib.sh" probe >&2
 }
 
 if [ -n "${LIBRARY:-}" ]; then
@@ -51,7 +51,7 @@ else
   fi
   library_before || exit 1
 fi
-rt staticlib probe >/dev/null || exit 1
+tools/staticlib.sh probe >/dev/null || exit 1
 
 one_object before "$library" probe_test probe_tests || exit 1
 one_object after target/staticlib/libprobe.a probe_test probe_tests probe_built || exit 1

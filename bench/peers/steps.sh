@@ -25,8 +25,8 @@ column() {
 # staticlib CLONE NAME: proved where it is not yet, and written by rt
 staticlib() {
   command -v rt >/dev/null || { say "rt is not on the PATH: install the Rattle kit"; exit 1; }
-  say "rt staticlib $2 in $1"
-  (cd "$1" && rt staticlib $2) >$out/$2.log 2>&1 || { tail -n 5 $out/$2.log; exit 1; }
+  say "staticlib.sh $2 in $1"
+  "$1/tools/staticlib.sh" $2 >$out/$2.log 2>&1 || { tail -n 5 $out/$2.log; exit 1; }
 }
 
 # engine NAME CLONE: the engine of a clone of this repository, as a column

@@ -5,7 +5,7 @@
 #   bench/query/run.sh          everything
 #   bench/query/run.sh quick    one round, fewer searches of the workloads
 #   PARTS="search count" ..     some of: bytes fleet search count
-#   LIBRARY=FILE ..             beside it the libprobe.a of another commit, built there by `rt staticlib probe` (before)
+#   LIBRARY=FILE ..             beside it the libprobe.a of another commit, built there by `tools/staticlib.sh probe` (before)
 #   COUNT=yes ..                instructions of the searches too, by valgrind
 #   SEED=7 ..                   other workloads (default 1)
 #

@@ -2,7 +2,7 @@
 # The test for fractions, at 64 bits and carried to 128, against plain C of the same steps, as the tables of
 # docs/BENCHMARKS.md. CORE is the processor that it runs on (default 1).
 cd "$(dirname "$0")/../.." || exit 2
-rt staticlib probe >/dev/null || exit 1
+tools/staticlib.sh probe >/dev/null || exit 1
 mkdir -p target/bench
 warn=(-std=c99 -Wall -Wextra -Werror)
 gcc -O3 "${warn[@]}" -c -o target/bench/plain.o bench/simplex/plain.c || exit 1
