@@ -15,9 +15,10 @@ use std::fmt;
 use std::fmt::{Display, Formatter};
 use std::io;
 use std::io::{Read, Stdin, Stdout, Write};
+use std::process::ExitCode;
 
 // What the system refused, and why.
-#[derive(Debug, Drop)]
+#[derive(Drop)]
 enum Failed {
     Read(io::Error),
     Write(io::Error),
@@ -180,13 +181,13 @@ fn run(
     Ok(())
 }
 
-fn main(rt: HostRuntime) -> Result<(), Failed> {
+fn main(rt: HostRuntime) -> ExitCode {
     let mut read = input();
     let mut sets = tables();
     let mut lengths = [0usize; 4];
     let mut answer = result();
     let mut text = line();
-    run(
+    match run(
         &mut rt.stdin(),
         &mut rt.stdout(),
         &mut read,
@@ -194,5 +195,12 @@ fn main(rt: HostRuntime) -> Result<(), Failed> {
         &mut lengths,
         &mut answer,
         &mut text,
-    )
+    ) {
+        Ok(()) => ExitCode::SUCCESS,
+        Err(e) => {
+            // where standard error fails too there is nobody to tell
+            let _ = eprintln!(rt; "{e}");
+            ExitCode::FAILURE
+        }
+    }
 }
