@@ -6,23 +6,18 @@ use Rattle.simplex.specs.Table.{move_of}
 use Rattle.sharing.proofs.Going.{Going, going_start, going_end, going-went, going-made, made-less, crosses}
 use Rattle.sharing.proofs.history.go_from.Statement.{statement}
 use Rattle.sharing.proofs.history.go_from.Tie as tie
-use Rattle.sharing.proofs.history.go_from.Reads as reads
-use Rattle.sharing.proofs.history.go_from.Lts as lts
-use Rattle.sharing.proofs.history.go_on.Reads as go-on-reads
-use Rattle.sharing.proofs.history.make.Reads as make-reads
-use Rattle.simplex.proofs.choose.choose_at.Reads as choose-at-reads
 
 begun : (c : tie.Start) → let a = c.args in Going a.n a.t.now a.place.now a.kinds.now a.past.now a.columns.now a.start a.t.now a.place.now a.past.now a.columns.now a.start
 begun c = let a = c.args in going_start a.n a.t.now a.place.now a.kinds.now a.past.now a.columns.now a.start c.requires.0 c.requires.1.0.0 c.requires.1.0.1 c.requires.1.1.0
 
-pivots : (c : tie.In-Pivot-2) → let a = c.before.before.before.before.before.before.before.before.args in move_of a.t.now a.place.now a.kinds.now (200 - a.start) ≡ Pivot c.m-in-Pivot-1.given.0.0 c.m-in-Pivot-1.given.0.1.0
-pivots c = sym c.before.before.choose_at-m.ensures ∙ c.m-in-Pivot-1.given.1
+pivots : (c : tie.In-Pivot) → let a = c.args in move_of a.t.now a.place.now a.kinds.now (200 - a.start) ≡ Pivot c.in-Pivot.v c.in-Pivot.w
+pivots c = sym c.choose_at-m.ensures ∙ c.in-Pivot.is
 
-gone : (c : tie.After-make) → let a = c.before.before.before.before.before.before.before.before.before.before.before.before.before.before.args in Going a.n a.t.now a.place.now a.kinds.now a.past.now a.columns.now a.start c.make.new.0 c.make.new.1.1.0 c.make.new.1.1.1.0 c.make.new.1.1.1.1.0 (a.start + 1)
+gone : (c : tie.After-make) → let a = c.args in Going a.n a.t.now a.place.now a.kinds.now a.past.now a.columns.now a.start c.make.new.t c.make.new.place c.make.new.past c.make.new.columns (a.start + 1)
 gone c =
-    let a = c.before.before.before.before.before.before.before.before.before.before.before.before.before.before.args in
-    let p = c.before.before.before.before.before.before in
-    going-made a.n a.t.now a.place.now a.kinds.now a.past.now a.columns.now a.start a.t.now a.place.now a.past.now a.columns.now a.start (begun c.before.before.before.before.before.before.before.before.before.before.before.before.before.before) p.m-in-Pivot-1.given.0.0 p.m-in-Pivot-1.given.0.1.0 (pivots p) _ _ _ _ c.make.ensures
+    let a = c.args in
+    let p = c.before.before.before.before.before in
+    going-made a.n a.t.now a.place.now a.kinds.now a.past.now a.columns.now a.start a.t.now a.place.now a.past.now a.columns.now a.start (begun c.before.before.before.before.before.before.before.before.before.before) p.in-Pivot.v p.in-Pivot.w (pivots p) _ _ _ _ c.make.ensures
 
 sub-choose-at : tie.Need-overflow_sub-start
 sub-choose-at c = search rules
@@ -38,11 +33,11 @@ enum-known-m-2 c = search rules
 
 make-requires : tie.Need-make-requires
 make-requires c κs =
-    let a = c.before.before.before.before.before.before.before.before.before.before.before.before.before.args in
-    let p = c.before.before.before.before.before in
-    let g = begun c.before.before.before.before.before.before.before.before.before.before.before.before.before in
-    let v = p.m-in-Pivot-1.given.0.0 in
-    let w = p.m-in-Pivot-1.given.0.1.0 in
+    let a = c.args in
+    let p = c.before.before.before.before in
+    let g = begun c.before.before.before.before.before.before.before.before.before in
+    let v = p.in-Pivot.v in
+    let w = p.in-Pivot.w in
     let h = made-less a.n a.t.now a.place.now a.kinds.now a.past.now a.columns.now a.start a.t.now a.place.now a.past.now a.columns.now a.start g v w (pivots p) in
     (crosses a.n a.t.now a.place.now a.kinds.now a.past.now a.columns.now a.start a.t.now a.place.now a.past.now a.columns.now a.start g v w (pivots p), (subst (λ n. a.start < n) (sym g.many) h, subst (λ n. a.start < n) (sym g.many') h))
 
@@ -60,8 +55,8 @@ same-length-2 c = search rules
 
 returns : tie.Need-returns-in-Stop
 returns c =
-    let a = c.before.before.before.before.before.before.before.before.before.args in
-    going_end a.n a.t.now a.place.now a.kinds.now a.past.now a.columns.now a.start a.t.now a.place.now a.past.now a.columns.now a.start (begun c.before.before.before.before.before.before.before.before.before) c.before.m-1.given.0.0 (sym c.before.before.before.choose_at-m.ensures ∙ c.before.m-1.given.1)
+    let a = c.args in
+    going_end a.n a.t.now a.place.now a.kinds.now a.past.now a.columns.now a.start a.t.now a.place.now a.past.now a.columns.now a.start (begun c.before.before.before.before.before) c.in-Stop.x (sym c.choose_at-m.ensures ∙ c.in-Stop.is)
 
 same-length-3 : tie.Need-shape_of-t-in-Pivot
 same-length-3 c = search rules
@@ -77,9 +72,9 @@ same-length-6 c = search rules
 
 returns-2 : tie.Need-returns-in-Pivot
 returns-2 c =
-    let a = c.before.before.before.before.before.before.before.before.before.before.before.before.before.before.before.before.before.before.before.before.before.before.before.before.before.before.before.before.before.before.before.args in
+    let a = c.args in
     let y = c.before.before.before.before.before.before.before.before.before.before.before.before.before.before.before.before.before in
-    going-went a.n a.t.now a.place.now a.kinds.now a.past.now a.columns.now a.start y.make.new.0 y.make.new.1.1.0 y.make.new.1.1.1.0 y.make.new.1.1.1.1.0 (a.start + 1) (gone y) _ _ _ _ _ c.before.before.before.before.before.before.go_on.ensures
+    going-went a.n a.t.now a.place.now a.kinds.now a.past.now a.columns.now a.start y.make.new.t y.make.new.place y.make.new.past y.make.new.columns (a.start + 1) (gone y) _ _ _ _ _ c.before.before.before.before.before.before.go_on.ensures
 
 pub go_from_spec : {M : Type 1} → statement M
 go_from_spec =

@@ -4,9 +4,6 @@ use lib.ListN.{get_or, set}
 use borrow.Author.Rules.{rules}
 use Rattle.sharing.proofs.history.make.Statement.{statement}
 use Rattle.sharing.proofs.history.make.Tie as tie
-use Rattle.sharing.proofs.history.make.Reads as reads
-use Rattle.sharing.proofs.history.make.Lts as lts
-use Rattle.simplex.proofs.run.pivot.Reads as pivot-reads
 
 mul-i : tie.Need-offset_bounds-place-v
 mul-i c = search rules

@@ -1,6 +1,6 @@
 use mathlib.Core.Path.{◌≡◌, sym, ap, ◌∙◌}
 use mathlib.Core.Bool.{true}
-use Prim.Native.Nat.{◌+◌, ◌-◌}
+use Prim.Native.Nat.{◌+◌}
 use borrow.Author.Rules.{rules}
 use borrow.Author.Tests.{not-true, not-false}
 use lib.ListN.{get_or, set}
@@ -15,10 +15,6 @@ use Rattle.tableau.proofs.Searches.{small-within}
 use Rattle.sharing.proofs.Passes.{pass-zero, pass-wide, pass-put}
 use Rattle.sharing.proofs.history.pass.Statement.{statement}
 use Rattle.sharing.proofs.history.pass.Tie as tie
-use Rattle.sharing.proofs.history.pass.Reads as reads
-use Rattle.sharing.proofs.history.pass.Lts as lts
-use Rattle.tableau.proofs.small.Reads as small-reads
-use Rattle.tableau.proofs.replace.Reads as replace-reads
 
 add-e : tie.Need-overflow_add-e
 add-e c = search rules
@@ -36,7 +32,7 @@ small-requires : tie.Need-small-requires
 small-requires c κs = search rules
 
 returns-2 : tie.Need-returns-then-not-small
-returns-2 c = pass-wide c.before.before.before.before.before.args.j c.before.before.before.before.before.args.q.now c.before.before.before.before.before.args.r.now (is_zero-no (get_or c.before.before.before.before.before.args.r.now (c.before.before.before.before.before.args.j + 2) (pos 0)) (λ h. c.before.before.before.if1.false (ap (of_z w64) h))) (sym c.before.small.ensures ∙ not-true _ c.if-not-small.true-raw)
+returns-2 c = pass-wide c.args.j c.args.q.now c.args.r.now (is_zero-no (get_or c.args.r.now (c.args.j + 2) (pos 0)) (λ h. c.if-e-eq0.false (ap (of_z w64) h))) (sym c.before.small.ensures ∙ not-true _ c.if-not-small.true-raw)
 
 element-copy-out-m : tie.Need-bounds-q-0
 element-copy-out-m c = search rules
@@ -46,19 +42,19 @@ array-set-of-p c = search rules
 
 replace-requires : tie.Need-replace-requires
 replace-requires c κs =
-    let d = c.before.before.before.before.before.before.before.before.before.requires.1.1.divisor in
-    let w = c.before.before.before.before.before.before.before.before.before.requires.1.0 in
-    let r = c.before.before.before.before.before.before.before.before.before.args.r.now in
+    let d = c.requires.1.1.divisor in
+    let w = c.requires.1.0 in
+    let r = c.args.r.now in
     let n : small_of r ≡ true = sym c.before.before.before.before.before.small.ensures ∙ not-false _ c.before.before.before.before.if-not-small.false-raw in
-    rw (back (wider d.near)) (c.before.before.before.before.before.before.before.before.before.requires.0, (w.line, (d.line, (small-within r n, (d.small, (d.none, (d.near, (d.over, w.over))))))))
+    rw (back (wider d.near)) (c.requires.0, (w.line, (d.line, (small-within r n, (d.small, (d.none, (d.near, (d.over, w.over))))))))
 
 returns-3 : tie.Need-returns
 returns-3 c =
-    let d = c.before.before.before.before.before.before.before.before.before.before.requires.1.1.divisor in
-    let r = c.before.before.before.before.before.before.before.before.before.before.args.r.now in
-    let j = c.before.before.before.before.before.before.before.before.before.before.args.j in
-    let q = c.before.before.before.before.before.before.before.before.before.before.args.q.now in
-    let x = pass-put j q r (is_zero-no (get_or c.before.before.before.before.before.before.before.before.before.before.args.r.now (c.before.before.before.before.before.before.before.before.before.before.args.j + 2) (pos 0)) (λ h. c.before.before.before.before.before.before.before.before.if1.false (ap (of_z w64) h))) (sym c.before.before.before.before.before.before.small.ensures ∙ not-false _ c.before.before.before.before.before.if-not-small.false-raw) in
+    let d = c.requires.1.1.divisor in
+    let r = c.args.r.now in
+    let j = c.args.j in
+    let q = c.args.q.now in
+    let x = pass-put j q r (is_zero-no (get_or c.args.r.now (c.args.j + 2) (pos 0)) (λ h. c.if-e-eq0.false (ap (of_z w64) h))) (sym c.before.before.before.before.before.before.small.ensures ∙ not-false _ c.before.before.before.before.before.if-not-small.false-raw) in
     record { test = x.test; row = c.replace.ensures ∙ ap (λ m. replace_row r j m (set q 0 (pos 0))) (back (wider d.near)) ∙ x.row }
 
 pub pass_spec : {M : Type 1} → statement M

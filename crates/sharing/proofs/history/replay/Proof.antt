@@ -6,9 +6,6 @@ use borrow.Author.Tests.{not-true, not-false}
 use Rattle.sharing.proofs.Passes.{Replaying, replay-start, replay-end, replay-column, replay-left, replay-off, replay-on}
 use Rattle.sharing.proofs.history.replay.Statement.{statement}
 use Rattle.sharing.proofs.history.replay.Tie as tie
-use Rattle.sharing.proofs.history.replay.Reads as reads
-use Rattle.sharing.proofs.history.replay.Lts as lts
-use Rattle.sharing.proofs.history.pass.Reads as pass-reads
 
 abbrev invariant-loop : tie.invariant-loop-k
 invariant-loop r₀ n past columns made k₀ r k = Replaying n made past columns r₀ r k
@@ -29,38 +26,38 @@ mul-pass-2 : tie.Need-offset_bounds-columns-k invariant-loop decreases-loop
 mul-pass-2 c = search rules
 
 shared-slice-read-pass : tie.Need-bounds-columns-k invariant-loop decreases-loop
-shared-slice-read-pass c = let h = c.before.before.before.loop-test.true in let p = c.before.before.before.before.before.before.requires.1.0.1 in omega arith
+shared-slice-read-pass c = let h = c.loop-k-test.true in let p = c.requires.1.0.1 in omega arith
 
 pass-requires : tie.Need-pass-requires invariant-loop decreases-loop
 pass-requires c κs =
-    let a = c.before.before.before.before.before.before.args in
-    let l = c.before.before.before.before.loop in
-    let h = c.before.before.before.loop-test.true in
-    let p = c.before.before.before.before.before.before.requires in
+    let a = c.args in
+    let l = c.loop-k in
+    let h = c.loop-k-test.true in
+    let p = c.requires in
     (replay-column a.n a.made a.past.now a.columns.now a.r.now p.1.0.0 p.1.1 l.k l.r l.invariant h, (l.invariant.whole, replay-left a.n a.made a.past.now a.columns.now a.r.now p.1.0.0 p.1.1 l.k l.r l.invariant h))
 
 returns : tie.Need-returns-then-not-pass invariant-loop decreases-loop
 returns c =
-    let a = c.before.before.before.before.before.before.before.before.args in
-    let l = c.before.before.before.before.before.before.loop in
-    let h = c.before.before.before.before.before.loop-test.true in
-    let p = c.before.before.before.before.before.before.before.before.requires in
+    let a = c.args in
+    let l = c.loop-k in
+    let h = c.loop-k-test.true in
+    let p = c.requires in
     let b = not-true _ c.if-not-pass.true-raw in
     let x = replay-off a.n a.made a.past.now a.columns.now a.r.now p.1.0.0 p.1.1 l.k l.r l.invariant h _ _ c.before.pass.ensures b in
     record { all = sym b ∙ x.all; row = x.row }
 
 add-k : tie.Need-overflow_add-k invariant-loop decreases-loop
-add-k c = let h = c.before.before.before.before.before.loop-test.true in let p = c.before.before.before.before.before.before.before.before.requires.1.0.0 in search rules
+add-k c = let h = c.loop-k-test.true in let p = c.requires.1.0.0 in search rules
 
 loop-less : tie.Need-loop-k-smaller invariant-loop decreases-loop
-loop-less c = let h = c.before.before.before.before.before.loop-test.true in omega arith
+loop-less c = let h = c.loop-k-test.true in omega arith
 
 loop-again : tie.Need-loop-k-preserved invariant-loop decreases-loop
 loop-again c =
-    let a = c.before.before.before.before.before.before.before.before.args in
-    let l = c.before.before.before.before.before.before.loop in
-    let h = c.before.before.before.before.before.loop-test.true in
-    let p = c.before.before.before.before.before.before.before.before.requires in
+    let a = c.args in
+    let l = c.loop-k in
+    let h = c.loop-k-test.true in
+    let p = c.requires in
     replay-on a.n a.made a.past.now a.columns.now a.r.now p.1.0.0 p.1.1 l.k l.r l.invariant h _ _ c.before.pass.ensures (not-false _ c.if-not-pass.false-raw)
 
 returns-2 : tie.Need-returns invariant-loop decreases-loop

@@ -1,5 +1,4 @@
 use mathlib.Core.Path.{◌≡◌, refl, sym, ap, ◌∙◌}
-use Prim.Native.Nat.{◌-◌}
 use native.Mathlib.Omega.{arith}
 use borrow.Author.Rules.{rules}
 use lib.ListN.{length}
@@ -8,10 +7,6 @@ use Rattle.simplex.specs.Table.{move_of, run_table, Fine}
 use Rattle.simplex.proofs.Moves.{run-stop, run-pivot, pivot-left, pivot-fine, crossing, pivot-length, rows-length}
 use Rattle.sharing.proofs.history.rest.Statement.{statement}
 use Rattle.sharing.proofs.history.rest.Tie as tie
-use Rattle.sharing.proofs.history.rest.Reads as reads
-use Rattle.sharing.proofs.history.rest.Lts as lts
-use Rattle.simplex.proofs.choose.choose.Reads as choose-reads
-use Rattle.simplex.proofs.run.pivot.Reads as pivot-reads
 
 abbrev invariant-loop : tie.invariant-loop-x
 invariant-loop t₀ n place₀ kinds most left₀ t place left = Fine n t place kinds × (run_table kinds left t place ≡ run_table kinds most t₀ place₀) × (length t ≡ length t₀) × (length place ≡ length place₀)
@@ -23,61 +18,61 @@ loop-holds : tie.Need-loop-x-init invariant-loop decreases-loop
 loop-holds c = (c.before.before.requires, refl, refl, refl)
 
 choose-requires : tie.Need-choose-m-requires invariant-loop decreases-loop
-choose-requires c κs = c.before.before.loop.invariant.0
+choose-requires c κs = c.loop-x.invariant.0
 
 enum-known-m : tie.Need-enum_known-m invariant-loop decreases-loop
 enum-known-m c = search rules
 
 same_length : tie.Need-shape_of-t-in-Stop invariant-loop decreases-loop
-same_length c = c.before.before.before.before.before.before.loop.invariant.2
+same_length c = c.loop-x.invariant.2
 
 same-length-2 : tie.Need-shape_of-place-in-Stop invariant-loop decreases-loop
-same-length-2 c = c.before.before.before.before.before.before.loop.invariant.3
+same-length-2 c = c.loop-x.invariant.3
 
 returns : tie.Need-returns-in-Stop invariant-loop decreases-loop
 returns c =
-    let a = c.before.before.before.before.before.before.before.before.before.args in
-    let l = c.before.before.before.before.before.before.loop in
-    let e : move_of l.t l.place a.kinds.now l.left ≡ Stop c.before.m-1.given.0.0 = sym c.before.before.before.choose-m.ensures ∙ c.before.m-1.given.1 in
-    ap (λ o. o.verdict) (sym (run-stop a.kinds.now l.left l.t l.place c.before.m-1.given.0.0 e) ∙ l.invariant.1)
+    let a = c.args in
+    let l = c.loop-x in
+    let e : move_of l.t l.place a.kinds.now l.left ≡ Stop c.in-Stop.x = sym c.choose-m.ensures ∙ c.in-Stop.is in
+    ap (λ o. o.verdict) (sym (run-stop a.kinds.now l.left l.t l.place c.in-Stop.x e) ∙ l.invariant.1)
 
 enum-known-m-2 : tie.Need-enum_known-m-in-Pivot-1 invariant-loop decreases-loop
 enum-known-m-2 c = search rules
 
 pivot-requires : tie.Need-pivot-requires invariant-loop decreases-loop
 pivot-requires c κs =
-    let a = c.before.before.before.before.before.before.before.before.before.before.before.args in
-    let l = c.before.before.before.before.before.before.before.before.loop in
-    let v = c.before.before.before.m-in-Pivot-1.given.0.0 in
-    let w = c.before.before.before.m-in-Pivot-1.given.0.1.0 in
-    let e : move_of l.t l.place a.kinds.now l.left ≡ Pivot v w = sym c.before.before.before.before.before.choose-m.ensures ∙ c.before.before.before.m-in-Pivot-1.given.1 in
+    let a = c.args in
+    let l = c.loop-x in
+    let v = c.in-Pivot.v in
+    let w = c.in-Pivot.w in
+    let e : move_of l.t l.place a.kinds.now l.left ≡ Pivot v w = sym c.choose-m.ensures ∙ c.in-Pivot.is in
     crossing a.n l.t l.place a.kinds.now l.left v w l.invariant.0 e
 
 sub-left : tie.Need-overflow_sub-left invariant-loop decreases-loop
 sub-left c =
-    let a = c.before.before.before.before.before.before.before.before.before.before.before.before.before.before.before.args in
-    let l = c.before.before.before.before.before.before.before.before.before.before.before.before.loop in
-    let v = c.before.before.before.before.before.before.before.m-in-Pivot-1.given.0.0 in
-    let w = c.before.before.before.before.before.before.before.m-in-Pivot-1.given.0.1.0 in
-    let e : move_of l.t l.place a.kinds.now l.left ≡ Pivot v w = sym c.before.before.before.before.before.before.before.before.before.choose-m.ensures ∙ c.before.before.before.before.before.before.before.m-in-Pivot-1.given.1 in
+    let a = c.args in
+    let l = c.loop-x in
+    let v = c.in-Pivot.v in
+    let w = c.in-Pivot.w in
+    let e : move_of l.t l.place a.kinds.now l.left ≡ Pivot v w = sym c.choose-m.ensures ∙ c.in-Pivot.is in
     pivot-left a.kinds.now l.left l.t l.place v w e
 
 loop-less : tie.Need-loop-x-smaller invariant-loop decreases-loop
 loop-less c =
-    let a = c.before.before.before.before.before.before.before.before.before.before.before.before.before.before.before.args in
-    let l = c.before.before.before.before.before.before.before.before.before.before.before.before.loop in
-    let v = c.before.before.before.before.before.before.before.m-in-Pivot-1.given.0.0 in
-    let w = c.before.before.before.before.before.before.before.m-in-Pivot-1.given.0.1.0 in
-    let e : move_of l.t l.place a.kinds.now l.left ≡ Pivot v w = sym c.before.before.before.before.before.before.before.before.before.choose-m.ensures ∙ c.before.before.before.before.before.before.before.m-in-Pivot-1.given.1 in
+    let a = c.args in
+    let l = c.loop-x in
+    let v = c.in-Pivot.v in
+    let w = c.in-Pivot.w in
+    let e : move_of l.t l.place a.kinds.now l.left ≡ Pivot v w = sym c.choose-m.ensures ∙ c.in-Pivot.is in
     let h = pivot-left a.kinds.now l.left l.t l.place v w e in omega arith
 
 loop-again : tie.Need-loop-x-preserved invariant-loop decreases-loop
 loop-again c =
-    let a = c.before.before.before.before.before.before.before.before.before.before.before.before.before.before.before.args in
-    let l = c.before.before.before.before.before.before.before.before.before.before.before.before.loop in
-    let v = c.before.before.before.before.before.before.before.m-in-Pivot-1.given.0.0 in
-    let w = c.before.before.before.before.before.before.before.m-in-Pivot-1.given.0.1.0 in
-    let e : move_of l.t l.place a.kinds.now l.left ≡ Pivot v w = sym c.before.before.before.before.before.before.before.before.before.choose-m.ensures ∙ c.before.before.before.before.before.before.before.m-in-Pivot-1.given.1 in
+    let a = c.args in
+    let l = c.loop-x in
+    let v = c.in-Pivot.v in
+    let w = c.in-Pivot.w in
+    let e : move_of l.t l.place a.kinds.now l.left ≡ Pivot v w = sym c.choose-m.ensures ∙ c.in-Pivot.is in
     let x = crossing a.n l.t l.place a.kinds.now l.left v w l.invariant.0 e in
     let (et, ep) = c.before.before.before.pivot.ensures in
     rw (et, ep) (

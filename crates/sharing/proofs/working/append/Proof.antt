@@ -1,5 +1,5 @@
 use mathlib.Core.Path.{sym, ap, ◌∙◌}
-use Prim.Native.Nat.{◌+◌, ◌-◌}
+use Prim.Native.Nat.{◌+◌}
 use borrow.Author.Tests.{not-true, not-false}
 use lib.ListN.{get_or, set, length-set}
 use lib.IntN.{pos}
@@ -10,10 +10,6 @@ use Rattle.sharing.proofs.Appending.{seam, rejoined, fine_more, last_more, rows-
 use borrow.Author.Rules.{rules}
 use Rattle.sharing.proofs.working.append.Statement.{statement}
 use Rattle.sharing.proofs.working.append.Tie as tie
-use Rattle.sharing.proofs.working.append.Reads as reads
-use Rattle.sharing.proofs.working.append.Lts as lts
-use Rattle.sharing.proofs.history.go_from.Reads as go-from-reads
-use Rattle.tableau.proofs.is_violated.Reads as is-violated-reads
 
 array-copy-out-e : tie.Need-bounds-r-1
 array-copy-out-e c = search rules
@@ -76,26 +72,26 @@ slice-reshare-prefix-go-from : tie.Need-slice_bounds-go_from-end-5
 slice-reshare-prefix-go-from c = (kinds-count c.before.before.before.before.before.before.before.before.args.n c.before.before.before.before.before.before.before.before.args.m c.before.before.before.before.before.before.before.before.args.v c.before.before.before.before.before.before.before.before.args.r c.before.before.before.before.before.before.before.before.args.rows.now c.before.before.before.before.before.before.before.before.args.place.now c.before.before.before.before.before.before.before.before.args.kinds.now c.before.before.before.before.before.before.before.before.requires.0 c.before.before.before.before.before.before.before.before.args.kind).0
 
 slice-aggregate-go-from-3 : tie.Need-slice_bounds-go_from-end-6
-slice-aggregate-go-from-3 c = sym (kinds-count c.before.before.before.before.before.before.before.before.before.args.n c.before.before.before.before.before.before.before.before.before.args.m c.before.before.before.before.before.before.before.before.before.args.v c.before.before.before.before.before.before.before.before.before.args.t5 c.before.before.before.before.before.before.before.before.before.args.rows.now c.before.before.before.before.before.before.before.before.before.args.place.now c.before.before.before.before.before.before.before.before.before.args.kinds.now c.before.before.before.before.before.before.before.before.before.requires.0 c.before.before.before.before.before.before.before.before.before.args.kind).1
+slice-aggregate-go-from-3 c = sym (kinds-count c.args.n c.args.m c.args.v c.args.r c.args.rows.now c.args.place.now c.args.kinds.now c.requires.0 c.args.kind).1
 
 go-from-requires : tie.Need-go_from-requires
 go-from-requires c κs =
-    let s = c.before.before.before.before.before.before.before.before.before.before.before in
+    let s = c.before.before.before.before.before.before.before.before.before.before in
     let a = s.args in
     let k = s.requires.0 in
-    let rows_is = rows_more a.n a.m a.v a.t5 a.rows.now a.place.now a.kinds.now k a.kind in
-    let place_is = place-more a.n a.m a.v a.t5 a.rows.now a.place.now a.kinds.now k a.kind in
-    let kinds_are = kinds-more a.n a.m a.v a.t5 a.rows.now a.place.now a.kinds.now k a.kind in
-    let bad = ap (violated_by a.kind) (sym (to_z-of_z {w = w64} {z = get_or a.t5 1 (pos 0)} (record { sfits = c.before.before.before.before.before.before.before.e.given }))) ∙ sym c.before.before.before.before.before.before.is-violated.ensures ∙ not-false _ c.before.before.before.before.before.if1.false in (
-      rw (rows_is, place_is, kinds_are) (fine_more a.n a.m a.v a.t5 a.rows.now a.place.now a.kinds.now k a.kind),
-      ((s.requires.1.1, s.requires.1.2), (s.requires.1.0, rw (rows_is, place_is, kinds_are) (last_more a.n a.m a.v a.t5 a.rows.now a.place.now a.kinds.now k a.kind bad))),
+    let rows_is = rows_more a.n a.m a.v a.r a.rows.now a.place.now a.kinds.now k a.kind in
+    let place_is = place-more a.n a.m a.v a.r a.rows.now a.place.now a.kinds.now k a.kind in
+    let kinds_are = kinds-more a.n a.m a.v a.r a.rows.now a.place.now a.kinds.now k a.kind in
+    let bad = ap (violated_by a.kind) (sym (to_z-of_z {w = w64} {z = get_or a.r 1 (pos 0)} (record { sfits = c.e-1.given }))) ∙ sym c.is_violated.ensures ∙ not-false _ c.if-not-is_violated.false-raw in (
+      rw (rows_is, place_is, kinds_are) (fine_more a.n a.m a.v a.r a.rows.now a.place.now a.kinds.now k a.kind),
+      ((s.requires.1.1, s.requires.1.2), (s.requires.1.0, rw (rows_is, place_is, kinds_are) (last_more a.n a.m a.v a.r a.rows.now a.place.now a.kinds.now k a.kind bad))),
     )
 
 same-length-4 : tie.Need-shape_of-rows
-same-length-4 c = rejoined (c.before.before.before.before.before.before.before.before.before.before.before.before.before.before.before.before.before.before.args.m + 1) c.before.before.before.before.before.before.go_from.new.0 (set c.before.before.before.before.before.before.before.before.before.before.before.before.before.before.before.before.before.before.args.rows.now c.before.before.before.before.before.before.before.before.before.before.before.before.before.before.before.before.before.before.args.m c.before.before.before.before.before.before.before.before.before.before.before.before.before.before.before.before.before.before.args.t5) c.before.before.before.before.before.before.go_from.auto.0 ∙ length-set c.before.before.before.before.before.before.before.before.before.before.before.before.before.before.before.before.before.before.args.rows.now c.before.before.before.before.before.before.before.before.before.before.before.before.before.before.before.before.before.before.args.m c.before.before.before.before.before.before.before.before.before.before.before.before.before.before.before.before.before.before.args.t5
+same-length-4 c = rejoined (c.args.m + 1) c.before.before.before.before.before.before.go_from.new.t (set c.args.rows.now c.args.m c.args.r) c.before.before.before.before.before.before.go_from.auto.t ∙ length-set c.args.rows.now c.args.m c.args.r
 
 same-length-5 : tie.Need-shape_of-place
-same-length-5 c = rejoined (c.before.before.before.before.before.before.before.before.before.before.before.before.before.before.before.before.before.before.args.v + 1) c.before.before.before.before.before.before.go_from.new.1.1.0 (set c.before.before.before.before.before.before.before.before.before.before.before.before.before.before.before.before.before.before.args.place.now c.before.before.before.before.before.before.before.before.before.before.before.before.before.before.before.before.before.before.args.v c.before.before.before.before.before.before.before.before.before.before.before.before.before.before.before.before.before.before.args.m) c.before.before.before.before.before.before.go_from.auto.1.1.0 ∙ length-set c.before.before.before.before.before.before.before.before.before.before.before.before.before.before.before.before.before.before.args.place.now c.before.before.before.before.before.before.before.before.before.before.before.before.before.before.before.before.before.before.args.v c.before.before.before.before.before.before.before.before.before.before.before.before.before.before.before.before.before.before.args.m
+same-length-5 c = rejoined (c.args.v + 1) c.before.before.before.before.before.before.go_from.new.place (set c.args.place.now c.args.v c.args.m) c.before.before.before.before.before.before.go_from.auto.place ∙ length-set c.args.place.now c.args.v c.args.m
 
 same-length-6 : tie.Need-shape_of-kinds
 same-length-6 c = search rules
@@ -108,9 +104,9 @@ same-length-8 c = search rules
 
 returns-2 : tie.Need-returns
 returns-2 c =
-    appended-went c.before.before.before.before.before.before.before.before.before.before.before.before.before.before.before.before.before.before.args.n c.before.before.before.before.before.before.before.before.before.before.before.before.before.before.before.before.before.before.args.m c.before.before.before.before.before.before.before.before.before.before.before.before.before.before.before.before.before.before.args.v c.before.before.before.before.before.before.before.before.before.before.before.before.before.before.before.before.before.before.args.t5 c.before.before.before.before.before.before.before.before.before.before.before.before.before.before.before.before.before.before.args.rows.now c.before.before.before.before.before.before.before.before.before.before.before.before.before.before.before.before.before.before.args.place.now c.before.before.before.before.before.before.before.before.before.before.before.before.before.before.before.before.before.before.args.kinds.now c.before.before.before.before.before.before.before.before.before.before.before.before.before.before.before.before.before.before.requires.0 c.before.before.before.before.before.before.before.before.before.before.before.before.before.before.before.before.before.before.args.kind c.before.before.before.before.before.before.before.before.before.before.before.before.before.before.before.before.before.before.args.made c.before.before.before.before.before.before.before.before.before.before.before.before.before.before.before.before.before.before.args.past.now c.before.before.before.before.before.before.before.before.before.before.before.before.before.before.before.before.before.before.args.columns.now c.before.before.before.before.before.before.go_from.result _ _ _ _ c.before.before.before.before.before.before.go_from.ensures _ _
-    (seam (c.before.before.before.before.before.before.before.before.before.before.before.before.before.before.before.before.before.before.args.m + 1) c.before.before.before.before.before.before.go_from.new.0 _ (c.before.before.before.before.before.before.go_from.auto.0 ∙ (rows-count c.before.before.before.before.before.before.before.before.before.before.before.before.before.before.before.before.before.before.args.n c.before.before.before.before.before.before.before.before.before.before.before.before.before.before.before.before.before.before.args.m c.before.before.before.before.before.before.before.before.before.before.before.before.before.before.before.before.before.before.args.v c.before.before.before.before.before.before.before.before.before.before.before.before.before.before.before.before.before.before.args.t5 c.before.before.before.before.before.before.before.before.before.before.before.before.before.before.before.before.before.before.args.rows.now c.before.before.before.before.before.before.before.before.before.before.before.before.before.before.before.before.before.before.args.place.now c.before.before.before.before.before.before.before.before.before.before.before.before.before.before.before.before.before.before.args.kinds.now c.before.before.before.before.before.before.before.before.before.before.before.before.before.before.before.before.before.before.requires.0 c.before.before.before.before.before.before.before.before.before.before.before.before.before.before.before.before.before.before.args.kind).1))
-    (seam (c.before.before.before.before.before.before.before.before.before.before.before.before.before.before.before.before.before.before.args.v + 1) c.before.before.before.before.before.before.go_from.new.1.1.0 _ (c.before.before.before.before.before.before.go_from.auto.1.1.0 ∙ (place-count c.before.before.before.before.before.before.before.before.before.before.before.before.before.before.before.before.before.before.args.n c.before.before.before.before.before.before.before.before.before.before.before.before.before.before.before.before.before.before.args.m c.before.before.before.before.before.before.before.before.before.before.before.before.before.before.before.before.before.before.args.v c.before.before.before.before.before.before.before.before.before.before.before.before.before.before.before.before.before.before.args.t5 c.before.before.before.before.before.before.before.before.before.before.before.before.before.before.before.before.before.before.args.rows.now c.before.before.before.before.before.before.before.before.before.before.before.before.before.before.before.before.before.before.args.place.now c.before.before.before.before.before.before.before.before.before.before.before.before.before.before.before.before.before.before.args.kinds.now c.before.before.before.before.before.before.before.before.before.before.before.before.before.before.before.before.before.before.requires.0 c.before.before.before.before.before.before.before.before.before.before.before.before.before.before.before.before.before.before.args.kind).1))
+    appended-went c.args.n c.args.m c.args.v c.args.r c.args.rows.now c.args.place.now c.args.kinds.now c.requires.0 c.args.kind c.args.made c.args.past.now c.args.columns.now c.before.before.before.before.before.before.go_from.result _ _ _ _ c.before.before.before.before.before.before.go_from.ensures _ _
+    (seam (c.args.m + 1) c.before.before.before.before.before.before.go_from.new.t _ (c.before.before.before.before.before.before.go_from.auto.t ∙ (rows-count c.args.n c.args.m c.args.v c.args.r c.args.rows.now c.args.place.now c.args.kinds.now c.requires.0 c.args.kind).1))
+    (seam (c.args.v + 1) c.before.before.before.before.before.before.go_from.new.place _ (c.before.before.before.before.before.before.go_from.auto.place ∙ (place-count c.args.n c.args.m c.args.v c.args.r c.args.rows.now c.args.place.now c.args.kinds.now c.requires.0 c.args.kind).1))
 
 pub append_spec : {M : Type 1} → statement M
 append_spec =

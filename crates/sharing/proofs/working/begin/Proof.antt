@@ -1,6 +1,6 @@
 use mathlib.Core.Path.{sym, ap, ◌∙◌, subst}
 use mathlib.Core.List.{◌++◌}
-use Prim.Native.Nat.{◌+◌, ◌-◌, ◌*◌}
+use Prim.Native.Nat.{◌+◌, ◌*◌}
 use native.Mathlib.Omega.{arith}
 use lib.ListN.{length, take, drop}
 use Rattle.model.specs.Sets.{bounds}
@@ -14,11 +14,6 @@ use Rattle.sharing.proofs.Standings.{begun}
 use borrow.Author.Rules.{rules}
 use Rattle.sharing.proofs.working.begin.Statement.{statement}
 use Rattle.sharing.proofs.working.begin.Tie as tie
-use Rattle.sharing.proofs.working.begin.Reads as reads
-use Rattle.sharing.proofs.working.begin.Lts as lts
-use Rattle.sharing.proofs.history.go_on.Reads as go-on-reads
-use Rattle.simplex.proofs.fill.fill_bounds.Reads as fill-bounds-reads
-use Rattle.simplex.proofs.fill.name_variables.Reads as name-variables-reads
 
 mul-m : tie.Need-overflow_mul-m
 mul-m c = search rules
@@ -43,7 +38,7 @@ slice-relend-prefix-go-on : tie.Need-slice_bounds-go_on-end
 slice-relend-prefix-go-on c = search rules
 
 slice-aggregate-go-on : tie.Need-slice_bounds-go_on-end-2
-slice-aggregate-go-on c = sym (rows-count c.before.before.before.before.before.before.before.before.before.before.before.before.before.before.before.args.b c.before.before.before.before.before.before.before.before.before.before.before.before.before.before.before.requires.0 c.before.before.before.before.before.before.before.before.before.before.before.before.before.before.before.args.rows.now c.before.before.fill_bounds.new.1.1.0 c.before.before.before.before.before.before.before.before.before.before.before.before.before.before.before.args.place.now c.before.before.before.before.before.before.before.before.before.name_variables.new.1.1.0 c.before.before.before.before.before.before.before.before.before.before.before.before.before.before.before.args.kinds.now c.before.before.before.before.before.before.before.before.before.name_variables.new.1.1.1.0 c.before.before.before.before.before.before.before.before.before.name_variables.ensures c.before.before.fill_bounds.ensures c.before.before.before.before.before.before.before.before.before.before.before.before.before.before.before.requires.1.high c.before.before.before.before.before.before.before.before.before.before.before.before.before.before.before.requires.1.long c.before.before.before.before.before.before.before.before.before.before.before.before.before.before.before.requires.1.wide)
+slice-aggregate-go-on c = sym (rows-count c.before.before.before.before.before.before.before.before.before.before.before.before.before.before.before.args.b c.before.before.before.before.before.before.before.before.before.before.before.before.before.before.before.requires.0 c.before.before.before.before.before.before.before.before.before.before.before.before.before.before.before.args.rows.now c.before.before.fill_bounds.new.rows c.before.before.before.before.before.before.before.before.before.before.before.before.before.before.before.args.place.now c.before.before.before.before.before.before.before.before.before.name_variables.new.place c.before.before.before.before.before.before.before.before.before.before.before.before.before.before.before.args.kinds.now c.before.before.before.before.before.before.before.before.before.name_variables.new.kinds c.before.before.before.before.before.before.before.before.before.name_variables.ensures c.before.before.fill_bounds.ensures c.before.before.before.before.before.before.before.before.before.before.before.before.before.before.before.requires.1.high c.before.before.before.before.before.before.before.before.before.before.before.before.before.before.before.requires.1.long c.before.before.before.before.before.before.before.before.before.before.before.before.before.before.before.requires.1.wide)
 
 add-go-on : tie.Need-overflow_add-k
 add-go-on c = search rules
@@ -52,16 +47,16 @@ slice-relend-prefix-go-on-2 : tie.Need-slice_bounds-go_on-end-3
 slice-relend-prefix-go-on-2 c = search rules
 
 slice-aggregate-go-on-2 : tie.Need-slice_bounds-go_on-end-4
-slice-aggregate-go-on-2 c = sym (place-count c.before.before.before.before.before.before.before.before.before.before.before.before.before.before.before.before.args.b c.before.before.before.before.before.before.before.before.before.before.before.before.before.before.before.before.requires.0 c.before.before.before.before.before.before.before.before.before.before.before.before.before.before.before.before.args.rows.now c.before.before.before.fill_bounds.new.1.1.0 c.before.before.before.before.before.before.before.before.before.before.before.before.before.before.before.before.args.place.now c.before.before.before.before.before.before.before.before.before.before.name_variables.new.1.1.0 c.before.before.before.before.before.before.before.before.before.before.before.before.before.before.before.before.args.kinds.now c.before.before.before.before.before.before.before.before.before.before.name_variables.new.1.1.1.0 c.before.before.before.before.before.before.before.before.before.before.name_variables.ensures c.before.before.before.fill_bounds.ensures c.before.before.before.before.before.before.before.before.before.before.before.before.before.before.before.before.requires.1.high c.before.before.before.before.before.before.before.before.before.before.before.before.before.before.before.before.requires.1.long c.before.before.before.before.before.before.before.before.before.before.before.before.before.before.before.before.requires.1.wide)
+slice-aggregate-go-on-2 c = sym (place-count c.before.before.before.before.before.before.before.before.before.before.before.before.before.before.before.before.args.b c.before.before.before.before.before.before.before.before.before.before.before.before.before.before.before.before.requires.0 c.before.before.before.before.before.before.before.before.before.before.before.before.before.before.before.before.args.rows.now c.before.before.before.fill_bounds.new.rows c.before.before.before.before.before.before.before.before.before.before.before.before.before.before.before.before.args.place.now c.before.before.before.before.before.before.before.before.before.before.name_variables.new.place c.before.before.before.before.before.before.before.before.before.before.before.before.before.before.before.before.args.kinds.now c.before.before.before.before.before.before.before.before.before.before.name_variables.new.kinds c.before.before.before.before.before.before.before.before.before.before.name_variables.ensures c.before.before.before.fill_bounds.ensures c.before.before.before.before.before.before.before.before.before.before.before.before.before.before.before.before.requires.1.high c.before.before.before.before.before.before.before.before.before.before.before.before.before.before.before.before.requires.1.long c.before.before.before.before.before.before.before.before.before.before.before.before.before.before.before.before.requires.1.wide)
 
 slice-reshare-prefix-go-on : tie.Need-slice_bounds-go_on-end-5
 slice-reshare-prefix-go-on c = search rules
 
 slice-aggregate-go-on-3 : tie.Need-slice_bounds-go_on-end-6
-slice-aggregate-go-on-3 c = sym (kinds-count c.before.before.before.before.before.before.before.before.before.before.before.before.before.before.before.before.before.args.b c.before.before.before.before.before.before.before.before.before.before.before.before.before.before.before.before.before.requires.0 c.before.before.before.before.before.before.before.before.before.before.before.before.before.before.before.before.before.args.rows.now c.before.before.before.before.fill-bounds.new.1.1.0 c.before.before.before.before.before.before.before.before.before.before.before.before.before.before.before.before.before.args.place.now c.before.before.before.before.before.before.before.before.before.before.before.name-variables.new.1.1.0 c.before.before.before.before.before.before.before.before.before.before.before.before.before.before.before.before.before.args.kinds.now c.before.before.before.before.before.before.before.before.before.before.before.name-variables.new.1.1.1.0 c.before.before.before.before.before.before.before.before.before.before.before.name-variables.ensures c.before.before.before.before.fill-bounds.ensures c.before.before.before.before.before.before.before.before.before.before.before.before.before.before.before.before.before.requires.1.high c.before.before.before.before.before.before.before.before.before.before.before.before.before.before.before.before.before.requires.1.long c.before.before.before.before.before.before.before.before.before.before.before.before.before.before.before.before.before.requires.1.wide)
+slice-aggregate-go-on-3 c = sym (kinds-count c.args.b c.requires.0 c.args.rows.now c.fill_bounds.new.rows c.args.place.now c.name_variables.new.place c.args.kinds.now c.name_variables.new.kinds c.name_variables.ensures c.fill_bounds.ensures c.requires.1.high c.requires.1.long c.requires.1.wide)
 
 go-on-requires : tie.Need-go_on-requires
-go-on-requires c κs = (rw (rows_are c.before.before.before.before.before.before.before.before.before.before.before.before.before.before.before.before.before.before.before.args.b c.before.before.before.before.before.before.before.before.before.before.before.before.before.before.before.before.before.before.before.requires.0 c.before.before.before.before.before.before.before.before.before.before.before.before.before.before.before.before.before.before.before.args.rows.now c.before.before.before.before.before.before.fill-bounds.new.1.1.0 c.before.before.before.before.before.before.before.before.before.before.before.before.before.before.before.before.before.before.before.args.place.now c.before.before.before.before.before.before.before.before.before.before.before.before.before.name-variables.new.1.1.0 c.before.before.before.before.before.before.before.before.before.before.before.before.before.before.before.before.before.before.before.args.kinds.now c.before.before.before.before.before.before.before.before.before.before.before.before.before.name-variables.new.1.1.1.0 c.before.before.before.before.before.before.before.before.before.before.before.before.before.name-variables.ensures c.before.before.before.before.before.before.fill-bounds.ensures c.before.before.before.before.before.before.before.before.before.before.before.before.before.before.before.before.before.before.before.requires.1.high c.before.before.before.before.before.before.before.before.before.before.before.before.before.before.before.before.before.before.before.requires.1.long c.before.before.before.before.before.before.before.before.before.before.before.before.before.before.before.before.before.before.before.requires.1.wide, place_is c.before.before.before.before.before.before.before.before.before.before.before.before.before.before.before.before.before.before.before.args.b c.before.before.before.before.before.before.before.before.before.before.before.before.before.before.before.before.before.before.before.requires.0 c.before.before.before.before.before.before.before.before.before.before.before.before.before.before.before.before.before.before.before.args.rows.now c.before.before.before.before.before.before.fill-bounds.new.1.1.0 c.before.before.before.before.before.before.before.before.before.before.before.before.before.before.before.before.before.before.before.args.place.now c.before.before.before.before.before.before.before.before.before.before.before.before.before.name-variables.new.1.1.0 c.before.before.before.before.before.before.before.before.before.before.before.before.before.before.before.before.before.before.before.args.kinds.now c.before.before.before.before.before.before.before.before.before.before.before.before.before.name-variables.new.1.1.1.0 c.before.before.before.before.before.before.before.before.before.before.before.before.before.name-variables.ensures c.before.before.before.before.before.before.fill-bounds.ensures c.before.before.before.before.before.before.before.before.before.before.before.before.before.before.before.before.before.before.before.requires.1.high c.before.before.before.before.before.before.before.before.before.before.before.before.before.before.before.before.before.before.before.requires.1.long c.before.before.before.before.before.before.before.before.before.before.before.before.before.before.before.before.before.before.before.requires.1.wide, kinds_are c.before.before.before.before.before.before.before.before.before.before.before.before.before.before.before.before.before.before.before.args.b c.before.before.before.before.before.before.before.before.before.before.before.before.before.before.before.before.before.before.before.requires.0 c.before.before.before.before.before.before.before.before.before.before.before.before.before.before.before.before.before.before.before.args.rows.now c.before.before.before.before.before.before.fill-bounds.new.1.1.0 c.before.before.before.before.before.before.before.before.before.before.before.before.before.before.before.before.before.before.before.args.place.now c.before.before.before.before.before.before.before.before.before.before.before.before.before.name-variables.new.1.1.0 c.before.before.before.before.before.before.before.before.before.before.before.before.before.before.before.before.before.before.before.args.kinds.now c.before.before.before.before.before.before.before.before.before.before.before.before.before.name-variables.new.1.1.1.0 c.before.before.before.before.before.before.before.before.before.before.before.before.before.name-variables.ensures c.before.before.before.before.before.before.fill-bounds.ensures c.before.before.before.before.before.before.before.before.before.before.before.before.before.before.before.before.before.before.before.requires.1.high c.before.before.before.before.before.before.before.before.before.before.before.before.before.before.before.before.before.before.before.requires.1.long c.before.before.before.before.before.before.before.before.before.before.before.before.before.before.before.before.before.before.before.requires.1.wide) (first_fine c.before.before.before.before.before.before.before.before.before.before.before.before.before.before.before.before.before.before.before.args.b.divs (bounds 0 (basic_set_of c.before.before.before.before.before.before.before.before.before.before.before.before.before.before.before.before.before.before.before.args.b).divisions) c.before.before.before.before.before.before.before.before.before.before.before.before.before.before.before.before.before.before.before.requires.0.divs (few-bounds c.before.before.before.before.before.before.before.before.before.before.before.before.before.before.before.before.before.before.before.args.b c.before.before.before.before.before.before.before.before.before.before.before.before.before.before.before.before.before.before.before.requires.0 c.before.before.before.before.before.before.before.before.before.before.before.before.before.before.before.before.before.before.before.args.rows.now c.before.before.before.before.before.before.fill-bounds.new.1.1.0 c.before.before.before.before.before.before.before.before.before.before.before.before.before.before.before.before.before.before.before.args.place.now c.before.before.before.before.before.before.before.before.before.before.before.before.before.name-variables.new.1.1.0 c.before.before.before.before.before.before.before.before.before.before.before.before.before.before.before.before.before.before.before.args.kinds.now c.before.before.before.before.before.before.before.before.before.before.before.before.before.name-variables.new.1.1.1.0 c.before.before.before.before.before.before.before.before.before.before.before.before.before.name-variables.ensures c.before.before.before.before.before.before.fill-bounds.ensures c.before.before.before.before.before.before.before.before.before.before.before.before.before.before.before.before.before.before.before.requires.1.high c.before.before.before.before.before.before.before.before.before.before.before.before.before.before.before.before.before.before.before.requires.1.long c.before.before.before.before.before.before.before.before.before.before.before.before.before.before.before.before.before.before.before.requires.1.wide)), ((c.before.before.before.before.before.before.before.before.before.before.before.before.before.before.before.before.before.before.before.requires.1.many, c.before.before.before.before.before.before.before.before.before.before.before.before.before.before.before.before.before.before.before.requires.1.many'), omega arith))
+go-on-requires c κs = (rw (rows_are c.args.b c.requires.0 c.args.rows.now c.fill_bounds.new.rows c.args.place.now c.name_variables.new.place c.args.kinds.now c.name_variables.new.kinds c.name_variables.ensures c.fill_bounds.ensures c.requires.1.high c.requires.1.long c.requires.1.wide, place_is c.args.b c.requires.0 c.args.rows.now c.fill_bounds.new.rows c.args.place.now c.name_variables.new.place c.args.kinds.now c.name_variables.new.kinds c.name_variables.ensures c.fill_bounds.ensures c.requires.1.high c.requires.1.long c.requires.1.wide, kinds_are c.args.b c.requires.0 c.args.rows.now c.fill_bounds.new.rows c.args.place.now c.name_variables.new.place c.args.kinds.now c.name_variables.new.kinds c.name_variables.ensures c.fill_bounds.ensures c.requires.1.high c.requires.1.long c.requires.1.wide) (first_fine c.args.b.divs (bounds 0 (basic_set_of c.args.b).divisions) c.requires.0.divs (few-bounds c.args.b c.requires.0 c.args.rows.now c.fill_bounds.new.rows c.args.place.now c.name_variables.new.place c.args.kinds.now c.name_variables.new.kinds c.name_variables.ensures c.fill_bounds.ensures c.requires.1.high c.requires.1.long c.requires.1.wide)), ((c.requires.1.many, c.requires.1.many'), omega arith))
 
 same_length : tie.Need-shape_of-rows
 same_length c = search rules
@@ -80,24 +75,24 @@ same-length-5 c = search rules
 
 returns : tie.Need-returns
 returns c =
-    let k = c.before.before.before.before.before.before.before.before.before.before.before.before.before.before.before.before.before.before.before.before.before.before.before.before.before.before.args.b.divs in
-    let cs = bounds 0 (basic_set_of c.before.before.before.before.before.before.before.before.before.before.before.before.before.before.before.before.before.before.before.before.before.before.before.before.before.before.args.b).divisions in
+    let k = c.args.b.divs in
+    let cs = bounds 0 (basic_set_of c.args.b).divisions in
     let n = 8 + 3 * k in
     let x = c.before.before.before.before.before.before.go_on in
-    let w : Went (first_kinds k cs) 0 (first_table k cs) (first_place k (length cs)) c.before.before.before.before.before.before.before.before.before.before.before.before.before.before.before.before.before.before.before.before.before.before.before.before.before.before.args.past.now c.before.before.before.before.before.before.before.before.before.before.before.before.before.before.before.before.before.before.before.before.before.before.before.before.before.before.args.columns.now x.result x.new.0 x.new.1.1.0 x.new.1.1.1.1.0 x.new.1.1.1.1.1.0 =
-    subst (λ a. Went a 0 (first_table k cs) (first_place k (length cs)) c.before.before.before.before.before.before.before.before.before.before.before.before.before.before.before.before.before.before.before.before.before.before.before.before.before.before.args.past.now c.before.before.before.before.before.before.before.before.before.before.before.before.before.before.before.before.before.before.before.before.before.before.before.before.before.before.args.columns.now x.result x.new.0 x.new.1.1.0 x.new.1.1.1.1.0 x.new.1.1.1.1.1.0) (kinds_are c.before.before.before.before.before.before.before.before.before.before.before.before.before.before.before.before.before.before.before.before.before.before.before.before.before.before.args.b c.before.before.before.before.before.before.before.before.before.before.before.before.before.before.before.before.before.before.before.before.before.before.before.before.before.before.requires.0 c.before.before.before.before.before.before.before.before.before.before.before.before.before.before.before.before.before.before.before.before.before.before.before.before.before.before.args.rows.now c.before.before.before.before.before.before.before.before.before.before.before.before.before.fill-bounds.new.1.1.0 c.before.before.before.before.before.before.before.before.before.before.before.before.before.before.before.before.before.before.before.before.before.before.before.before.before.before.args.place.now c.before.before.before.before.before.before.before.before.before.before.before.before.before.before.before.before.before.before.before.before.name-variables.new.1.1.0 c.before.before.before.before.before.before.before.before.before.before.before.before.before.before.before.before.before.before.before.before.before.before.before.before.before.before.args.kinds.now c.before.before.before.before.before.before.before.before.before.before.before.before.before.before.before.before.before.before.before.before.name-variables.new.1.1.1.0 c.before.before.before.before.before.before.before.before.before.before.before.before.before.before.before.before.before.before.before.before.name-variables.ensures c.before.before.before.before.before.before.before.before.before.before.before.before.before.fill-bounds.ensures c.before.before.before.before.before.before.before.before.before.before.before.before.before.before.before.before.before.before.before.before.before.before.before.before.before.before.requires.1.high c.before.before.before.before.before.before.before.before.before.before.before.before.before.before.before.before.before.before.before.before.before.before.before.before.before.before.requires.1.long c.before.before.before.before.before.before.before.before.before.before.before.before.before.before.before.before.before.before.before.before.before.before.before.before.before.before.requires.1.wide)
-    (subst (λ a. Went (take n c.before.before.before.before.before.before.before.before.before.before.before.before.before.before.before.before.before.before.before.before.name-variables.new.1.1.1.0) 0 (first_table k cs) a c.before.before.before.before.before.before.before.before.before.before.before.before.before.before.before.before.before.before.before.before.before.before.before.before.before.before.args.past.now c.before.before.before.before.before.before.before.before.before.before.before.before.before.before.before.before.before.before.before.before.before.before.before.before.before.before.args.columns.now x.result x.new.0 x.new.1.1.0 x.new.1.1.1.1.0 x.new.1.1.1.1.1.0) (place_is c.before.before.before.before.before.before.before.before.before.before.before.before.before.before.before.before.before.before.before.before.before.before.before.before.before.before.args.b c.before.before.before.before.before.before.before.before.before.before.before.before.before.before.before.before.before.before.before.before.before.before.before.before.before.before.requires.0 c.before.before.before.before.before.before.before.before.before.before.before.before.before.before.before.before.before.before.before.before.before.before.before.before.before.before.args.rows.now c.before.before.before.before.before.before.before.before.before.before.before.before.before.fill-bounds.new.1.1.0 c.before.before.before.before.before.before.before.before.before.before.before.before.before.before.before.before.before.before.before.before.before.before.before.before.before.before.args.place.now c.before.before.before.before.before.before.before.before.before.before.before.before.before.before.before.before.before.before.before.before.name-variables.new.1.1.0 c.before.before.before.before.before.before.before.before.before.before.before.before.before.before.before.before.before.before.before.before.before.before.before.before.before.before.args.kinds.now c.before.before.before.before.before.before.before.before.before.before.before.before.before.before.before.before.before.before.before.before.name-variables.new.1.1.1.0 c.before.before.before.before.before.before.before.before.before.before.before.before.before.before.before.before.before.before.before.before.name-variables.ensures c.before.before.before.before.before.before.before.before.before.before.before.before.before.fill-bounds.ensures c.before.before.before.before.before.before.before.before.before.before.before.before.before.before.before.before.before.before.before.before.before.before.before.before.before.before.requires.1.high c.before.before.before.before.before.before.before.before.before.before.before.before.before.before.before.before.before.before.before.before.before.before.before.before.before.before.requires.1.long c.before.before.before.before.before.before.before.before.before.before.before.before.before.before.before.before.before.before.before.before.before.before.before.before.before.before.requires.1.wide)
-    (subst (λ a. Went (take n c.before.before.before.before.before.before.before.before.before.before.before.before.before.before.before.before.before.before.before.before.name-variables.new.1.1.1.0) 0 a (take n c.before.before.before.before.before.before.before.before.before.before.before.before.before.before.before.before.before.before.before.before.name-variables.new.1.1.0) c.before.before.before.before.before.before.before.before.before.before.before.before.before.before.before.before.before.before.before.before.before.before.before.before.before.before.args.past.now c.before.before.before.before.before.before.before.before.before.before.before.before.before.before.before.before.before.before.before.before.before.before.before.before.before.before.args.columns.now x.result x.new.0 x.new.1.1.0 x.new.1.1.1.1.0 x.new.1.1.1.1.1.0) (rows_are c.before.before.before.before.before.before.before.before.before.before.before.before.before.before.before.before.before.before.before.before.before.before.before.before.before.before.args.b c.before.before.before.before.before.before.before.before.before.before.before.before.before.before.before.before.before.before.before.before.before.before.before.before.before.before.requires.0 c.before.before.before.before.before.before.before.before.before.before.before.before.before.before.before.before.before.before.before.before.before.before.before.before.before.before.args.rows.now c.before.before.before.before.before.before.before.before.before.before.before.before.before.fill-bounds.new.1.1.0 c.before.before.before.before.before.before.before.before.before.before.before.before.before.before.before.before.before.before.before.before.before.before.before.before.before.before.args.place.now c.before.before.before.before.before.before.before.before.before.before.before.before.before.before.before.before.before.before.before.before.name-variables.new.1.1.0 c.before.before.before.before.before.before.before.before.before.before.before.before.before.before.before.before.before.before.before.before.before.before.before.before.before.before.args.kinds.now c.before.before.before.before.before.before.before.before.before.before.before.before.before.before.before.before.before.before.before.before.name-variables.new.1.1.1.0 c.before.before.before.before.before.before.before.before.before.before.before.before.before.before.before.before.before.before.before.before.name-variables.ensures c.before.before.before.before.before.before.before.before.before.before.before.before.before.fill-bounds.ensures c.before.before.before.before.before.before.before.before.before.before.before.before.before.before.before.before.before.before.before.before.before.before.before.before.before.before.requires.1.high c.before.before.before.before.before.before.before.before.before.before.before.before.before.before.before.before.before.before.before.before.before.before.before.before.before.before.requires.1.long c.before.before.before.before.before.before.before.before.before.before.before.before.before.before.before.before.before.before.before.before.before.before.before.before.before.before.requires.1.wide) x.ensures)) in
-    let lr = x.auto.0 ∙ rows-count c.before.before.before.before.before.before.before.before.before.before.before.before.before.before.before.before.before.before.before.before.before.before.before.before.before.before.args.b c.before.before.before.before.before.before.before.before.before.before.before.before.before.before.before.before.before.before.before.before.before.before.before.before.before.before.requires.0 c.before.before.before.before.before.before.before.before.before.before.before.before.before.before.before.before.before.before.before.before.before.before.before.before.before.before.args.rows.now c.before.before.before.before.before.before.before.before.before.before.before.before.before.fill-bounds.new.1.1.0 c.before.before.before.before.before.before.before.before.before.before.before.before.before.before.before.before.before.before.before.before.before.before.before.before.before.before.args.place.now c.before.before.before.before.before.before.before.before.before.before.before.before.before.before.before.before.before.before.before.before.name-variables.new.1.1.0 c.before.before.before.before.before.before.before.before.before.before.before.before.before.before.before.before.before.before.before.before.before.before.before.before.before.before.args.kinds.now c.before.before.before.before.before.before.before.before.before.before.before.before.before.before.before.before.before.before.before.before.name-variables.new.1.1.1.0 c.before.before.before.before.before.before.before.before.before.before.before.before.before.before.before.before.before.before.before.before.name-variables.ensures c.before.before.before.before.before.before.before.before.before.before.before.before.before.fill-bounds.ensures c.before.before.before.before.before.before.before.before.before.before.before.before.before.before.before.before.before.before.before.before.before.before.before.before.before.before.requires.1.high c.before.before.before.before.before.before.before.before.before.before.before.before.before.before.before.before.before.before.before.before.before.before.before.before.before.before.requires.1.long c.before.before.before.before.before.before.before.before.before.before.before.before.before.before.before.before.before.before.before.before.before.before.before.before.before.before.requires.1.wide in
-    let lp = x.auto.1.1.0 ∙ place-count c.before.before.before.before.before.before.before.before.before.before.before.before.before.before.before.before.before.before.before.before.before.before.before.before.before.before.args.b c.before.before.before.before.before.before.before.before.before.before.before.before.before.before.before.before.before.before.before.before.before.before.before.before.before.before.requires.0 c.before.before.before.before.before.before.before.before.before.before.before.before.before.before.before.before.before.before.before.before.before.before.before.before.before.before.args.rows.now c.before.before.before.before.before.before.before.before.before.before.before.before.before.fill-bounds.new.1.1.0 c.before.before.before.before.before.before.before.before.before.before.before.before.before.before.before.before.before.before.before.before.before.before.before.before.before.before.args.place.now c.before.before.before.before.before.before.before.before.before.before.before.before.before.before.before.before.before.before.before.before.name-variables.new.1.1.0 c.before.before.before.before.before.before.before.before.before.before.before.before.before.before.before.before.before.before.before.before.before.before.before.before.before.before.args.kinds.now c.before.before.before.before.before.before.before.before.before.before.before.before.before.before.before.before.before.before.before.before.name-variables.new.1.1.1.0 c.before.before.before.before.before.before.before.before.before.before.before.before.before.before.before.before.before.before.before.before.name-variables.ensures c.before.before.before.before.before.before.before.before.before.before.before.before.before.fill-bounds.ensures c.before.before.before.before.before.before.before.before.before.before.before.before.before.before.before.before.before.before.before.before.before.before.before.before.before.before.requires.1.high c.before.before.before.before.before.before.before.before.before.before.before.before.before.before.before.before.before.before.before.before.before.before.before.before.before.before.requires.1.long c.before.before.before.before.before.before.before.before.before.before.before.before.before.before.before.before.before.before.before.before.before.before.before.before.before.before.requires.1.wide in
-    let R = x.new.0 ++ drop (2 * k) c.before.before.before.before.before.before.before.before.before.before.before.before.before.fill-bounds.new.1.1.0 in
-    let P = x.new.1.1.0 ++ drop n c.before.before.before.before.before.before.before.before.before.before.before.before.before.before.before.before.before.before.before.before.name-variables.new.1.1.0 in
-    let K = c.before.before.before.before.before.before.before.before.before.before.before.before.before.before.before.before.before.before.before.before.name-variables.new.1.1.1.0 in
-    begun k cs x.result R P K c.before.before.before.before.before.before.before.before.before.before.before.before.before.before.before.before.before.before.before.before.before.before.before.before.before.before.args.past.now c.before.before.before.before.before.before.before.before.before.before.before.before.before.before.before.before.before.before.before.before.before.before.before.before.before.before.args.columns.now x.new.1.1.1.1.0 x.new.1.1.1.1.1.0 c.before.before.before.before.before.before.before.before.before.before.before.before.before.before.before.before.before.before.before.before.before.before.before.before.before.before.requires.0.divs (few-bounds c.before.before.before.before.before.before.before.before.before.before.before.before.before.before.before.before.before.before.before.before.before.before.before.before.before.before.args.b c.before.before.before.before.before.before.before.before.before.before.before.before.before.before.before.before.before.before.before.before.before.before.before.before.before.before.requires.0 c.before.before.before.before.before.before.before.before.before.before.before.before.before.before.before.before.before.before.before.before.before.before.before.before.before.before.args.rows.now c.before.before.before.before.before.before.before.before.before.before.before.before.before.fill-bounds.new.1.1.0 c.before.before.before.before.before.before.before.before.before.before.before.before.before.before.before.before.before.before.before.before.before.before.before.before.before.before.args.place.now c.before.before.before.before.before.before.before.before.before.before.before.before.before.before.before.before.before.before.before.before.name-variables.new.1.1.0 c.before.before.before.before.before.before.before.before.before.before.before.before.before.before.before.before.before.before.before.before.before.before.before.before.before.before.args.kinds.now c.before.before.before.before.before.before.before.before.before.before.before.before.before.before.before.before.before.before.before.before.name-variables.new.1.1.1.0 c.before.before.before.before.before.before.before.before.before.before.before.before.before.before.before.before.before.before.before.before.name-variables.ensures c.before.before.before.before.before.before.before.before.before.before.before.before.before.fill-bounds.ensures c.before.before.before.before.before.before.before.before.before.before.before.before.before.before.before.before.before.before.before.before.before.before.before.before.before.before.requires.1.high c.before.before.before.before.before.before.before.before.before.before.before.before.before.before.before.before.before.before.before.before.before.before.before.before.before.before.requires.1.long c.before.before.before.before.before.before.before.before.before.before.before.before.before.before.before.before.before.before.before.before.before.before.before.before.before.before.requires.1.wide)
-    (rejoined (2 * k) x.new.0 c.before.before.before.before.before.before.before.before.before.before.before.before.before.fill-bounds.new.1.1.0 x.auto.0 ∙ rows-length c.before.before.before.before.before.before.before.before.before.before.before.before.before.before.before.before.before.before.before.before.before.before.before.before.before.before.args.b c.before.before.before.before.before.before.before.before.before.before.before.before.before.before.before.before.before.before.before.before.before.before.before.before.before.before.requires.0 c.before.before.before.before.before.before.before.before.before.before.before.before.before.before.before.before.before.before.before.before.before.before.before.before.before.before.args.rows.now c.before.before.before.before.before.before.before.before.before.before.before.before.before.fill-bounds.new.1.1.0 c.before.before.before.before.before.before.before.before.before.before.before.before.before.before.before.before.before.before.before.before.before.before.before.before.before.before.args.place.now c.before.before.before.before.before.before.before.before.before.before.before.before.before.before.before.before.before.before.before.before.name-variables.new.1.1.0 c.before.before.before.before.before.before.before.before.before.before.before.before.before.before.before.before.before.before.before.before.before.before.before.before.before.before.args.kinds.now c.before.before.before.before.before.before.before.before.before.before.before.before.before.before.before.before.before.before.before.before.name-variables.new.1.1.1.0 c.before.before.before.before.before.before.before.before.before.before.before.before.before.before.before.before.before.before.before.before.name-variables.ensures c.before.before.before.before.before.before.before.before.before.before.before.before.before.fill-bounds.ensures c.before.before.before.before.before.before.before.before.before.before.before.before.before.before.before.before.before.before.before.before.before.before.before.before.before.before.requires.1.high c.before.before.before.before.before.before.before.before.before.before.before.before.before.before.before.before.before.before.before.before.before.before.before.before.before.before.requires.1.long c.before.before.before.before.before.before.before.before.before.before.before.before.before.before.before.before.before.before.before.before.before.before.before.before.before.before.requires.1.wide)
-    (rejoined n x.new.1.1.0 c.before.before.before.before.before.before.before.before.before.before.before.before.before.before.before.before.before.before.before.before.name-variables.new.1.1.0 x.auto.1.1.0 ∙ place-length c.before.before.before.before.before.before.before.before.before.before.before.before.before.before.before.before.before.before.before.before.before.before.before.before.before.before.args.b c.before.before.before.before.before.before.before.before.before.before.before.before.before.before.before.before.before.before.before.before.before.before.before.before.before.before.requires.0 c.before.before.before.before.before.before.before.before.before.before.before.before.before.before.before.before.before.before.before.before.before.before.before.before.before.before.args.rows.now c.before.before.before.before.before.before.before.before.before.before.before.before.before.fill-bounds.new.1.1.0 c.before.before.before.before.before.before.before.before.before.before.before.before.before.before.before.before.before.before.before.before.before.before.before.before.before.before.args.place.now c.before.before.before.before.before.before.before.before.before.before.before.before.before.before.before.before.before.before.before.before.name-variables.new.1.1.0 c.before.before.before.before.before.before.before.before.before.before.before.before.before.before.before.before.before.before.before.before.before.before.before.before.before.before.args.kinds.now c.before.before.before.before.before.before.before.before.before.before.before.before.before.before.before.before.before.before.before.before.name-variables.new.1.1.1.0 c.before.before.before.before.before.before.before.before.before.before.before.before.before.before.before.before.before.before.before.before.name-variables.ensures c.before.before.before.before.before.before.before.before.before.before.before.before.before.fill-bounds.ensures c.before.before.before.before.before.before.before.before.before.before.before.before.before.before.before.before.before.before.before.before.before.before.before.before.before.before.requires.1.high c.before.before.before.before.before.before.before.before.before.before.before.before.before.before.before.before.before.before.before.before.before.before.before.before.before.before.requires.1.long c.before.before.before.before.before.before.before.before.before.before.before.before.before.before.before.before.before.before.before.before.before.before.before.before.before.before.requires.1.wide)
-    (kinds-length c.before.before.before.before.before.before.before.before.before.before.before.before.before.before.before.before.before.before.before.before.before.before.before.before.before.before.args.b c.before.before.before.before.before.before.before.before.before.before.before.before.before.before.before.before.before.before.before.before.before.before.before.before.before.before.requires.0 c.before.before.before.before.before.before.before.before.before.before.before.before.before.before.before.before.before.before.before.before.before.before.before.before.before.before.args.rows.now c.before.before.before.before.before.before.before.before.before.before.before.before.before.fill-bounds.new.1.1.0 c.before.before.before.before.before.before.before.before.before.before.before.before.before.before.before.before.before.before.before.before.before.before.before.before.before.before.args.place.now c.before.before.before.before.before.before.before.before.before.before.before.before.before.before.before.before.before.before.before.before.name-variables.new.1.1.0 c.before.before.before.before.before.before.before.before.before.before.before.before.before.before.before.before.before.before.before.before.before.before.before.before.before.before.args.kinds.now c.before.before.before.before.before.before.before.before.before.before.before.before.before.before.before.before.before.before.before.before.name-variables.new.1.1.1.0 c.before.before.before.before.before.before.before.before.before.before.before.before.before.before.before.before.before.before.before.before.name-variables.ensures c.before.before.before.before.before.before.before.before.before.before.before.before.before.fill-bounds.ensures c.before.before.before.before.before.before.before.before.before.before.before.before.before.before.before.before.before.before.before.before.before.before.before.before.before.before.requires.1.high c.before.before.before.before.before.before.before.before.before.before.before.before.before.before.before.before.before.before.before.before.before.before.before.before.before.before.requires.1.long c.before.before.before.before.before.before.before.before.before.before.before.before.before.before.before.before.before.before.before.before.before.before.before.before.before.before.requires.1.wide) (x.auto.1.1.1.1.0 ∙ c.before.before.before.before.before.before.before.before.before.before.before.before.before.before.before.before.before.before.before.before.before.before.before.before.before.before.requires.1.many) (x.auto.1.1.1.1.1.0 ∙ c.before.before.before.before.before.before.before.before.before.before.before.before.before.before.before.before.before.before.before.before.before.before.before.before.before.before.requires.1.many') x.new.0 x.new.1.1.0 w
-    (ap (λ i. take i R) (long c.before.before.before.before.before.before.before.before.before.before.before.before.before.before.before.before.before.before.before.before.before.before.before.before.before.before.args.b c.before.before.before.before.before.before.before.before.before.before.before.before.before.before.before.before.before.before.before.before.before.before.before.before.before.before.requires.0 c.before.before.before.before.before.before.before.before.before.before.before.before.before.before.before.before.before.before.before.before.before.before.before.before.before.before.args.rows.now c.before.before.before.before.before.before.before.before.before.before.before.before.before.fill-bounds.new.1.1.0 c.before.before.before.before.before.before.before.before.before.before.before.before.before.before.before.before.before.before.before.before.before.before.before.before.before.before.args.place.now c.before.before.before.before.before.before.before.before.before.before.before.before.before.before.before.before.before.before.before.before.name-variables.new.1.1.0 c.before.before.before.before.before.before.before.before.before.before.before.before.before.before.before.before.before.before.before.before.before.before.before.before.before.before.args.kinds.now c.before.before.before.before.before.before.before.before.before.before.before.before.before.before.before.before.before.before.before.before.name-variables.new.1.1.1.0 c.before.before.before.before.before.before.before.before.before.before.before.before.before.before.before.before.before.before.before.before.name-variables.ensures c.before.before.before.before.before.before.before.before.before.before.before.before.before.fill-bounds.ensures c.before.before.before.before.before.before.before.before.before.before.before.before.before.before.before.before.before.before.before.before.before.before.before.before.before.before.requires.1.high c.before.before.before.before.before.before.before.before.before.before.before.before.before.before.before.before.before.before.before.before.before.before.before.before.before.before.requires.1.long c.before.before.before.before.before.before.before.before.before.before.before.before.before.before.before.before.before.before.before.before.before.before.before.before.before.before.requires.1.wide) ∙ seam (2 * k) x.new.0 (drop (2 * k) c.before.before.before.before.before.before.before.before.before.before.before.before.before.fill-bounds.new.1.1.0) lr) (ap (λ i. take i P) (all-long c.before.before.before.before.before.before.before.before.before.before.before.before.before.before.before.before.before.before.before.before.before.before.before.before.before.before.args.b c.before.before.before.before.before.before.before.before.before.before.before.before.before.before.before.before.before.before.before.before.before.before.before.before.before.before.requires.0 c.before.before.before.before.before.before.before.before.before.before.before.before.before.before.before.before.before.before.before.before.before.before.before.before.before.before.args.rows.now c.before.before.before.before.before.before.before.before.before.before.before.before.before.fill-bounds.new.1.1.0 c.before.before.before.before.before.before.before.before.before.before.before.before.before.before.before.before.before.before.before.before.before.before.before.before.before.before.args.place.now c.before.before.before.before.before.before.before.before.before.before.before.before.before.before.before.before.before.before.before.before.name-variables.new.1.1.0 c.before.before.before.before.before.before.before.before.before.before.before.before.before.before.before.before.before.before.before.before.before.before.before.before.before.before.args.kinds.now c.before.before.before.before.before.before.before.before.before.before.before.before.before.before.before.before.before.before.before.before.name-variables.new.1.1.1.0 c.before.before.before.before.before.before.before.before.before.before.before.before.before.before.before.before.before.before.before.before.name-variables.ensures c.before.before.before.before.before.before.before.before.before.before.before.before.before.fill-bounds.ensures c.before.before.before.before.before.before.before.before.before.before.before.before.before.before.before.before.before.before.before.before.before.before.before.before.before.before.requires.1.high c.before.before.before.before.before.before.before.before.before.before.before.before.before.before.before.before.before.before.before.before.before.before.before.before.before.before.requires.1.long c.before.before.before.before.before.before.before.before.before.before.before.before.before.before.before.before.before.before.before.before.before.before.before.before.before.before.requires.1.wide) ∙ seam n x.new.1.1.0 (drop n c.before.before.before.before.before.before.before.before.before.before.before.before.before.before.before.before.before.before.before.before.name-variables.new.1.1.0) lp) (ap (λ i. take i K) (all-long c.before.before.before.before.before.before.before.before.before.before.before.before.before.before.before.before.before.before.before.before.before.before.before.before.before.before.args.b c.before.before.before.before.before.before.before.before.before.before.before.before.before.before.before.before.before.before.before.before.before.before.before.before.before.before.requires.0 c.before.before.before.before.before.before.before.before.before.before.before.before.before.before.before.before.before.before.before.before.before.before.before.before.before.before.args.rows.now c.before.before.before.before.before.before.before.before.before.before.before.before.before.fill-bounds.new.1.1.0 c.before.before.before.before.before.before.before.before.before.before.before.before.before.before.before.before.before.before.before.before.before.before.before.before.before.before.args.place.now c.before.before.before.before.before.before.before.before.before.before.before.before.before.before.before.before.before.before.before.before.name-variables.new.1.1.0 c.before.before.before.before.before.before.before.before.before.before.before.before.before.before.before.before.before.before.before.before.before.before.before.before.before.before.args.kinds.now c.before.before.before.before.before.before.before.before.before.before.before.before.before.before.before.before.before.before.before.before.name-variables.new.1.1.1.0 c.before.before.before.before.before.before.before.before.before.before.before.before.before.before.before.before.before.before.before.before.name-variables.ensures c.before.before.before.before.before.before.before.before.before.before.before.before.before.fill-bounds.ensures c.before.before.before.before.before.before.before.before.before.before.before.before.before.before.before.before.before.before.before.before.before.before.before.before.before.before.requires.1.high c.before.before.before.before.before.before.before.before.before.before.before.before.before.before.before.before.before.before.before.before.before.before.before.before.before.before.requires.1.long c.before.before.before.before.before.before.before.before.before.before.before.before.before.before.before.before.before.before.before.before.before.before.before.before.before.before.requires.1.wide) ∙ kinds_are c.before.before.before.before.before.before.before.before.before.before.before.before.before.before.before.before.before.before.before.before.before.before.before.before.before.before.args.b c.before.before.before.before.before.before.before.before.before.before.before.before.before.before.before.before.before.before.before.before.before.before.before.before.before.before.requires.0 c.before.before.before.before.before.before.before.before.before.before.before.before.before.before.before.before.before.before.before.before.before.before.before.before.before.before.args.rows.now c.before.before.before.before.before.before.before.before.before.before.before.before.before.fill-bounds.new.1.1.0 c.before.before.before.before.before.before.before.before.before.before.before.before.before.before.before.before.before.before.before.before.before.before.before.before.before.before.args.place.now c.before.before.before.before.before.before.before.before.before.before.before.before.before.before.before.before.before.before.before.before.name-variables.new.1.1.0 c.before.before.before.before.before.before.before.before.before.before.before.before.before.before.before.before.before.before.before.before.before.before.before.before.before.before.args.kinds.now c.before.before.before.before.before.before.before.before.before.before.before.before.before.before.before.before.before.before.before.before.name-variables.new.1.1.1.0 c.before.before.before.before.before.before.before.before.before.before.before.before.before.before.before.before.before.before.before.before.name-variables.ensures c.before.before.before.before.before.before.before.before.before.before.before.before.before.fill-bounds.ensures c.before.before.before.before.before.before.before.before.before.before.before.before.before.before.before.before.before.before.before.before.before.before.before.before.before.before.requires.1.high c.before.before.before.before.before.before.before.before.before.before.before.before.before.before.before.before.before.before.before.before.before.before.before.before.before.before.requires.1.long c.before.before.before.before.before.before.before.before.before.before.before.before.before.before.before.before.before.before.before.before.before.before.before.before.before.before.requires.1.wide)
+    let w : Went (first_kinds k cs) 0 (first_table k cs) (first_place k (length cs)) c.args.past.now c.args.columns.now x.result x.new.t x.new.place x.new.past x.new.columns =
+    subst (λ a. Went a 0 (first_table k cs) (first_place k (length cs)) c.args.past.now c.args.columns.now x.result x.new.t x.new.place x.new.past x.new.columns) (kinds_are c.args.b c.requires.0 c.args.rows.now c.fill_bounds.new.rows c.args.place.now c.name_variables.new.place c.args.kinds.now c.name_variables.new.kinds c.name_variables.ensures c.fill_bounds.ensures c.requires.1.high c.requires.1.long c.requires.1.wide)
+    (subst (λ a. Went (take n c.name_variables.new.kinds) 0 (first_table k cs) a c.args.past.now c.args.columns.now x.result x.new.t x.new.place x.new.past x.new.columns) (place_is c.args.b c.requires.0 c.args.rows.now c.fill_bounds.new.rows c.args.place.now c.name_variables.new.place c.args.kinds.now c.name_variables.new.kinds c.name_variables.ensures c.fill_bounds.ensures c.requires.1.high c.requires.1.long c.requires.1.wide)
+    (subst (λ a. Went (take n c.name_variables.new.kinds) 0 a (take n c.name_variables.new.place) c.args.past.now c.args.columns.now x.result x.new.t x.new.place x.new.past x.new.columns) (rows_are c.args.b c.requires.0 c.args.rows.now c.fill_bounds.new.rows c.args.place.now c.name_variables.new.place c.args.kinds.now c.name_variables.new.kinds c.name_variables.ensures c.fill_bounds.ensures c.requires.1.high c.requires.1.long c.requires.1.wide) x.ensures)) in
+    let lr = x.auto.t ∙ rows-count c.args.b c.requires.0 c.args.rows.now c.fill_bounds.new.rows c.args.place.now c.name_variables.new.place c.args.kinds.now c.name_variables.new.kinds c.name_variables.ensures c.fill_bounds.ensures c.requires.1.high c.requires.1.long c.requires.1.wide in
+    let lp = x.auto.place ∙ place-count c.args.b c.requires.0 c.args.rows.now c.fill_bounds.new.rows c.args.place.now c.name_variables.new.place c.args.kinds.now c.name_variables.new.kinds c.name_variables.ensures c.fill_bounds.ensures c.requires.1.high c.requires.1.long c.requires.1.wide in
+    let R = x.new.t ++ drop (2 * k) c.fill_bounds.new.rows in
+    let P = x.new.place ++ drop n c.name_variables.new.place in
+    let K = c.name_variables.new.kinds in
+    begun k cs x.result R P K c.args.past.now c.args.columns.now x.new.past x.new.columns c.requires.0.divs (few-bounds c.args.b c.requires.0 c.args.rows.now c.fill_bounds.new.rows c.args.place.now c.name_variables.new.place c.args.kinds.now c.name_variables.new.kinds c.name_variables.ensures c.fill_bounds.ensures c.requires.1.high c.requires.1.long c.requires.1.wide)
+    (rejoined (2 * k) x.new.t c.fill_bounds.new.rows x.auto.t ∙ rows-length c.args.b c.requires.0 c.args.rows.now c.fill_bounds.new.rows c.args.place.now c.name_variables.new.place c.args.kinds.now c.name_variables.new.kinds c.name_variables.ensures c.fill_bounds.ensures c.requires.1.high c.requires.1.long c.requires.1.wide)
+    (rejoined n x.new.place c.name_variables.new.place x.auto.place ∙ place-length c.args.b c.requires.0 c.args.rows.now c.fill_bounds.new.rows c.args.place.now c.name_variables.new.place c.args.kinds.now c.name_variables.new.kinds c.name_variables.ensures c.fill_bounds.ensures c.requires.1.high c.requires.1.long c.requires.1.wide)
+    (kinds-length c.args.b c.requires.0 c.args.rows.now c.fill_bounds.new.rows c.args.place.now c.name_variables.new.place c.args.kinds.now c.name_variables.new.kinds c.name_variables.ensures c.fill_bounds.ensures c.requires.1.high c.requires.1.long c.requires.1.wide) (x.auto.past ∙ c.requires.1.many) (x.auto.columns ∙ c.requires.1.many') x.new.t x.new.place w
+    (ap (λ i. take i R) (long c.args.b c.requires.0 c.args.rows.now c.fill_bounds.new.rows c.args.place.now c.name_variables.new.place c.args.kinds.now c.name_variables.new.kinds c.name_variables.ensures c.fill_bounds.ensures c.requires.1.high c.requires.1.long c.requires.1.wide) ∙ seam (2 * k) x.new.t (drop (2 * k) c.fill_bounds.new.rows) lr) (ap (λ i. take i P) (all-long c.args.b c.requires.0 c.args.rows.now c.fill_bounds.new.rows c.args.place.now c.name_variables.new.place c.args.kinds.now c.name_variables.new.kinds c.name_variables.ensures c.fill_bounds.ensures c.requires.1.high c.requires.1.long c.requires.1.wide) ∙ seam n x.new.place (drop n c.name_variables.new.place) lp) (ap (λ i. take i K) (all-long c.args.b c.requires.0 c.args.rows.now c.fill_bounds.new.rows c.args.place.now c.name_variables.new.place c.args.kinds.now c.name_variables.new.kinds c.name_variables.ensures c.fill_bounds.ensures c.requires.1.high c.requires.1.long c.requires.1.wide) ∙ kinds_are c.args.b c.requires.0 c.args.rows.now c.fill_bounds.new.rows c.args.place.now c.name_variables.new.place c.args.kinds.now c.name_variables.new.kinds c.name_variables.ensures c.fill_bounds.ensures c.requires.1.high c.requires.1.long c.requires.1.wide)
 
 pub begin_spec : {M : Type 1} → statement M
 begin_spec =

@@ -17,11 +17,6 @@ use Rattle.sharing.proofs.Standings.{fits-past, wide-stays, wide-any, ended-now,
 use borrow.Author.Rules.{rules}
 use Rattle.sharing.proofs.working.candidate.Statement.{statement}
 use Rattle.sharing.proofs.working.candidate.Tie as tie
-use Rattle.sharing.proofs.working.candidate.Reads as reads
-use Rattle.sharing.proofs.working.candidate.Lts as lts
-use Rattle.sharing.proofs.history.replay.Reads as replay-reads
-use Rattle.sharing.proofs.working.finish.Reads as finish-reads
-use Rattle.simplex.proofs.fill.constraint_row.Reads as constraint-row-reads
 
 constraint-row-requires : tie.Need-constraint_row-requires
 constraint-row-requires c κs = search rules
@@ -61,13 +56,13 @@ add-finish-3 c = search rules
 
 finish-requires : tie.Need-finish-requires
 finish-requires c κs =
-    let st = c.before.before.before.before.before.before.before.before.before.before.before in
-    let p1 = c.before.before.before.before in
+    let st = c.before.before.before.before.before.before.before.before.before.before in
+    let p1 = c.before.before.before in
     let qs = take st.args.h.pivots st.args.past.now in
     let js = take st.args.h.pivots st.args.columns.now in
     let c₀ = constraint_of st.args.c in
-    let r = p1.replay.new.0 in
-    let is : r ≡ brought qs js (start_row st.args.k c₀) = p1.replay.ensures.row ∙ ap (brought qs js) c.before.before.before.before.before.before.constraint_row.ensures in
+    let r = p1.replay.new.r in
+    let is : r ≡ brought qs js (start_row st.args.k c₀) = p1.replay.ensures.row ∙ ap (brought qs js) c.constraint_row.ensures in
     let p : st.args.h.verdict ≡ Point = search rules in
     (calm-now st.requires.0.stands st.requires.0.less c₀ p r is, st.requires.1.1)
 
@@ -85,14 +80,14 @@ same_length c = search rules
 
 returns-2 : tie.Need-returns-in-Point
 returns-2 c =
-    let st = c.before.before.before.before.before.before.before.before.before.before.before.before.before in
-    let p1 = c.before.before.before.before.before.before.before.before in
-    let p2 = c.before.before.before.before.before.before in
+    let st = c.before.before.before.before.before.before.before.before.before.before.before.before in
+    let p1 = c.before.before.before.before.before.before.before in
+    let p2 = c.before.before.before.before.before in
     let qs = take st.args.h.pivots st.args.past.now in
     let js = take st.args.h.pivots st.args.columns.now in
     let c₀ = constraint_of st.args.c in
-    let e : through qs js (start_row st.args.k c₀) ≡ true = sym (ap (through qs js) p1.constraint_row.ensures) ∙ sym p2.replay.ensures.all ∙ not-false _ c.before.before.before.before.before.if-not-replay.false-raw in
-    let r = p2.replay.new.0 in
+    let e : through qs js (start_row st.args.k c₀) ≡ true = sym (ap (through qs js) p1.constraint_row.ensures) ∙ sym p2.replay.ensures.all ∙ not-false _ c.if-not-replay.false-raw in
+    let r = p2.replay.new.r in
     let is : r ≡ brought qs js (start_row st.args.k c₀) = p2.replay.ensures.row ∙ ap (brought qs js) p1.constraint_row.ensures in
     let p : st.args.h.verdict ≡ Point = search rules in
     record {
@@ -104,27 +99,27 @@ returns-2 c =
 
 returns-3 : tie.Need-returns-in-Dropped
 returns-3 c =
-    let st = c.before.before.before.before.before.before.before.before.before.before in
+    let st = c.before.before.before.before.before.before.before.before.before in
     let qs = take st.args.h.pivots st.args.past.now in
     let js = take st.args.h.pivots st.args.columns.now in
     let c₀ = constraint_of st.args.c in
-    let e : through qs js (start_row st.args.k c₀) ≡ true = sym (ap (through qs js) c.before.before.before.before.before.constraint_row.ensures) ∙ sym c.before.before.before.replay.ensures.all ∙ not-false _ c.before.before.if-not-replay.false-raw in
+    let e : through qs js (start_row st.args.k c₀) ≡ true = sym (ap (through qs js) c.constraint_row.ensures) ∙ sym c.replay.ensures.all ∙ not-false _ c.if-not-replay.false-raw in
     let p : st.args.h.verdict ≡ Dropped = search rules in
     record { tried = λ cs g. sym ((ended-now g st.requires.0.less c₀ (λ z. let q = sym p ∙ z in let w : ◌≡◌ {A = ℕ} 0 1 = cc in omega arith) e (λ z. clash-dropped (sym p ∙ z))).0 ∙ p) }
 
 returns-4 : tie.Need-returns-in-Long
 returns-4 c =
-    let st = c.before.before.before.before.before.before.before.before.before.before in
+    let st = c.before.before.before.before.before.before.before.before.before in
     let qs = take st.args.h.pivots st.args.past.now in
     let js = take st.args.h.pivots st.args.columns.now in
     let c₀ = constraint_of st.args.c in
-    let e : through qs js (start_row st.args.k c₀) ≡ true = sym (ap (through qs js) c.before.before.before.before.before.constraint_row.ensures) ∙ sym c.before.before.before.replay.ensures.all ∙ not-false _ c.before.before.if-not-replay.false-raw in
+    let e : through qs js (start_row st.args.k c₀) ≡ true = sym (ap (through qs js) c.constraint_row.ensures) ∙ sym c.replay.ensures.all ∙ not-false _ c.if-not-replay.false-raw in
     let p : st.args.h.verdict ≡ Long = search rules in
     record { tried = λ cs g. sym ((ended-now g st.requires.0.less c₀ (λ z. let q = sym p ∙ z in let w : ◌≡◌ {A = ℕ} 0 1 = cc in omega arith) e (λ z. clash-long (sym p ∙ z))).0 ∙ p) }
 
 returns-5 : tie.Need-returns-in-Wide
 returns-5 c =
-    let st = c.before.before.before.before.before.before.before.before.before.before in
+    let st = c.before.before.before.before.before.before.before.before.before in
     let c₀ = constraint_of st.args.c in
     let p : st.args.h.verdict ≡ Wide = search rules in
     record { tried = λ cs g. sym (wide-stays g st.requires.0.less c₀ p) }

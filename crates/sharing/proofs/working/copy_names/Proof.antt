@@ -6,8 +6,6 @@ use lib.ListN.{length, get_or, take, length-set}
 use Rattle.sharing.proofs.Passes.{copy-on}
 use Rattle.sharing.proofs.working.copy_names.Statement.{statement}
 use Rattle.sharing.proofs.working.copy_names.Tie as tie
-use Rattle.sharing.proofs.working.copy_names.Reads as reads
-use Rattle.sharing.proofs.working.copy_names.Lts as lts
 
 abbrev invariant-loop : tie.invariant-loop-k
 invariant-loop seats₀ sorts₀ place kinds n k₀ seats sorts k = (k ≤ n) × (length seats ≡ length seats₀) × (length sorts ≡ length sorts₀) × (take k seats ≡ take k place) × (take k sorts ≡ take k kinds)

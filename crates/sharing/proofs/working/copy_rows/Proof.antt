@@ -7,8 +7,6 @@ use lib.ListN.{length, get_or, take, length-set}
 use Rattle.sharing.proofs.Passes.{copy-on}
 use Rattle.sharing.proofs.working.copy_rows.Statement.{statement}
 use Rattle.sharing.proofs.working.copy_rows.Tie as tie
-use Rattle.sharing.proofs.working.copy_rows.Reads as reads
-use Rattle.sharing.proofs.working.copy_rows.Lts as lts
 
 abbrev invariant-loop : tie.invariant-loop-k
 invariant-loop to₀ from n k₀ to k = (k ≤ n) × (length to ≡ length to₀) × (take k to ≡ take k from)

@@ -16,12 +16,6 @@ use Rattle.sharing.proofs.Standings.{fits-past, wide-stays, wide-any, calm-now, 
 use borrow.Author.Rules.{rules}
 use Rattle.sharing.proofs.working.grow.Statement.{statement}
 use Rattle.sharing.proofs.working.grow.Tie as tie
-use Rattle.sharing.proofs.working.grow.Reads as reads
-use Rattle.sharing.proofs.working.grow.Lts as lts
-use Rattle.sharing.proofs.history.replay.Reads as replay-reads
-use Rattle.sharing.proofs.working.append.Reads as append-reads
-use Rattle.simplex.proofs.fill.constraint_row.Reads as constraint-row-reads
-use Rattle.simplex.proofs.fill.kind_of.Reads as kind-of-reads
 
 add-v : tie.Need-overflow_add-v
 add-v c = search rules
@@ -43,9 +37,9 @@ constraint-row-requires c κs = search rules
 
 replay-requires : tie.Need-replay-requires
 replay-requires c κs =
-    let st = c.before.before.before.before.before.before.before.before.before in
+    let st = c.before.before.before.before.before.before.before in
     let g = st.requires.stands in
-    (subst (Whole (st.args.k + 10)) (sym c.before.before.before.constraint-row.ensures) (row-whole st.args.k g.few (constraint_of st.args.c)), (fits-past st.requires.stands, g.kept))
+    (subst (Whole (st.args.k + 10)) (sym c.constraint_row.ensures) (row-whole st.args.k g.few (constraint_of st.args.c)), (fits-past st.requires.stands, g.kept))
 
 same_length : tie.Need-shape_of-past-then-not-replay
 same_length c = search rules
@@ -55,11 +49,11 @@ same-length-2 c = search rules
 
 returns : tie.Need-returns-then-not-replay
 returns c =
-    let st = c.before.before.before.before.before.before.before.before.before.before.before in
+    let st = c.before.before.before.before.before.before.before.before.before in
     let qs = take st.args.h.pivots st.args.past.now in
     let js = take st.args.h.pivots st.args.columns.now in
     let c₀ = constraint_of st.args.c in
-    let e : through qs js (start_row st.args.k c₀) ≡ false = sym (ap (through qs js) c.before.before.before.before.before.constraint-row.ensures) ∙ sym c.before.replay.ensures.all ∙ not-true _ c.if-not-replay.true-raw in
+    let e : through qs js (start_row st.args.k c₀) ≡ false = sym (ap (through qs js) c.constraint_row.ensures) ∙ sym c.before.replay.ensures.all ∙ not-true _ c.if-not-replay.true-raw in
     record { grown = λ cs g. grown-wide g st.requires.less c₀ (wide-any g st.requires.less c₀ e) }
 
 enum_told : tie.Need-enum_told-1
@@ -67,13 +61,13 @@ enum_told c = search rules
 
 append-requires : tie.Need-append-requires
 append-requires c κs =
-    let st = c.before.before.before.before.before.before.before.before.before.before.before.before.before.before.before.before.before.before in
-    let p1 = c.before.before.before.before.before.before.before.before in
+    let st = c.before.before.before.before.before.before.before.before.before.before.before.before.before.before.before in
+    let p1 = c.before.before.before.before.before.before.before in
     let qs = take st.args.h.pivots st.args.past.now in
     let js = take st.args.h.pivots st.args.columns.now in
     let c₀ = constraint_of st.args.c in
-    let r = p1.replay.new.0 in
-    let is : r ≡ brought qs js (start_row st.args.k c₀) = p1.replay.ensures.row ∙ ap (brought qs js) c.before.before.before.before.before.before.before.before.before.before.before.before.constraint-row.ensures in
+    let r = p1.replay.new.r in
+    let is : r ≡ brought qs js (start_row st.args.k c₀) = p1.replay.ensures.row ∙ ap (brought qs js) c.constraint_row.ensures in
     let p : st.args.h.verdict ≡ Point = search rules in
     let g = st.requires.stands in
     (calm-now st.requires.stands st.requires.less c₀ p r is, (g.most, g.many, g.many'))
@@ -104,25 +98,25 @@ same-length-7 c = search rules
 
 returns-2 : tie.Need-returns-in-Point
 returns-2 c =
-    let st = c.before.before.before.before.before.before.before.before.before.before.before.before.before.before.before.before.before.before.before.before.before.before.before.before.before.before.before in
-    let p1 = c.before.before.before.before.before.before.before.before.before.before.before.before.before.before.before.before.before.before.before.before.before in
-    let p2 = c.before.before.before.before.before.before.before.before.before.before.before.before.before.before.before.before.before in
+    let st = c.before.before.before.before.before.before.before.before.before.before.before.before.before.before.before.before.before.before.before.before.before.before.before.before in
+    let p1 = c.before.before.before.before.before.before.before.before.before.before.before.before.before.before.before.before.before.before in
+    let p2 = c.before.before.before.before.before.before.before.before.before.before.before.before.before.before.before.before in
     let qs = take st.args.h.pivots st.args.past.now in
     let js = take st.args.h.pivots st.args.columns.now in
     let c₀ = constraint_of st.args.c in
-    let e : through qs js (start_row st.args.k c₀) ≡ true = sym (ap (through qs js) p1.constraint-row.ensures) ∙ sym p2.replay.ensures.all ∙ not-false _ c.before.before.before.before.before.before.before.before.before.before.before.before.before.before.before.before.if-not-replay.false-raw in
-    let r = p2.replay.new.0 in
-    let is : r ≡ brought qs js (start_row st.args.k c₀) = p2.replay.ensures.row ∙ ap (brought qs js) p1.constraint-row.ensures in
-    let p : st.args.h.verdict ≡ Point = c.before.before.before.before.before.before.before.before.before.before.before.before.before.before.enum_told-1.given.1 in
+    let e : through qs js (start_row st.args.k c₀) ≡ true = sym (ap (through qs js) p1.constraint_row.ensures) ∙ sym p2.replay.ensures.all ∙ not-false _ c.if-not-replay.false-raw in
+    let r = p2.replay.new.r in
+    let is : r ≡ brought qs js (start_row st.args.k c₀) = p2.replay.ensures.row ∙ ap (brought qs js) p1.constraint_row.ensures in
+    let p : st.args.h.verdict ≡ Point = c.in-Point.is in
     let a = c.before.before.before.before.before.before.before.before.append in
-    let R = a.new.1.1.1.1.1.1.0 in
-    let P = a.new.1.1.1.1.1.1.1.0 in
-    let K = a.new.1.1.1.1.1.1.1.1.0 in
-    let A = a.new.1.1.1.1.1.1.1.1.1.0 in
-    let C = a.new.1.1.1.1.1.1.1.1.1.1.0 in
+    let R = a.new.rows in
+    let P = a.new.place in
+    let K = a.new.kinds in
+    let A = a.new.past in
+    let C = a.new.columns in
     record {
-      grown = λ cs g. grown-on g st.requires.less c₀ p r is e a.result R P K A C a.auto.1.1.1.1.1.1.0 a.auto.1.1.1.1.1.1.1.0 a.auto.1.1.1.1.1.1.1.1.0 a.auto.1.1.1.1.1.1.1.1.1.0 a.auto.1.1.1.1.1.1.1.1.1.1.0
-          (subst (λ i. Appended st.args.h.rows (8 + st.args.k + st.args.h.rows) st.args.h.pivots i r st.args.rows.now st.args.place.now st.args.kinds.now st.args.past.now st.args.columns.now a.result R P K A C) c.before.before.before.before.before.before.before.before.before.before.before.before.before.before.before.before.before.before.before.before.before.before.before.kind-of.ensures a.ensures);
+      grown = λ cs g. grown-on g st.requires.less c₀ p r is e a.result R P K A C a.auto.rows a.auto.place a.auto.kinds a.auto.past a.auto.columns
+          (subst (λ i. Appended st.args.h.rows (8 + st.args.k + st.args.h.rows) st.args.h.pivots i r st.args.rows.now st.args.place.now st.args.kinds.now st.args.past.now st.args.columns.now a.result R P K A C) c.kind_of-kind.ensures a.ensures);
     }
 
 same-length-8 : tie.Need-shape_of-past-in-Dropped
@@ -133,11 +127,11 @@ same-length-9 c = search rules
 
 returns-3 : tie.Need-returns-in-Dropped
 returns-3 c =
-    let st = c.before.before.before.before.before.before.before.before.before.before.before.before.before in
+    let st = c.before.before.before.before.before.before.before.before.before.before in
     let qs = take st.args.h.pivots st.args.past.now in
     let js = take st.args.h.pivots st.args.columns.now in
     let c₀ = constraint_of st.args.c in
-    let e : through qs js (start_row st.args.k c₀) ≡ true = sym (ap (through qs js) c.before.before.before.before.before.before.before.constraint-row.ensures) ∙ sym c.before.before.before.replay.ensures.all ∙ not-false _ c.before.before.if-not-replay.false-raw in
+    let e : through qs js (start_row st.args.k c₀) ≡ true = sym (ap (through qs js) c.constraint_row.ensures) ∙ sym c.replay.ensures.all ∙ not-false _ c.if-not-replay.false-raw in
     let p : st.args.h.verdict ≡ Dropped = search rules in
     record { grown = λ cs g. grown-ended g st.requires.less c₀ Dropped p (λ z. let w : ◌≡◌ {A = ℕ} 0 1 = cc in omega arith) clash-dropped e }
 
@@ -149,11 +143,11 @@ same-length-11 c = search rules
 
 returns-4 : tie.Need-returns-in-Long
 returns-4 c =
-    let st = c.before.before.before.before.before.before.before.before.before.before.before.before.before in
+    let st = c.before.before.before.before.before.before.before.before.before.before in
     let qs = take st.args.h.pivots st.args.past.now in
     let js = take st.args.h.pivots st.args.columns.now in
     let c₀ = constraint_of st.args.c in
-    let e : through qs js (start_row st.args.k c₀) ≡ true = sym (ap (through qs js) c.before.before.before.before.before.before.before.constraint-row.ensures) ∙ sym c.before.before.before.replay.ensures.all ∙ not-false _ c.before.before.if-not-replay.false-raw in
+    let e : through qs js (start_row st.args.k c₀) ≡ true = sym (ap (through qs js) c.constraint_row.ensures) ∙ sym c.replay.ensures.all ∙ not-false _ c.if-not-replay.false-raw in
     let p : st.args.h.verdict ≡ Long = search rules in
     record { grown = λ cs g. grown-ended g st.requires.less c₀ Long p (λ z. let w : ◌≡◌ {A = ℕ} 0 1 = cc in omega arith) clash-long e }
 
@@ -165,7 +159,7 @@ same-length-13 c = search rules
 
 returns-5 : tie.Need-returns-in-Wide
 returns-5 c =
-    let st = c.before.before.before.before.before.before.before.before.before.before.before.before.before in
+    let st = c.before.before.before.before.before.before.before.before.before.before in
     let c₀ = constraint_of st.args.c in
     let p : st.args.h.verdict ≡ Wide = search rules in
     record { grown = λ cs g. grown-wide g st.requires.less c₀ (wide-stays g st.requires.less c₀ p) }
