@@ -2,4 +2,3 @@ pub mod Parts
 pub mod Lives
 pub mod Climbs
 pub mod Searching
-pub mod Lent

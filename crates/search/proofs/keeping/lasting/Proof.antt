@@ -109,7 +109,7 @@ module _ (y : tie.After-value_at-v) where
   highs = set (p z).high (p z).k (to_z w64 (of_z w64 y.value_at-v.result))
 
   value-is : to_z w64 (of_z w64 y.value_at-v.result) ≡ value_at (p z) (i z)
-  value-is = result_is w64 y.value_at-v.result y.value_at-v.ok ∙ y.value_at-v.ensures
+  value-is = result_is w64 y.value_at-v.result y.value_at-v.type_inv ∙ y.value_at-v.ensures
 
   lows-are : lows ≡ lows_at (p z) (i z)
   lows-are = ap (set (p z).low (p z).k) value-is
@@ -177,7 +177,7 @@ returns-2 c =
             (λ x. value_passes (s y) (p y).n (p y).k (p y).low (p y).high (g y) (i y) (st y).requires.2 m (lows v) (highs v) (lows-are v) (highs-are v) (e.is (ltb-true 1 m x)) j o)
             (λ x. let l = ltb-false 1 m x in let w : i y ≡ i y + j = omega arith in subst (λ (w : ℕ). passes_at (s y) (p y) w ≡ true) w (st y).requires.4);
       },
-      subst (λ (j : ℕ). Rowed (s y) j (p y).count c.kept_in.new.1.1.1.1.1.1.0) (sym (lows-length v)) c.kept_in.ensures.1,
+      subst (λ (j : ℕ). Rowed (s y) j (p y).count c.kept_in.new.rows) (sym (lows-length v)) c.kept_in.ensures.1,
     )
 
 pub lasting_spec : {M : Type 1} → statement M

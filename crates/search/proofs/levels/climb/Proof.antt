@@ -63,10 +63,10 @@ module _ (c : tie.In-loop-i invariant-loop decreases-loop) where
   value = value_at p m.loop-i.i
 
   here : m.loop-i.i ≤ span_at p
-  here = let e = m.loop-i.inv.0 in let q = c.loop-i-test.true in omega arith
+  here = let e = m.loop-i.invariant.0 in let q = c.loop-i-test.true in omega arith
 
   far : m.loop-i.i ≤ 2097152
-  far = let h = here in let e = m.loop-i.inv.0 in let o = m.before.span_of-span.ensures.1 in omega arith
+  far = let h = here in let e = m.loop-i.invariant.0 in let o = m.before.span_of-span.ensures.1 in omega arith
 
 -- below the limit
 room : (c : tie.Else-tested-t invariant-loop decreases-loop) → (st c.before).args.tested + (m c.before).loop-i.t < (p c.before).limit
@@ -93,13 +93,13 @@ module _ (y : tie.After-value_at-v invariant-loop decreases-loop) where
   highs = set (m lp).loop-i.high (p lp).k (to_z w64 (of_z w64 y.value_at-v.result))
 
   value-is : to_z w64 (of_z w64 y.value_at-v.result) ≡ value lp
-  value-is = result_is w64 y.value_at-v.result y.value_at-v.ok ∙ y.value_at-v.ensures
+  value-is = result_is w64 y.value_at-v.result y.value_at-v.type_inv ∙ y.value_at-v.ensures
 
   lows-are : lows ≡ lows_at (p lp) (m lp).loop-i.i
-  lows-are = (m lp).loop-i.inv.6 _ ∙ ap (set (p lp).low (p lp).k) value-is
+  lows-are = (m lp).loop-i.invariant.6 _ ∙ ap (set (p lp).low (p lp).k) value-is
 
   highs-are : highs ≡ highs_at (p lp) (m lp).loop-i.i
-  highs-are = (m lp).loop-i.inv.7 _ ∙ ap (set (p lp).high (p lp).k) value-is
+  highs-are = (m lp).loop-i.invariant.7 _ ∙ ap (set (p lp).high (p lp).k) value-is
 
   lows-fit : (p lp).n ≤ length lows
   lows-fit = let a = (g lp).axes in let e = (g lp).lows in omega (arith, ap length lows-are, length-set (p lp).low (p lp).k (value lp))
@@ -143,7 +143,7 @@ module _ (f : tie.After-fewer-most invariant-loop decreases-loop) where
   at_value = lp f.before
 
   on-side : (m at_value).loop-i.i + f.fewer-most.result ≤ suc (span_at (p at_value))
-  on-side = let e = (m at_value).loop-i.inv.0 in let h = here at_value in let a : f.fewer-most.result ≤ (m at_value).before.span_of-span.result - (m at_value).loop-i.i + 1 = f.fewer-most.ensures.0 in omega arith
+  on-side = let e = (m at_value).loop-i.invariant.0 in let h = here at_value in let a : f.fewer-most.result ≤ (m at_value).before.span_of-span.result - (m at_value).loop-i.i + 1 = f.fewer-most.ensures.0 in omega arith
 
   in-limit : (st at_value).args.tested + (m at_value).loop-i.t + f.fewer-most.result ≤ (p at_value).limit
   in-limit = let r : (st at_value).args.tested + (m at_value).loop-i.t < (p at_value).limit = room f.before.before in let a : f.fewer-most.result ≤ (p at_value).limit - ((st at_value).args.tested + (m at_value).loop-i.t) = f.fewer-most.ensures.1 in omega arith
@@ -166,7 +166,7 @@ slice-aggregate-opened-in-2 c = highs-length c.before.before.before
 opened-in-requires : tie.Need-opened_in-o-requires invariant-loop decreases-loop
 opened-in-requires c κs =
     let f = c.before.before.before in let y = f.before in let l = lp y in (
-      subst (λ (j : ℕ). Rowed (s l) j (p l).count (m l).loop-i.rows) (lows-length y) (m l).loop-i.inv.5,
+      subst (λ (j : ℕ). Rowed (s l) j (p l).count (m l).loop-i.rows) (lows-length y) (m l).loop-i.invariant.5,
       next_fits (s l) (p l).n (p l).k (p l).low (p l).high (g l) (m l).loop-i.i (here l) (lows y) (highs y) (lows-are y) (highs-are y) (p l).live f.fewer-most.result (st l).requires.0.lives (some f) (on-side f),
     )
 
@@ -184,8 +184,8 @@ module _ (o : tie.After-opened_in-o invariant-loop decreases-loop) where
   tested-is : passes_at (s l) (p l) (m l).loop-i.i ≡ o.opened_in-o.result.any
   tested-is = ok-set (s l) (p l).n (p l).k (p l).low (p l).high (g l) (value l) (lows y) (highs y) (lows-are y) (highs-are y) o.opened_in-o.result.any o.opened_in-o.ensures.0.any_holds
 
-  rowed : Rowed (s l) (p l).n (p l).count o.opened_in-o.last.1.1.1.1.1.1.0
-  rowed = subst (λ (j : ℕ). Rowed (s l) j (p l).count o.opened_in-o.last.1.1.1.1.1.1.0) (sym (lows-length y)) o.opened_in-o.ensures.1
+  rowed : Rowed (s l) (p l).n (p l).count o.opened_in-o.new.rows
+  rowed = subst (λ (j : ℕ). Rowed (s l) j (p l).count o.opened_in-o.new.rows) (sym (lows-length y)) o.opened_in-o.ensures.1
 
   run_inside : (m l).loop-i.i + o.opened_in-o.result.run ≤ suc (span_at (p l))
   run_inside = let a = on-side f in let b : o.opened_in-o.result.run ≤ f.fewer-most.result = o.opened_in-o.ensures.0.few in omega arith
@@ -204,7 +204,7 @@ passed-requires c κs = axis-of (g (l c.before.before))
 
 returns-2 : tie.Need-returns-then-o invariant-loop decreases-loop
 returns-2 c =
-    let th = c.before.before in let o = th.before in let lp = l o in let a = (st lp).args in let v = (m lp).loop-i.inv in (
+    let th = c.before.before in let o = th.before in let lp = l o in let a = (st lp).args in let v = (m lp).loop-i.invariant in (
       climbed-passing (s lp) (p lp) a.from (m lp).loop-i.t v.4 (m lp).loop-i.i v.1 a.tested (here lp) (room (y o).before) (tested-is o ∙ th.if-o.true) (lows (y o)) (highs (y o)) (lows-are (y o)) (highs-are (y o))
           o.opened_in-o.result.live o.opened_in-o.ensures.0.still c.passed.result c.passed.ensures,
       rowed o,
@@ -217,14 +217,14 @@ add-t : tie.Need-overflow_add-t-in-loop-i invariant-loop decreases-loop
 add-t c = let o = c.before in let h = run_room o in let k = (st (l o)).requires.0.fits in omega arith
 
 add-i : tie.Need-overflow_add-i-in-loop-i invariant-loop decreases-loop
-add-i c = let o = c.before in let h = run_inside o in let e = (m (l o)).loop-i.inv.0 in let z = (m (l o)).before.span_of-span.ensures.1 in omega arith
+add-i c = let o = c.before in let h = run_inside o in let e = (m (l o)).loop-i.invariant.0 in let z = (m (l o)).before.span_of-span.ensures.1 in omega arith
 
 loop-less : tie.Need-loop-i-smaller invariant-loop decreases-loop
 loop-less c = let o = c.before in let h = (l o).loop-i-test.true in let q = o.opened_in-o.ensures.0.some in omega arith
 
 loop-again : tie.Need-loop-i-preserved invariant-loop decreases-loop
 loop-again c =
-    let o = c.before in let lp = l o in let a = (st lp).args in let v = (m lp).loop-i.inv in let n = o.opened_in-o.result.run in
+    let o = c.before in let lp = l o in let a = (st lp).args in let v = (m lp).loop-i.invariant in let n = o.opened_in-o.result.run in
     let e = v.0 in let q = v.1 in let h = run_inside o in let r = run_room o in (
       v.0,
       omega arith,

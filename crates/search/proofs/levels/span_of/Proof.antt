@@ -36,7 +36,7 @@ back : (c : tie.After-b-1) → let st = c.before.before in
     to_z w64 (of_z w64 (get_or st.args.high st.args.k (pos 0))) -ℤ to_z w64 (of_z w64 (get_or st.args.low st.args.k (pos 0))) ≡ diff st
 back c =
     let st = c.before.before in
-    ap₂ ◌-ℤ◌ (to_z_of_z (within-fits (omega arith) (st.requires.2.at st.args.k))) (to_z_of_z (within-fits (omega arith) (st.requires.1.at st.args.k)))
+    ap₂ ◌-ℤ◌ (to_z_of_z {w = w64} (within-fits (omega arith) (st.requires.2.at st.args.k))) (to_z_of_z {w = w64} (within-fits (omega arith) (st.requires.1.at st.args.k)))
 
 nonneg : (c : tie.After-b-1) → pos 0 ≤ℤ diff c.before.before
 nonneg c =

@@ -27,7 +27,7 @@ sum_is : (c : tie.After-a-1) → let st = c.before in
     to_z w64 (of_z w64 (get_or st.args.low st.args.k (pos 0))) +ℤ to_z w64 st.args.i ≡ get_or st.args.low st.args.k (pos 0) +ℤ pos st.args.i
 sum_is c =
     let st = c.before in
-    ap₂ ◌+ℤ◌ (to_z_of_z (within-fits (omega arith) (a-size c))) (to_z-nat w64 st.args.i 2097153 (omega (arith, st.requires.1)) tt)
+    ap₂ ◌+ℤ◌ (to_z_of_z {w = w64} (within-fits (omega arith) (a-size c))) (to_z-nat w64 st.args.i 2097153 (omega (arith, st.requires.1)) tt)
 
 sum-size : (c : tie.After-a-1) → let st = c.before in Within 3145728 (get_or st.args.low st.args.k (pos 0) +ℤ pos st.args.i)
 sum-size c = let st = c.before in let i : Within 2097152 (pos st.args.i) = record { size = st.requires.1 } in within-mono (omega arith) (within-add (a-size c) i)

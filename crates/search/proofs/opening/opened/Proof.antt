@@ -18,7 +18,7 @@ decreases-loop s k low high rows₀ most live kept₀ any₀ run₀ b₀ rows ke
 loop-holds : tie.Need-loop-b-init invariant-loop decreases-loop
 loop-holds c =
     let st = c.before in let a = st.args in let p = st.requires.1 in
-    opens-start a.s.now (length a.low.now) (box_of a.low.now a.high.now) (wide_box a.k a.low.now a.high.now) a.rows.now a.t5 a.most st.requires.0 p.lives.places p.some
+    opens-start a.s.now (length a.low.now) (box_of a.low.now a.high.now) (wide_box a.k a.low.now a.high.now) a.rows.now a.live a.most st.requires.0 p.lives.places p.some
 
 array-read-o : tie.Need-bounds-live-b invariant-loop decreases-loop
 array-read-o c = let f = c.before.loop-b.invariant.right.few in let h = c.loop-b-test.true in omega arith
@@ -38,7 +38,7 @@ row-run-requires c κs =
       p.axis,
       reach-less a.k a.high.now m.loop-b.run a.most f p.reach,
       m.loop-b.invariant.some,
-      λ d. (live-told a.s.now n xs m.loop-b.rows a.t5 g p.lives m.loop-b.b h d, live-told a.s.now n ws m.loop-b.rows a.t5 g (p.ahead m.loop-b.run f) m.loop-b.b h d),
+      λ d. (live-told a.s.now n xs m.loop-b.rows a.live g p.lives m.loop-b.b h d, live-told a.s.now n ws m.loop-b.rows a.live g (p.ahead m.loop-b.run f) m.loop-b.b h d),
     )
 
 array-write-kept : tie.Need-bounds-kept-b invariant-loop decreases-loop
@@ -55,16 +55,16 @@ abbrev turn : tie.After-shortened-run invariant-loop decreases-loop → tie.In-l
 turn c = c.before.before.before.before
 
 add-b : tie.Need-overflow_add-b invariant-loop decreases-loop
-add-b c = let lp = turn c in let f = lp.before.loop-b.inv.right.few in let h = lp.loop-b-test.taken in omega arith
+add-b c = let lp = turn c in let f = lp.before.loop-b.invariant.right.few in let h = lp.loop-b-test.true in omega arith
 
 loop-less : tie.Need-loop-b-smaller invariant-loop decreases-loop
-loop-less c = let lp = turn c in let e = lp.before.loop-b.inv.same in let h = lp.loop-b-test.taken in omega arith
+loop-less c = let lp = turn c in let e = lp.before.loop-b.invariant.same in let h = lp.loop-b-test.true in omega arith
 
 loop-again : tie.Need-loop-b-preserved invariant-loop decreases-loop
 loop-again c =
     let y = c.before.before in let lp = turn c in let m = lp.before in let st = m.before.before in let a = st.args in let e = y.row_run-m.ensures in
-    opens-next a.s.now (length a.low.now) (box_of a.low.now a.high.now) (wide_box a.k a.low.now a.high.now) a.rows.now m.loop-b.rows m.loop-b.kept m.loop-b.any a.most m.loop-b.run m.loop-b.b m.loop-b.inv
-    lp.loop-b-test.taken _ e.row e.place y.row_run-m.result e.run.is e.run.few e.run.far _ c.before.either-any.ensures c.shortened-run.result c.shortened-run.ensures.1.0 c.shortened-run.ensures.1.1 c.shortened-run.ensures.0
+    opens-next a.s.now (length a.low.now) (box_of a.low.now a.high.now) (wide_box a.k a.low.now a.high.now) a.rows.now m.loop-b.rows m.loop-b.kept m.loop-b.any a.most m.loop-b.run m.loop-b.b m.loop-b.invariant
+    lp.loop-b-test.true _ e.row e.place y.row_run-m.result e.run.is e.run.few e.run.far _ c.before.either-any.ensures c.shortened-run.result c.shortened-run.ensures.1.0 c.shortened-run.ensures.1.1 c.shortened-run.ensures.0
 
 same_length : tie.Need-shape_of-rows invariant-loop decreases-loop
 same_length c = c.before.loop-b.invariant.same
@@ -72,7 +72,7 @@ same_length c = c.before.loop-b.invariant.same
 returns : tie.Need-returns invariant-loop decreases-loop
 returns c =
     let m = c.before in let st = m.before.before in let a = st.args in
-    (opens-end a.s.now (length a.low.now) (box_of a.low.now a.high.now) (wide_box a.k a.low.now a.high.now) a.rows.now m.loop-b.rows m.loop-b.auto m.loop-b.any a.most m.loop-b.run m.loop-b.b m.loop-b.invariant c.loop-b-test.false, m.loop-b.invariant.right)
+    (opens-end a.s.now (length a.low.now) (box_of a.low.now a.high.now) (wide_box a.k a.low.now a.high.now) a.rows.now m.loop-b.rows m.loop-b.kept m.loop-b.any a.most m.loop-b.run m.loop-b.b m.loop-b.invariant c.loop-b-test.false, m.loop-b.invariant.right)
 
 pub opened_spec : {M : Type 1} → statement M
 opened_spec = tie.close (tie.spec invariant-loop decreases-loop loop-holds array-read-o mul-row-run index-1-row-run row-run-requires array-write-kept either-requires shortened-requires add-b loop-less loop-again same_length returns)

@@ -24,8 +24,8 @@ same_length c = search rules
 
 returns : tie.Need-returns
 returns c =
-    let o = c.before in let st = o.before.before.before in let n = st.args.count in let r = st.args.rows.now in let ys : List (List ℤ) = o.opened.new.1.1.1.1.1.0 in
-    let k : length ys ≡ length (take n r) = o.opened.auto.1.1.1.1.1.0 in let i = st.requires.0.inside in
+    let o = c.before in let st = o.before.before.before in let n = st.args.count in let r = st.args.rows.now in let ys : List (List ℤ) = o.opened.new.rows in
+    let k : length ys ≡ length (take n r) = o.opened.auto.rows in let i = st.requires.0.inside in
     let l : length ys ≡ n = omega (arith, length-take n r) in
     let e : take n (ys ++ drop n r) ≡ ys = ap (λ (j : ℕ). take j (ys ++ drop n r)) (sym l) ∙ take-append_seam ys (drop n r) in
     (o.opened.ensures.0, record { inside = omega (arith, length_front r ys n k); used = subst (Rows st.args.s.now (length st.args.low.now)) (sym e) o.opened.ensures.1 })
