@@ -2,7 +2,6 @@
 -- a point with fractions meets it; dropped, that none does; long, that 200 pivots were made; wide, that a row which the next
 -- pivot touches has a number beyond the bound of 128 bits.
 use mathlib.Core.Path.{◌≡◌, refl, sym, ap, ◌∙◌, subst}
-use mathlib.Core.Bool.{Bool}
 use mathlib.Core.List.{List, [], ◌∷◌}
 use mathlib.Core.Option.{Option, none, some}
 use Prim.Native.Nat.{ℕ, zero, suc, ◌≤◌}

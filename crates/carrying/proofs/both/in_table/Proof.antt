@@ -1,17 +1,12 @@
 -- `carrying::both::in_table` meets its contract. Assumes nothing.
 use mathlib.Core.Path.{sym, subst}
 use mathlib.Core.List.{List}
-use Prim.Native.Nat.{◌-◌}
 use borrow.Author.Rules.{rules}
 use lib.IntN.{ℤ}
 use Rattle.simplex.specs.Table as S
 use Rattle.carrying.specs.Carried.{Went}
 use Rattle.carrying.proofs.both.in_table.Statement.{statement}
 use Rattle.carrying.proofs.both.in_table.Tie as tie
-use Rattle.carrying.proofs.both.in_table.Reads as reads
-use Rattle.carrying.proofs.both.in_table.Lts as lts
-use Rattle.carrying.proofs.carry.carry.Reads as carry-reads
-use Rattle.carrying.proofs.going.go_on.Reads as go-on-reads
 
 carry-requires : tie.Need-carry-requires
 carry-requires c κs = let s = c.before.before.before in (s.requires.2, λ k h. (s.requires.0.line k h).long)

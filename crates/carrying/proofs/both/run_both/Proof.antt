@@ -2,7 +2,7 @@
 use mathlib.Core.Path.{◌≡◌, sym, ap, ap₂, ◌∙◌, subst}
 use mathlib.Core.List.{List}
 use mathlib.Core.Bool.{Bool, true, false, cond}
-use Prim.Native.Nat.{ℕ, ◌+◌, ◌-◌, ◌*◌, ◌≤◌}
+use Prim.Native.Nat.{ℕ, ◌+◌, ◌-◌, ◌≤◌}
 use native.Mathlib.Omega.{arith}
 use borrow.Author.Rules.{rules}
 use lib.IntN.{ℤ}
@@ -14,11 +14,6 @@ use Rattle.carrying.specs.Carried.{is_wide, both_table}
 use Rattle.carrying.proofs.Runs.{run-keeps, onward-yes, onward-no, went-le}
 use Rattle.carrying.proofs.both.run_both.Statement.{statement}
 use Rattle.carrying.proofs.both.run_both.Tie as tie
-use Rattle.carrying.proofs.both.run_both.Reads as reads
-use Rattle.carrying.proofs.both.run_both.Lts as lts
-use Rattle.carrying.proofs.both.is_wide.Reads as is-wide-reads
-use Rattle.carrying.proofs.both.widened.Reads as widened-reads
-use Rattle.simplex.proofs.run.run.Reads as run-reads
 
 -- where the function began, where it has run at 64 bits, and where at 128
 abbrev begun : tie.After-run-e → tie.Start
@@ -31,7 +26,7 @@ abbrev went : tie.After-struct_known-1 → tie.After-widened-w
 went c = c.before.before.before.before
 
 abbrev taken : tie.After-widened-w → tie.Then-is_wide
-taken c = c.before.before.before
+taken c = c.before.before
 
 -- how the run at 64 bits ends
 abbrev reached : tie.After-run-e → S.Ending
@@ -43,25 +38,25 @@ kept : (c : tie.After-run-e) → let s = begun c in
 kept c = let s = begun c in run-keeps {W = 64} (omega arith) s.args.n s.args.kinds.now 200 s.args.t.now s.args.place.now s.requires
 
 wide : (c : tie.Then-is_wide) → is_wide (reached (ran c.before.before)).verdict ≡ true
-wide c = ap is_wide (sym (ran c.before.before).run-e.ensures.verdict_is) ∙ sym c.before.is_IsWide.ensures ∙ c.if-is_wide.true
+wide c = ap is_wide (sym (ran c.before.before).run-e.ensures.verdict_is) ∙ sym c.before.is_wide.ensures ∙ c.if-is_wide.true
 
 judged : (c : tie.Else-is_wide) → is_wide (reached (ran c.before.before)).verdict ≡ false
-judged c = ap is_wide (sym (ran c.before.before).run-e.ensures.verdict_is) ∙ sym c.before.is_IsWide.ensures ∙ c.if-is_wide.false
+judged c = ap is_wide (sym (ran c.before.before).run-e.ensures.verdict_is) ∙ sym c.before.is_wide.ensures ∙ c.if-is_wide.false
 
 -- where the run at 128 bits begins: with its table and the pivots left
-fine : (c : tie.After-run-e) → S.Fine (begun c).args.n c.run-e.new.0 c.run-e.new.1.1.0 (begun c).args.kinds.now
+fine : (c : tie.After-run-e) → S.Fine (begun c).args.n c.run-e.new.t c.run-e.new.place (begun c).args.kinds.now
 fine c =
     let s = begun c in let e = c.run-e.ensures in
-    subst (λ (t : List (List ℤ)). S.Fine s.args.n t c.run-e.new.1.1.0 s.args.kinds.now) (sym e.rows_are)
+    subst (λ (t : List (List ℤ)). S.Fine s.args.n t c.run-e.new.place s.args.kinds.now) (sym e.rows_are)
     (subst (λ (p : List ℕ). S.Fine s.args.n (reached c).rows p s.args.kinds.now) (sym e.place_is) (kept c).0)
 
 from : {A : Type 0} (f : ℕ → List (List ℤ) → List ℕ → A) (c : tie.After-run-e)
-    → f (200 - c.run-e.result.ended.pivots) c.run-e.new.0 c.run-e.new.1.1.0
+    → f (200 - c.run-e.result.ended.pivots) c.run-e.new.t c.run-e.new.place
     ≡ f (reached c).left (reached c).rows (reached c).place
 from f c =
     let e = c.run-e.ensures in let b = (kept c).2 in let p = e.pivots_are in
     let q : 200 - c.run-e.result.ended.pivots ≡ (reached c).left = omega arith in
-    ap (λ (l : ℕ). f l c.run-e.new.0 c.run-e.new.1.1.0) q ∙ ap₂ (f (reached c).left) e.rows_are e.place_is
+    ap (λ (l : ℕ). f l c.run-e.new.t c.run-e.new.place) q ∙ ap₂ (f (reached c).left) e.rows_are e.place_is
 
 run-requires : tie.Need-run-e-requires
 run-requires c κs = search rules
@@ -73,7 +68,7 @@ sub-widened : tie.Need-overflow_sub-p
 sub-widened c = search rules
 
 widened-requires : tie.Need-widened-w-requires
-widened-requires c κs = (fine (ran c.before.before.before.before), omega arith)
+widened-requires c κs = (fine (ran c.before.before.before), omega arith)
 
 add-built : tie.Need-overflow_add-built
 add-built c =

@@ -1,13 +1,9 @@
 -- `carrying::both::widened` meets its contract. Assumes nothing.
 use mathlib.Core.Path.{sym}
-use Prim.Native.Nat.{◌-◌}
 use borrow.Author.Rules.{rules}
 use lib.Seq.{length-take-le}
 use Rattle.carrying.proofs.both.widened.Statement.{statement}
 use Rattle.carrying.proofs.both.widened.Tie as tie
-use Rattle.carrying.proofs.both.widened.Reads as reads
-use Rattle.carrying.proofs.both.widened.Lts as lts
-use Rattle.carrying.proofs.both.in_table.Reads as in-table-reads
 
 array-borrow-prefix-out : tie.Need-slice_bounds-out-end
 array-borrow-prefix-out c = search rules

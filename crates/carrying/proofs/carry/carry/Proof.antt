@@ -12,8 +12,6 @@ use Rattle.model.proofs.Lists.{from_list, from_list-is, up_to-from}
 use Rattle.carrying.proofs.Carries.{Done, done_none, done_next}
 use Rattle.carrying.proofs.carry.carry.Statement.{statement}
 use Rattle.carrying.proofs.carry.carry.Tie as tie
-use Rattle.carrying.proofs.carry.carry.Reads as reads
-use Rattle.carrying.proofs.carry.carry.Lts as lts
 
 abbrev invariant-loop : tie.invariant-loop-k
 invariant-loop rows out₀ k₀ out k = (k ≤ length rows) × (length out ≡ length out₀) × Done k out × (rows_of out ≡ L.up_to (from_list [] rows) k (rows_of out₀))
@@ -37,23 +35,23 @@ mul-carry-row-2 : tie.Need-offset_bounds-out-k invariant-loop decreases-loop
 mul-carry-row-2 c = search rules
 
 index-1-carry-row : tie.Need-bounds-out-k invariant-loop decreases-loop
-index-1-carry-row c = within c.before
+index-1-carry-row c = within c
 
 carry-row-requires : tie.Need-carry_row-requires invariant-loop decreases-loop
-carry-row-requires c κs = let i = c.before.before in let l = i.before.loop in let s = i.before.before in s.requires.1 l.k i.loop-test.true
+carry-row-requires c κs = let i = c.before in let l = i.before.loop-k in let s = i.before.before in s.requires.1 l.k i.loop-k-test.true
 
 add-k : tie.Need-overflow_add-k invariant-loop decreases-loop
 add-k c = search rules
 
 loop-less : tie.Need-loop-k-smaller invariant-loop decreases-loop
-loop-less c = let i = c.before.before.before in omega (arith, i.loop-test.true)
+loop-less c = let i = c.before.before in omega (arith, i.loop-k-test.true)
 
 loop-again : tie.Need-loop-k-preserved invariant-loop decreases-loop
 loop-again c =
-    let i = c.before.before.before in let l = i.before.loop in let s = i.before.before in
+    let i = c.before.before in let l = i.before.loop-k in let s = i.before.before in
     let e = rows-length s.args.out.now in
-    let h : l.k < length (rows_of s.args.out.now) = omega (arith, i.loop-test.true, s.requires.0) in (
-      omega (arith, i.loop-test.true),
+    let h : l.k < length (rows_of s.args.out.now) = omega (arith, i.loop-k-test.true, s.requires.0) in (
+      omega (arith, i.loop-k-test.true),
       length-set l.out l.k _ ∙ l.invariant.1,
       done_next l.k l.out _ (within i) l.invariant.2 c.carry_row.ensures.sheet,
       rows-set l.out l.k _

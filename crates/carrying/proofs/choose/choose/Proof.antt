@@ -1,6 +1,6 @@
 -- `carrying::choose::choose` meets its contract. Assumes nothing.
 use mathlib.Core.Path.{subst}
-use Prim.Native.Nat.{ℕ, ◌-◌, ◌<◌}
+use Prim.Native.Nat.{ℕ, ◌<◌}
 use borrow.Author.Rules.{rules}
 use lib.ListN.{get_or}
 use Rattle.integers.specs.Size.{bound}
@@ -9,10 +9,6 @@ use Rattle.wide_tableau.proofs.Sheets.{rows-length}
 use Rattle.simplex.proofs.Moves as M
 use Rattle.carrying.proofs.choose.choose.Statement.{statement}
 use Rattle.carrying.proofs.choose.choose.Tie as tie
-use Rattle.carrying.proofs.choose.choose.Reads as reads
-use Rattle.carrying.proofs.choose.choose.Lts as lts
-use Rattle.carrying.proofs.choose.choose_at.Reads as choose-at-reads
-use Rattle.wide_tableau.proofs.violated.Reads as violated-reads
 
 violated-requires : tie.Need-violated-v-requires
 violated-requires c κs =

@@ -1,13 +1,9 @@
 -- `carrying::going::pivot` meets its contract. Assumes nothing.
 use mathlib.Core.Path.{refl}
-use Prim.Native.Nat.{◌-◌}
 use borrow.Author.Rules.{rules}
 use Rattle.simplex.specs.Table as S
 use Rattle.carrying.proofs.going.pivot.Statement.{statement}
 use Rattle.carrying.proofs.going.pivot.Tie as tie
-use Rattle.carrying.proofs.going.pivot.Reads as reads
-use Rattle.carrying.proofs.going.pivot.Lts as lts
-use Rattle.wide_tableau.proofs.exchange.Reads as exchange-reads
 
 mul-i : tie.Need-offset_bounds-place-v
 mul-i c = search rules

@@ -4,12 +4,6 @@ use Rattle.carrying.proofs.Asked.{asked-refused, asked-zero, accepted, asked-non
 use borrow.Author.Rules.{rules}
 use Rattle.carrying.proofs.testing.test.Statement.{statement}
 use Rattle.carrying.proofs.testing.test.Tie as tie
-use Rattle.carrying.proofs.testing.test.Reads as reads
-use Rattle.carrying.proofs.testing.test.Lts as lts
-use Rattle.codec.proofs.check.Reads as check-reads
-use Rattle.records.proofs.decode_basic.Reads as decode-basic-reads
-use Rattle.codec.proofs.start_of.Reads as start-of-reads
-use Rattle.carrying.proofs.testing.test_alone.Reads as test-alone-reads
 
 check-requires : tie.Need-check-r-requires
 check-requires c κs = search rules

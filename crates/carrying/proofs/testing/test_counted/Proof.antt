@@ -3,7 +3,7 @@ use mathlib.Core.Path.{sym}
 use Prim.Native.Nat.{◌+◌, ◌*◌}
 use borrow.Author.Rules.{rules}
 use lib.ListN.{take}
-use Rattle.simplex.proofs.Filled.{FirstTable, first-table, first_rows, first-places, first-kinds, first_fine}
+use Rattle.simplex.proofs.Filled.{FirstTable, first-table, first_rows_lem, first-places, first-kinds, first_fine}
 use Rattle.carrying.proofs.Runs.{filled-both}
 use Rattle.carrying.proofs.testing.test_counted.Statement.{statement}
 use Rattle.carrying.proofs.testing.test_counted.Tie as tie
@@ -15,13 +15,13 @@ start c = c.before.before.before.before.before.before
 abbrev filling : tie.After-slice_known-4-1 → tie.After-fill
 filling c = c.before.before.before.before.before
 
-abbrev running : tie.After-run-both-arg3 → tie.After-fill
-running c = filling c.before.before.before
+abbrev running : tie.After-run_both-arg-2-1 → tie.After-fill
+running c = filling c.before.before
 
 filled : (c : tie.After-fill) →
     let b = (start c).args.b in
-    let l = c.fill.new.1 in
-    FirstTable b (take (2 * b.divs + b.cons) l.0) l.1.0 l.1.1.0
+    let l = c.fill.new in
+    FirstTable b (take (2 * b.divs + b.cons) l.rows) l.place l.kinds
 filled c = let p = (start c).requires in first-table p.0 c.fill.ensures p.1.1.0 p.1.1.1
 
 mul-m : tie.Need-overflow_mul-m
@@ -43,7 +43,7 @@ slice-relend-prefix-run-both : tie.Need-slice_bounds-run_both-end
 slice-relend-prefix-run-both c = search rules
 
 slice-aggregate-run-both : tie.Need-slice_bounds-run_both-end-2
-slice-aggregate-run-both c = sym (first_rows _ _ _ _ (filled (filling c.before)))
+slice-aggregate-run-both c = sym (first_rows_lem _ _ _ _ (filled (filling c.before)))
 
 add-run-both : tie.Need-overflow_add-k
 add-run-both c = search rules
