@@ -37,7 +37,7 @@ test-basic-requires c κs =
     let d = p.ensures.divs in
     let e = p.ensures.cons in
     let n = s.requires.1 in
-    (record { divs = omega arith; cons = omega arith; divisions = search rules; constraints = simp length-map at p.type_inv.1.1.1.0.1.0.1 }, (omega arith, (search rules, search rules)))
+    (record { divs = omega arith; cons = omega arith; divisions = search rules; constraints = search rules }, (omega arith, (search rules, search rules)))
 
 is-kept-requires : tie.Need-is_kept-requires
 is-kept-requires c κs = search rules
