@@ -1,18 +1,13 @@
 use mathlib.Core.Path.{◌≡◌, ap, ◌∙◌}
 use Prim.Native.Nat.{◌≤◌}
 use native.Mathlib.Omega.{arith}
-use lib.ListN.{length, length-map}
+use lib.ListN.{length}
 use Rattle.model.specs.Values.{constraint_of}
 use Rattle.algebra.specs.Cut as C
 use Rattle.candidates.proofs.Catching.{put_last}
 use borrow.Author.Rules.{rules}
 use Rattle.candidates.proofs.alone.anew.Statement.{statement}
 use Rattle.candidates.proofs.alone.anew.Tie as tie
-use Rattle.candidates.proofs.alone.anew.Reads as reads
-use Rattle.candidates.proofs.alone.anew.Lts as lts
-use Rattle.candidates.proofs.alone.is_kept.Reads as is-kept-reads
-use Rattle.candidates.proofs.alone.put.Reads as put_reads
-use Rattle.carrying.proofs.test_basic.Reads as test-basic-reads
 
 -- the candidate that is made, from its test
 abbrev made : tie.After-test_basic-e → tie.After-put-q

@@ -1,14 +1,10 @@
 use mathlib.Core.Path.{◌≡◌, ap, ◌∙◌}
 use native.Mathlib.Omega.{arith}
-use lib.ListN.{length, length-map}
+use lib.ListN.{length}
 use Rattle.algebra.specs.Cut.{is_kept}
 use borrow.Author.Rules.{rules}
 use Rattle.candidates.proofs.alone.keeps.Statement.{statement}
 use Rattle.candidates.proofs.alone.keeps.Tie as tie
-use Rattle.candidates.proofs.alone.keeps.Reads as reads
-use Rattle.candidates.proofs.alone.keeps.Lts as lts
-use Rattle.candidates.proofs.alone.is_kept.Reads as is-kept-reads
-use Rattle.carrying.proofs.test_basic.Reads as test-basic-reads
 
 test-basic-requires : tie.Need-test_basic-e-requires
 test-basic-requires c κs =

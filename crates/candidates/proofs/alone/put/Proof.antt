@@ -1,15 +1,11 @@
 use mathlib.Core.Path.{◌≡◌, refl}
 use native.Mathlib.Omega.{arith}
-use lib.ListN.{length, length-map}
-use Rattle.model.specs.Sets as S
+use lib.ListN.{length}
 use Rattle.model.specs.Values.{basic_set_of}
-use Rattle.algebra.specs.Cut as C
 use Rattle.candidates.proofs.Catching.{put_is}
 use borrow.Author.Rules.{rules}
 use Rattle.candidates.proofs.alone.put.Statement.{statement}
 use Rattle.candidates.proofs.alone.put.Tie as tie
-use Rattle.candidates.proofs.alone.put.Reads as reads
-use Rattle.candidates.proofs.alone.put.Lts as lts
 
 mul-r : tie.Need-offset_bounds-q-at
 mul-r c = search rules

@@ -3,9 +3,6 @@ use Rattle.candidates.proofs.Catching.{follow-none, follow-last, follow-on}
 use borrow.Author.Rules.{rules}
 use Rattle.candidates.proofs.survivors.follow.Statement.{statement}
 use Rattle.candidates.proofs.survivors.follow.Tie as tie
-use Rattle.candidates.proofs.survivors.follow.Reads as reads
-use Rattle.candidates.proofs.survivors.follow.Lts as lts
-use Rattle.sharing.proofs.grow.Reads as grow-reads
 
 returns : tie.Need-returns-then-not-joins
 returns c = follow-none (not-true _ c.if-not-joins.true-raw)

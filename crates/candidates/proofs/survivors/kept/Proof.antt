@@ -10,14 +10,6 @@ use Rattle.candidates.proofs.Catching.{opposite-plain, shared_keeps}
 use borrow.Author.Rules.{rules}
 use Rattle.candidates.proofs.survivors.kept.Statement.{statement}
 use Rattle.candidates.proofs.survivors.kept.Tie as tie
-use Rattle.candidates.proofs.survivors.kept.Reads as reads
-use Rattle.candidates.proofs.survivors.kept.Lts as lts
-use Rattle.candidates.proofs.alone.is_kept.Reads as is-kept-reads
-use Rattle.carrying.proofs.both.is_wide.Reads as is-wide-reads
-use Rattle.sharing.proofs.candidate.Reads as candidate-reads
-use Rattle.joining.proofs.opposite_above.Reads as opposite-above-reads
-use Rattle.joining.proofs.opposite_below.Reads as opposite-below-reads
-use Rattle.joining.proofs.void.Reads as void-reads
 
 -- the start from where the opposite below is made, and that place from its test and its judgement
 abbrev start : tie.After-opposite_below-o → tie.Start

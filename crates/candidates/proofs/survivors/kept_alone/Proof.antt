@@ -8,12 +8,6 @@ use Rattle.candidates.specs.Candidates.{candidate, is_equality}
 use borrow.Author.Rules.{rules}
 use Rattle.candidates.proofs.survivors.kept_alone.Statement.{statement}
 use Rattle.candidates.proofs.survivors.kept_alone.Tie as tie
-use Rattle.candidates.proofs.survivors.kept_alone.Reads as reads
-use Rattle.candidates.proofs.survivors.kept_alone.Lts as lts
-use Rattle.candidates.proofs.alone.anew.Reads as anew-reads
-use Rattle.joining.proofs.opposite_above.Reads as opposite-above-reads
-use Rattle.joining.proofs.opposite_below.Reads as opposite-below-reads
-use Rattle.joining.proofs.void.Reads as void-reads
 
 -- where the opposite below is made, from the answer of its test, and the start from there
 abbrev lowered : tie.After-spare-1 → tie.After-opposite_below-o

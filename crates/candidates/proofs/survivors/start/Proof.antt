@@ -6,10 +6,6 @@ use Rattle.candidates.proofs.Catching.{behind-start, behind-end, behind-inside, 
 use borrow.Author.Rules.{rules}
 use Rattle.candidates.proofs.survivors.start.Statement.{statement}
 use Rattle.candidates.proofs.survivors.start.Tie as tie
-use Rattle.candidates.proofs.survivors.start.Reads as reads
-use Rattle.candidates.proofs.survivors.start.Lts as lts
-use Rattle.sharing.proofs.begin.Reads as begin-reads
-use Rattle.sharing.proofs.grow.Reads as grow-reads
 
 abbrev invariant-loop : tie.invariant-loop-x
 invariant-loop rows₀ place₀ kinds₀ past₀ columns₀ w divs m x₀ rows place kinds past columns x = Behind w x rows place kinds past columns
