@@ -4,9 +4,6 @@ use borrow.Author.Rules.{rules}
 use Rattle.climbing.specs.Steps.{aim_of}
 use Rattle.climbing.proofs.climb.aim.Statement.{statement}
 use Rattle.climbing.proofs.climb.aim.Tie as tie
-use Rattle.climbing.proofs.climb.aim.Reads as reads
-use Rattle.climbing.proofs.climb.aim.Lts as lts
-use Rattle.wide.proofs.widen.Reads as widen-reads
 
 widen-requires : tie.Need-widen-requires
 widen-requires c κs = search rules

@@ -19,10 +19,6 @@ use Rattle.climbing.proofs.Posing.{pivot-posed}
 use Rattle.climbing.proofs.Climbing.{step-crosses, climb-ends, turns_left, climb-turns}
 use Rattle.climbing.proofs.climb.climb.Statement.{statement}
 use Rattle.climbing.proofs.climb.climb.Tie as tie
-use Rattle.climbing.proofs.climb.climb.Reads as reads
-use Rattle.climbing.proofs.climb.climb.Lts as lts
-use Rattle.climbing.proofs.climb.step.Reads as step-reads
-use Rattle.climbing.proofs.cross.cross.Reads as cross-reads
 
 abbrev invariant-loop : tie.invariant-loop-x
 invariant-loop t₀ goal₀ n place₀ kinds greatest from left₀ t goal place left =
@@ -38,7 +34,7 @@ abbrev begun : tie.At-loop-x invariant-loop decreases-loop → tie.Start invaria
 begun c = c.before.before.before
 
 abbrev turn : tie.After-step-s invariant-loop decreases-loop → tie.At-loop-x invariant-loop decreases-loop
-turn c = c.before.before.before.before
+turn c = c.before
 
 module _ (c : tie.At-loop-x invariant-loop decreases-loop) where
   abbrev rows : List (List ℤ)
@@ -60,58 +56,58 @@ module _ (c : tie.At-loop-x invariant-loop decreases-loop) where
   left = c.loop-x.left
 
 -- the turn that ends it
-abbrev last : tie.In-Ends-2 invariant-loop decreases-loop → tie.At-loop-x invariant-loop decreases-loop
-last c = turn c.before.before
+abbrev last : tie.In-Ends invariant-loop decreases-loop → tie.At-loop-x invariant-loop decreases-loop
+last c = turn c.before
 
-ends : (c : tie.In-Ends-2 invariant-loop decreases-loop) → let a = last c in D.step_at (bound 128) (rows a) (goal a) (place a) (kinds a) (greatest a) (left a) ≡ Ends c.s-1.given.0.0
-ends c = sym c.before.before.step-s.ensures ∙ c.s-1.given.1
+ends : (c : tie.In-Ends invariant-loop decreases-loop) → let a = last c in D.step_at (bound 128) (rows a) (goal a) (place a) (kinds a) (greatest a) (left a) ≡ Ends c.in-Ends.x
+ends c = sym c.step-s.ensures ∙ c.in-Ends.is
 
 -- a turn that goes on
-module _ (c : tie.In-Turns-2 invariant-loop decreases-loop) where
+module _ (c : tie.In-Turns invariant-loop decreases-loop) where
   abbrev here : tie.At-loop-x invariant-loop decreases-loop
-  here = turn c.before.before
+  here = turn c.before
 
   abbrev v : ℕ
-  v = c.s-in-Turns-1.given.0.0
+  v = c.in-Turns.v
 
   abbrev w : ℕ
-  w = c.s-in-Turns-1.given.0.1.0
+  w = c.in-Turns.w
 
   turns : D.step_at (bound 128) (rows here) (goal here) (place here) (kinds here) (greatest here) (left here) ≡ TurnsBy v w
-  turns = sym c.before.before.step-s.ensures ∙ c.s-in-Turns-1.given.1
+  turns = sym c.step-s.ensures ∙ c.in-Turns.is
 
   crosses : let n = (begun here).args.n in S.CrossingAt (bound 128) n (rows here) (place here) v w × R.FitAt (bound 128) n (goal here) (get_or (place here) w 0 - 64)
-  crosses = step-crosses (bound 128) (begun here).args.n (rows here) (goal here) (place here) (kinds here) here.loop-x.inv.2 (greatest here) (left here) v w turns
+  crosses = step-crosses (bound 128) (begun here).args.n (rows here) (goal here) (place here) (kinds here) here.loop-x.invariant.2 (greatest here) (left here) v w turns
 
-abbrev choice : tie.After-slice_known-in-Turns-1 invariant-loop decreases-loop → tie.In-Turns-2 invariant-loop decreases-loop
-choice c = c.before.before.before.before.before.before.before.before
+abbrev choice : tie.After-slice_known-in-Turns-1 invariant-loop decreases-loop → tie.In-Turns invariant-loop decreases-loop
+choice c = c.before.before.before.before.before.before.before
 
 loop-holds : tie.Need-loop-x-init invariant-loop decreases-loop
 loop-holds c = let s = c.before.before in (s.requires.0, s.requires.1, s.requires.2, refl, refl, refl)
 
 step-requires : tie.Need-step-s-requires invariant-loop decreases-loop
-step-requires c κs = let l = c.before.before.before.loop in (l.invariant.0, l.invariant.1, l.invariant.2)
+step-requires c κs = let l = c.loop-x in (l.invariant.0, l.invariant.1, l.invariant.2)
 
 enum-known-s : tie.Need-enum_known-s invariant-loop decreases-loop
 enum-known-s c = search rules
 
 same_length : tie.Need-shape_of-t-in-Ends invariant-loop decreases-loop
-same_length c = (last c.before).loop-x.inv.4
+same_length c = (last c).loop-x.invariant.4
 
 same-length-2 : tie.Need-shape_of-place-in-Ends invariant-loop decreases-loop
-same-length-2 c = (last c.before).loop-x.inv.5
+same-length-2 c = (last c).loop-x.invariant.5
 
 returns : tie.Need-returns-in-Ends invariant-loop decreases-loop
 returns c =
-    let a = last c.before in let l = a.loop-x in
-    let q = sym (climb-ends (bound 128) (kinds a) (greatest a) (rows a) (goal a) (place a) (left a) _ (ends c.before)) ∙ l.inv.3 in
-    record { outcome-is = ap (λ (o : D.Climbed). o.outcome) q; goal_is = record { is = ap (λ (o : D.Climbed). o.goal) q; sheet = l.inv.1 } }
+    let a = last c in let l = a.loop-x in
+    let q = sym (climb-ends (bound 128) (kinds a) (greatest a) (rows a) (goal a) (place a) (left a) _ (ends c)) ∙ l.invariant.3 in
+    record { outcome-is = ap (λ (o : D.Climbed). o.outcome) q; goal_is = record { is = ap (λ (o : D.Climbed). o.goal) q; sheet = l.invariant.1 } }
 
 enum-known-s-2 : tie.Need-enum_known-s-in-Turns-1 invariant-loop decreases-loop
 enum-known-s-2 c = search rules
 
 cross-requires : tie.Need-cross-requires invariant-loop decreases-loop
-cross-requires c κs = let m = c.before.before.before.before in let l = (here m).loop-x in (l.inv.0, l.inv.1, (crosses m).0, (crosses m).1)
+cross-requires c κs = let m = c.before.before.before in let l = (here m).loop-x in (l.invariant.0, l.invariant.1, (crosses m).0, (crosses m).1)
 
 some_left : (c : tie.After-slice_known-in-Turns-1 invariant-loop decreases-loop) → 0 < left (here (choice c))
 some_left c = let m = choice c in let a = here m in turns_left (bound 128) (kinds a) (greatest a) (rows a) (goal a) (place a) (left a) (v m) (w m) (turns m)
@@ -124,13 +120,13 @@ loop-less c = let h = some_left c in omega arith
 
 loop-again : tie.Need-loop-x-preserved invariant-loop decreases-loop
 loop-again c =
-    let m = choice c in let a = here m in let i = a.loop-x.inv in
+    let m = choice c in let a = here m in let i = a.loop-x.invariant in
     let p = c.before.before.before in let e = p.cross.ensures in let et = e.0.is in let eg = e.1.is in let ep = e.2 in (
       e.0.sheets,
       e.1.sheet,
       rw (et, eg, ep) (pivot-posed _ (rows a) (goal a) (place a) (kinds a) (v m) (w m) i.2 (crosses m).0 (crosses m).1),
       rw (et, eg, ep) (climb-turns (bound 128) (kinds a) (greatest a) (rows a) (goal a) (place a) (left a) (v m) (w m) (turns m) ∙ i.3),
-      sym (rows-length p.cross.new.0) ∙ ap length et ∙ M.rows-length (rows a) (place a) (v m) (w m) ∙ rows-length a.loop-x.t ∙ i.4,
+      sym (rows-length p.cross.new.t) ∙ ap length et ∙ M.rows-length (rows a) (place a) (v m) (w m) ∙ rows-length a.loop-x.t ∙ i.4,
       ap length ep ∙ M.pivot-length (place a) (v m) (w m) ∙ i.5,
     )
 

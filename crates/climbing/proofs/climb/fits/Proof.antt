@@ -7,10 +7,6 @@ use Rattle.tableau.specs.Rows as R
 use Rattle.wide_tableau.specs.Cells.{cells}
 use Rattle.climbing.proofs.climb.fits.Statement.{statement}
 use Rattle.climbing.proofs.climb.fits.Tie as tie
-use Rattle.climbing.proofs.climb.fits.Reads as reads
-use Rattle.climbing.proofs.climb.fits.Lts as lts
-use Rattle.wide_tableau.proofs.narrow.Reads as narrow-reads
-use Rattle.wide_tableau.proofs.search.row_narrow.Reads as row-narrow-reads
 
 narrow-requires : tie.Need-narrow-requires
 narrow-requires c κs = search rules

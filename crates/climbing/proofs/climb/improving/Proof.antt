@@ -14,11 +14,6 @@ use Rattle.wide_tableau.specs.Cells.{cells}
 use Rattle.climbing.specs.Steps as D
 use Rattle.climbing.proofs.climb.improving.Statement.{statement}
 use Rattle.climbing.proofs.climb.improving.Tie as tie
-use Rattle.climbing.proofs.climb.improving.Reads as reads
-use Rattle.climbing.proofs.climb.improving.Lts as lts
-use Rattle.climbing.proofs.climb.aim.Reads as aim-reads
-use Rattle.wide_tableau.proofs.row.set_cell.Reads as set-cell-reads
-use Rattle.wide_tableau.proofs.helping.Reads as helping-reads
 
 one-small : (greatest : Bool) → nat_abs (D.aim_of greatest) < 2 ^ 127
 one-small true = lit< tt

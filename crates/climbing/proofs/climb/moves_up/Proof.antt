@@ -10,11 +10,6 @@ use Rattle.wide_tableau.specs.Cells.{cells}
 use Rattle.climbing.specs.Steps.{moves_up}
 use Rattle.climbing.proofs.climb.moves_up.Statement.{statement}
 use Rattle.climbing.proofs.climb.moves_up.Tie as tie
-use Rattle.climbing.proofs.climb.moves_up.Reads as reads
-use Rattle.climbing.proofs.climb.moves_up.Lts as lts
-use Rattle.wide.proofs.is_negative.Reads as is-negative-reads
-use Rattle.wide.proofs.negate.Reads as negate-reads
-use Rattle.wide_tableau.proofs.row.cell_at.Reads as cell-at-reads
 
 minus_one : (a : ℤ) → negsuc 0 *ℤ a ≡ neg_ℤ a
 minus_one a = negℤ-*ℤ (pos 1) a ∙ ap neg_ℤ (one-*ℤ a)

@@ -6,10 +6,6 @@ use Rattle.wide_tableau.specs.Cells.{cells, rows_of}
 use Rattle.climbing.proofs.Climbing.{step-best, step-on, improving-column}
 use Rattle.climbing.proofs.climb.step.Statement.{statement}
 use Rattle.climbing.proofs.climb.step.Tie as tie
-use Rattle.climbing.proofs.climb.step.Reads as reads
-use Rattle.climbing.proofs.climb.step.Lts as lts
-use Rattle.climbing.proofs.climb.improving.Reads as improving-reads
-use Rattle.climbing.proofs.climb.step_in.Reads as step-in-reads
 
 improving-requires : tie.Need-improving-w-requires
 improving-requires c κs = search rules

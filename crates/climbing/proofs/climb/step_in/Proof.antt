@@ -20,12 +20,6 @@ use Rattle.climbing.proofs.Stopping.{stops-small}
 use Rattle.climbing.proofs.Climbing.{step-endless, step-long, step-last}
 use Rattle.climbing.proofs.climb.step_in.Statement.{statement}
 use Rattle.climbing.proofs.climb.step_in.Tie as tie
-use Rattle.climbing.proofs.climb.step_in.Reads as reads
-use Rattle.climbing.proofs.climb.step_in.Lts as lts
-use Rattle.climbing.proofs.climb.fits.Reads as fits-reads
-use Rattle.climbing.proofs.climb.moves_up.Reads as moves-up-reads
-use Rattle.climbing.proofs.stops.leaving.Reads as leaving-reads
-use Rattle.climbing.proofs.stops.stopping.Reads as stopping-reads
 
 abbrev begun : tie.After-moves_up-up → tie.Start
 begun c = c.before.before.before.before
@@ -41,15 +35,15 @@ lines : (s : tie.Start) (k : ℕ) → k < length s.args.t.now → R.Line s.args.
 lines s k l = let t = s.args.t.now in subst (R.Line s.args.n) (rows_at t k) (s.requires.2.fine.line k (subst (λ (n : ℕ). k < n) (sym (rows-length t)) l))
 
 -- once step 4 was asked
-last : (c : tie.After-fits2) (b : Bool) → c.fits2.result ≡ b →
+last : (c : tie.After-fits) (b : Bool) → c.fits.result ≡ b →
     let k = c.before.before.before in let s = begun k.before in let j = get_or s.args.place.now s.args.w 0 - 64 in
     let rows = rows_of s.args.t.now in let place = s.args.place.now in let kinds = s.args.kinds.now in
-    cond b (TurnsBy (D.leaving rows place kinds j k.before.moves-up.result k.stopping.result) s.args.w) (Ends O.Wide)
+    cond b (TurnsBy (D.leaving rows place kinds j k.before.moves_up-up.result k.stopping-first.result) s.args.w) (Ends O.Wide)
     ≡ D.step_in (bound 128) rows (cells s.args.goal.now) place kinds s.args.greatest s.args.left s.args.w
 last c b h =
     let e = c.before.before in let k = e.before in let s = begun k.before in
     step-last (bound 128) (rows_of s.args.t.now) (cells s.args.goal.now) s.args.place.now s.args.kinds.now s.args.greatest s.args.left s.args.w
-    k.before.moves-up.result k.stopping.result k.before.moves-up.ensures k.stopping.ensures b e.if1.false c.before.if2.false (sym c.fits2.ensures ∙ h)
+    k.before.moves_up-up.result k.stopping-first.result k.before.moves_up-up.ensures k.stopping-first.ensures b e.if-place-first.false c.before.if-left-eq0.false (sym c.fits.ensures ∙ h)
 
 mul-j : tie.Need-offset_bounds-place-w
 mul-j c = search rules
@@ -89,7 +83,7 @@ leaving-requires c κs =
     let b = c.before in let k = b.before.before.before in let s = begun k.before in
     let rows = rows_of s.args.t.now in let goal = cells s.args.goal.now in let j = get_or s.args.place.now s.args.w 0 - 64 in
     let x = R.narrow_rows_at (bound 128) j rows in let y = R.narrow_row_at (bound 128) j goal in
-    let h : (x && y) ≡ true = sym b.fits2.ensures ∙ not-false _ c.if-not-fits.false-raw in (
+    let h : (x && y) ≡ true = sym b.fits.ensures ∙ not-false _ c.if-not-fits.false-raw in (
       s.requires.0,
       placed s,
       column s,

@@ -17,12 +17,6 @@ use Rattle.climbing.specs.Steps as C
 use Rattle.climbing.proofs.Posing.{leaving-divisor, pivot-own}
 use Rattle.climbing.proofs.cross.cross.Statement.{statement}
 use Rattle.climbing.proofs.cross.cross.Tie as tie
-use Rattle.climbing.proofs.cross.cross.Reads as reads
-use Rattle.climbing.proofs.cross.cross.Lts as lts
-use Rattle.carrying.proofs.going.pivot.Reads as pivot-reads
-use Rattle.wide_tableau.proofs.row.cell_at.Reads as cell-at-reads
-use Rattle.wide_tableau.proofs.row.wipe.Reads as wipe-reads
-use Rattle.wide_tableau.proofs.pivot.rebuild.Reads as rebuild-reads
 
 -- the table once the row and the column have changed places
 module _ (x : tie.After-pivot) where
@@ -45,7 +39,7 @@ module _ (x : tie.After-pivot) where
   d = s.requires.2
 
   abbrev table : List (List ℕ)
-  table = x.pivot.last.0
+  table = x.pivot.new.t
 
   -- the row that has been solved
   abbrev p : List ℤ
@@ -68,7 +62,7 @@ module _ (y : tie.After-wipe) where
   m-is : value_of y.before.before.cell_at-m.result ≡ R.den (p pivoted)
   m-is = y.before.before.cell_at-m.ensures.0 ∙ ap R.den (own pivoted)
 
-  q-is : cells y.wipe.last.0 ≡ set (p pivoted) 0 (pos 0)
+  q-is : cells y.wipe.new.r ≡ set (p pivoted) 0 (pos 0)
   q-is = y.wipe.ensures.is ∙ ap (λ (r : List ℤ). set r 0 (pos 0)) (own pivoted)
 
 mul-i : tie.Need-offset_bounds-place-v
@@ -108,7 +102,7 @@ rebuild-requires c κs =
       y.wipe.ensures.sheet,
       omega (arith, (d x).ready.col, s.requires.3.line.fit),
       s.requires.3,
-      subst (λ (z : ℤ). R.DivisorAt (bound 128) n z (cells y.wipe.new.0)) (sym (m-is y))
+      subst (λ (z : ℤ). R.DivisorAt (bound 128) n z (cells y.wipe.new.r)) (sym (m-is y))
           (subst (R.DivisorAt (bound 128) n (R.den (p x))) (sym (q-is y)) (leaving-divisor n (rows x) (place x) s.args.v s.args.w (d x))),
     )
 

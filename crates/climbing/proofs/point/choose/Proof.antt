@@ -14,10 +14,6 @@ use Rattle.simplex.proofs.Moves as M
 use Rattle.climbing.proofs.Posing as P
 use Rattle.climbing.proofs.point.choose.Statement.{statement}
 use Rattle.climbing.proofs.point.choose.Tie as tie
-use Rattle.climbing.proofs.point.choose.Reads as reads
-use Rattle.climbing.proofs.point.choose.Lts as lts
-use Rattle.carrying.proofs.choose.choose.Reads as choose-reads
-use Rattle.wide_tableau.proofs.search.row_narrow.Reads as row-narrow-reads
 
 abbrev start : tie.After-choose-m → tie.Start
 start c = c.before.before.before
@@ -36,18 +32,18 @@ module _ (s : tie.Start) where
   kinds = s.args.kinds.now
 
 -- steps 1 to 4 without the expression's row say Pivot
-module _ (c : tie.In-Pivot-2) where
+module _ (c : tie.In-Pivot) where
   abbrev s : tie.Start
-  s = start c.before.before
+  s = start c.before
 
   abbrev v : ℕ
-  v = c.m-in-Pivot-1.given.0.0
+  v = c.in-Pivot.v
 
   abbrev w : ℕ
-  w = c.m-in-Pivot-1.given.0.1.0
+  w = c.in-Pivot.w
 
   pivots : S.move_at (bound 128) (rows s) (place s) (kinds s) s.args.left ≡ Pivot v w
-  pivots = sym c.before.before.choose-m.ensures ∙ c.m-in-Pivot-1.given.1
+  pivots = sym c.choose-m.ensures ∙ c.in-Pivot.is
 
   crosses : S.CrossingAt (bound 128) s.args.n (rows s) (place s) v w
   crosses = M.crossing_at (bound 128) s.args.n (rows s) (place s) (kinds s) s.args.left v w s.requires.2.fine pivots
@@ -62,32 +58,32 @@ enum-known-m-2 : tie.Need-enum_known-m-in-Pivot-1
 enum-known-m-2 c = search rules
 
 mul-j : tie.Need-offset_bounds-place-w
-mul-j c = let m = c.before in omega (arith, (crosses m).other, (s m).requires.2.fine.names)
+mul-j c = let m = c in omega (arith, (crosses m).other, (s m).requires.2.fine.names)
 
 shared-slice-read-j : tie.Need-bounds-place-w
-shared-slice-read-j c = (crosses c.before.before).other
+shared-slice-read-j c = (crosses c.before).other
 
 sub-j : tie.Need-overflow_sub-j
-sub-j c = (crosses c.before.before).column
+sub-j c = (crosses c.before).column
 
 row-narrow-requires : tie.Need-row_narrow-requires
 row-narrow-requires c κs =
-    let m = c.before.before in let s = s m in
+    let m = c.before in let s = s m in
     (s.requires.1, omega (arith, s.requires.2.fine.near (w m) (crosses m).other), s.requires.2.line)
 
 returns : tie.Need-returns-in-Stop
 returns c =
-    let m = c.before in let o = m.before.before in let s = start o in
-    P.move-stops (bound 128) (rows s) (goal s) (place s) (kinds s) s.args.left _ (sym o.choose-m.ensures ∙ m.m-1.given.1)
+    let m = c in let o = m.before in let s = start o in
+    P.move-stops (bound 128) (rows s) (goal s) (place s) (kinds s) s.args.left _ (sym o.choose-m.ensures ∙ m.in-Stop.is)
 
 returns-2 : tie.Need-returns-then-row_narrow
 returns-2 c =
-    let r = c.before in let m = r.before.before.before in let s = s m in
+    let r = c.before in let m = r.before.before in let s = s m in
     P.move-pivots (bound 128) (rows s) (goal s) (place s) (kinds s) s.args.left (v m) (w m) true (pivots m) (sym r.row_narrow.ensures ∙ c.if-row_narrow.true)
 
 returns-3 : tie.Need-returns-else-row_narrow
 returns-3 c =
-    let r = c.before in let m = r.before.before.before in let s = s m in
+    let r = c.before in let m = r.before.before in let s = s m in
     P.move-pivots (bound 128) (rows s) (goal s) (place s) (kinds s) s.args.left (v m) (w m) false (pivots m) (sym r.row_narrow.ensures ∙ c.if-row_narrow.false)
 
 pub choose_spec : {M : Type 1} → statement M

@@ -6,9 +6,6 @@ use Rattle.wide.specs.Wide.{value_of}
 use Rattle.climbing.specs.Steps.{moved}
 use Rattle.climbing.proofs.stops.change.Statement.{statement}
 use Rattle.climbing.proofs.stops.change.Tie as tie
-use Rattle.climbing.proofs.stops.change.Reads as reads
-use Rattle.climbing.proofs.stops.change.Lts as lts
-use Rattle.wide.proofs.negate.Reads as negate-reads
 
 negate-requires : tie.Need-negate-requires
 negate-requires c κs = search rules

@@ -1,6 +1,5 @@
 -- `climbing::stops::leaving` meets its contract. Assumes nothing.
 use mathlib.Core.Path.{◌≡◌, sym, ap, ap₂, ◌∙◌}
-use mathlib.Core.Logic.{⊎_elim}
 use mathlib.Core.Bool.{Bool, ◌&&◌, cond}
 use Prim.Native.Nat.{ℕ, ◌-◌, ◌≤◌}
 use native.Mathlib.Omega.{arith}
@@ -11,10 +10,7 @@ use Rattle.climbing.specs.Steps as D
 use Rattle.climbing.proofs.Stopping.{Stops, stopping-stops, leaving-start, leaving-turn, leaving-end}
 use Rattle.climbing.proofs.stops.leaving.Statement.{statement}
 use Rattle.climbing.proofs.stops.leaving.Tie as tie
-use Rattle.climbing.proofs.stops.leaving.Reads as reads
-use Rattle.climbing.proofs.stops.leaving.Lts as lts
-use Rattle.climbing.proofs.stops.sooner.Reads as sooner-reads
-use Rattle.climbing.proofs.stops.stops.Reads as stops-reads
+use Rattle.climbing.proofs.stops.leaving.Lts.{then-stops+then-sooner, then-stops+else-sooner, else-stops}
 
 abbrev invariant-loop : tie.invariant-loop-v
 invariant-loop t place kinds j up first best₀ v₀ best v =
@@ -66,12 +62,11 @@ chosen : (c : tie.Joined-stops invariant-loop decreases-loop) →
     c.if-stops.best ≡ cond (test s l.v && earlier s l.v l.best) l.v l.best
 chosen c =
     let h = c.before in let l = h.before.before.loop-v in let s = begun h.before.before in
-    ⊎_elim
-    (λ w. w.3 ∙ sym (ap (λ (b : Bool). cond b l.v l.best) (ap₂ ◌&&◌ (sym h.stops.ensures ∙ w.0.taken) (sym w.1.ensures ∙ w.2.taken))))
-    (⊎_elim
-    (λ w. w.3 ∙ sym (ap (λ (b : Bool). cond b l.v l.best) (ap₂ ◌&&◌ (sym h.stops.ensures ∙ w.0.taken) (sym w.1.ensures ∙ w.2.left))))
-    (λ w. w.1 ∙ sym (ap (λ (b : Bool). cond (b && earlier s l.v l.best) l.v l.best) (sym h.stops.ensures ∙ w.0.left))))
-    c.if-stops.branch
+    elim c.if-stops.branch [
+      | then-stops+then-sooner w ↦ w.best-is ∙ sym (ap (λ (b : Bool). cond b l.v l.best) (ap₂ ◌&&◌ (sym h.stops.ensures ∙ w.if-stops.true) (sym w.sooner.ensures ∙ w.if-sooner.true)))
+      | then-stops+else-sooner w ↦ w.best-is ∙ sym (ap (λ (b : Bool). cond b l.v l.best) (ap₂ ◌&&◌ (sym h.stops.ensures ∙ w.if-stops.true) (sym w.sooner.ensures ∙ w.if-sooner.false)))
+      | else-stops w ↦ w.best-is ∙ sym (ap (λ (b : Bool). cond (b && earlier s l.v l.best) l.v l.best) (sym h.stops.ensures ∙ w.if-stops.false))
+    ]
 
 loop-again : tie.Need-loop-v-preserved invariant-loop decreases-loop
 loop-again c =

@@ -12,10 +12,6 @@ use Rattle.wide_tableau.specs.Cells.{rows_of}
 use Rattle.wide_tableau.proofs.Sheets.{rows_at, rows-length}
 use Rattle.climbing.proofs.stops.over.Statement.{statement}
 use Rattle.climbing.proofs.stops.over.Tie as tie
-use Rattle.climbing.proofs.stops.over.Reads as reads
-use Rattle.climbing.proofs.stops.over.Lts as lts
-use Rattle.wide.proofs.widen.Reads as widen-reads
-use Rattle.wide_tableau.proofs.row.cell_at.Reads as cell-at-reads
 
 abbrev begun : tie.Else-kind-eq2 → tie.Start
 begun c = c.before.before.before.before.before
@@ -51,14 +47,14 @@ shared-slice-element-cell-at : tie.Need-bounds-t-i
 shared-slice-element-cell-at c = spot c
 
 cell-at-requires : tie.Need-cell_at-requires
-cell-at-requires c κs = let e = c.before in ((begun e).requires.0.at _ (spot e), lit< tt)
+cell-at-requires c κs = let e = c in ((begun e).requires.0.at _ (spot e), lit< tt)
 
 returns-2 : tie.Need-returns
 returns-2 c =
-    let e = c.before.before in let s = begun e in
+    let e = c.before in let s = begun e in
     let i = get_or s.args.place.now s.args.v 0 in let r = get_or (rows_of s.args.t.now) i [] in
     c.cell_at.ensures.0 ∙ ap (λ (l : List ℤ). get_or l 1 (pos 0)) (sym (rows_at s.args.t.now i))
-    ∙ sym (ap (λ (b : Bool). cond b (pos 0) (get_or r 1 (pos 0))) (ne_eqb _ 2 e.if1.false))
+    ∙ sym (ap (λ (b : Bool). cond b (pos 0) (get_or r 1 (pos 0))) (ne_eqb _ 2 e.if-kind-eq2.false))
 
 pub over_spec : {M : Type 1} → statement M
 over_spec =

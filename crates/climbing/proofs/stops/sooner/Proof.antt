@@ -14,12 +14,6 @@ use Rattle.climbing.specs.Steps.{sooner_at, move_over, move_under, Stopped}
 use Rattle.climbing.proofs.Stopping.{over-within, under-within, lt-minus}
 use Rattle.climbing.proofs.stops.sooner.Statement.{statement}
 use Rattle.climbing.proofs.stops.sooner.Tie as tie
-use Rattle.climbing.proofs.stops.sooner.Reads as reads
-use Rattle.climbing.proofs.stops.sooner.Lts as lts
-use Rattle.climbing.proofs.stops.over.Reads as over_reads
-use Rattle.climbing.proofs.stops.under.Reads as under-reads
-use Rattle.wide.proofs.determinant.Reads as determinant-reads
-use Rattle.wide.proofs.is_negative.Reads as is-negative-reads
 
 abbrev begun : tie.After-over-a → tie.Start
 begun c = c.before.before.before

@@ -11,9 +11,6 @@ use Rattle.wide_tableau.specs.Cells.{rows_of}
 use Rattle.climbing.specs.Steps as D
 use Rattle.climbing.proofs.stops.stopping.Statement.{statement}
 use Rattle.climbing.proofs.stops.stopping.Tie as tie
-use Rattle.climbing.proofs.stops.stopping.Reads as reads
-use Rattle.climbing.proofs.stops.stopping.Lts as lts
-use Rattle.climbing.proofs.stops.stops.Reads as stops-reads
 
 abbrev invariant-loop : tie.invariant-loop-v
 invariant-loop t place kinds j up v₀ v = (v ≤ length place) × (R.first (D.stops_at (rows_of t) place kinds j up) (length place - v) v ≡ R.first (D.stops_at (rows_of t) place kinds j up) (length place) 0)

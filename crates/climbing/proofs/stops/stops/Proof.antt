@@ -14,11 +14,6 @@ use Rattle.wide_tableau.proofs.Sheets.{rows_at, rows-length}
 use Rattle.climbing.specs.Steps.{moved, stops_at}
 use Rattle.climbing.proofs.stops.stops.Statement.{statement}
 use Rattle.climbing.proofs.stops.stops.Tie as tie
-use Rattle.climbing.proofs.stops.stops.Reads as reads
-use Rattle.climbing.proofs.stops.stops.Lts as lts
-use Rattle.climbing.proofs.stops.change.Reads as change-reads
-use Rattle.wide_tableau.proofs.row.cell_at.Reads as cell-at-reads
-use Rattle.wide_tableau.proofs.search.is_violated.Reads as is-violated-reads
 
 abbrev begun : tie.Then-i-lt64 → tie.Start
 begun c = c.before.before.before.before.before
@@ -52,7 +47,7 @@ add-cell-at : tie.Need-overflow_add-j
 add-cell-at c = search rules
 
 cell-at-requires : tie.Need-cell_at-e-requires
-cell-at-requires c κs = let t = c.before in let s = begun t in (s.requires.0.at _ (spot t), omega (arith, s.requires.2))
+cell-at-requires c κs = let t = c in let s = begun t in (s.requires.0.at _ (spot t), omega (arith, s.requires.2))
 
 change-requires : tie.Need-change-x-requires
 change-requires c κs = search rules
@@ -63,11 +58,11 @@ is-violated-requires c κs = search rules
 returns : tie.Need-returns-then-i-lt64
 unfolding stops_at
 returns c =
-    let x = c.before in let e = x.before in let t = e.before.before in let s = begun t in
+    let x = c.before in let e = x.before in let t = e.before in let s = begun t in
     let i = get_or s.args.place.now s.args.v 0 in let k = get_or s.args.kinds.now s.args.v 0 in
     c.is_violated.ensures
     ∙ ap (R.violated_by k) (x.change-x.ensures ∙ ap (moved s.args.up) e.cell_at-e.ensures.0 ∙ ap (changed s) (sym (rows_at s.args.t.now i)))
-    ∙ sym (ap (λ (b : Bool). cond b (R.violated_by k (changed s (get_or (rows_of s.args.t.now) i []))) false) (lt-ltb i 64 t.if1.true))
+    ∙ sym (ap (λ (b : Bool). cond b (R.violated_by k (changed s (get_or (rows_of s.args.t.now) i []))) false) (lt-ltb i 64 t.if-i-lt64.true))
 
 returns-2 : tie.Need-returns
 unfolding stops_at

@@ -11,9 +11,6 @@ use Rattle.tableau.specs.Rows as R
 use Rattle.wide_tableau.proofs.Sheets.{rows_at}
 use Rattle.climbing.proofs.stops.under.Statement.{statement}
 use Rattle.climbing.proofs.stops.under.Tie as tie
-use Rattle.climbing.proofs.stops.under.Reads as reads
-use Rattle.climbing.proofs.stops.under.Lts as lts
-use Rattle.wide_tableau.proofs.row.cell_at.Reads as cell-at-reads
 
 mul-i : tie.Need-offset_bounds-place-v
 mul-i c = search rules
@@ -31,11 +28,11 @@ add-cell-at : tie.Need-overflow_add-j
 add-cell-at c = search rules
 
 cell-at-requires : tie.Need-cell_at-e-requires
-cell-at-requires c κs = let s = c.before.before.before in (s.requires.0.at _ s.requires.2, omega (arith, s.requires.3))
+cell-at-requires c κs = let s = c.before.before in (s.requires.0.at _ s.requires.2, omega (arith, s.requires.3))
 
 returns : tie.Need-returns
 returns c =
-    let e = c.before in let s = e.before.before.before.before in let x = e.cell_at-e.result in
+    let e = c.before in let s = e.before.before.before in let x = e.cell_at-e.result in
     ap pos (
     sym (nat_abs-signed x.neg (size x.magnitude)) ∙ ap nat_abs e.cell_at-e.ensures.0
     ∙ ap (λ (r : List ℤ). nat_abs (R.entry r s.args.j)) (sym (rows_at s.args.t.now (get_or s.args.place.now s.args.v 0))))
