@@ -76,14 +76,14 @@ abbrev valued : tie.After-slice_known-in-loop-x-1 invariant-loop decreases-loop 
 valued c = (called c).before.before.before
 
 add-x : tie.Need-overflow_add-x invariant-loop decreases-loop
-add-x c = let l = (valued c).before in let h = l.loop-test.taken in omega arith
+add-x c = let l = (valued c).before in let h = l.loop-x-test.true in omega arith
 
 loop-less : tie.Need-loop-x-smaller invariant-loop decreases-loop
-loop-less c = let l = (valued c).before in let h = l.loop-test.taken in omega arith
+loop-less c = let l = (valued c).before in let h = l.loop-x-test.true in omega arith
 
 loop-again : tie.Need-loop-x-preserved invariant-loop decreases-loop
 loop-again c =
-    let y = valued c in let l = y.before in let h = l.loop-x-test.taken in let v = (m l).loop-x.inv in let a = (st l).args in let p = (st l).requires in let o = p.2.axis in let q = p.2.lows in
+    let y = valued c in let l = y.before in let h = l.loop-x-test.true in let v = (m l).loop-x.invariant in let a = (st l).args in let p = (st l).requires in let o = p.2.axis in let q = p.2.lows in
     let point : List ℤ = set (low l) (k l) (here l) in
     let on : get_or point a.c.axis (pos 0) ≡ to_z w64 (of_z w64 y.value_at-v.result) =
     ap (λ (j : ℕ). get_or point j (pos 0)) p.0 ∙ get_or-set_same (low l) (k l) (here l) (pos 0) (omega arith) ∙ sym (value-is y) in (
