@@ -19,21 +19,21 @@ use borrow.Author.Rules.{rules}
 use Rattle.states.proofs.adding.add.Statement.{statement}
 use Rattle.states.proofs.adding.add.Tie as tie
 
-abbrev begun : tie.After-fits2 → tie.Start
-begun c = c.before.before.before.before.before.before.before.before
+abbrev begun : tie.After-fits → tie.Start
+begun c = c.before.before.before.before
 
 -- the memory at first
 abbrev first : tie.Start → Memory
 first s = memory s.args.rows.now s.args.place.now s.args.kinds.now s.args.heads.now
 
 fit : (c : tie.Else-not-fits) → fitting (first (begun c.before)) ≡ true
-fit c = sym c.before.fits2.ensures ∙ not-false _ c.if-not-fits.false-raw
+fit c = sym c.before.fits.ensures ∙ not-false _ c.if-not-fits.false-raw
 
 fits : (c : tie.Else-not-fits) → Fits (first (begun c.before))
 fits c = fitting-fits _ (fit c)
 
 abbrev fitted : tie.After-sound → tie.Else-not-fits
-fitted c = c.before.before.before.before.before
+fitted c = c.before
 
 sounds : (c : tie.Else-not-sound) → sound (first (begun (fitted c.before).before)) ≡ true
 sounds c = sym c.before.sound.ensures ∙ not-false _ c.if-not-sound.false-raw
@@ -63,10 +63,10 @@ same-length-4 : tie.Need-shape_of-heads-then-not-fits
 same-length-4 c = search rules
 
 returns : tie.Need-returns-then-not-fits
-returns c = add-unfit _ _ (sym c.before.fits2.ensures ∙ not-true _ c.if-not-fits.true-raw)
+returns c = add-unfit _ _ (sym c.before.fits.ensures ∙ not-true _ c.if-not-fits.true-raw)
 
 sound-requires : tie.Need-sound-requires
-sound-requires c κs = fits c.before.before.before.before
+sound-requires c κs = fits c
 
 same-length-5 : tie.Need-shape_of-rows-then-not-sound
 same-length-5 c = search rules

@@ -13,8 +13,8 @@ use Rattle.states.proofs.adding.go_with.Tie as tie
 abbrev start : tie.After-slice_known-2-1 → tie.Start
 start c = c.before.before
 
-abbrev lent : tie.After-go-on-arg3 → tie.After-slice_known-2-1
-lent c = c.before.before.before
+abbrev lent : tie.After-go_on-arg-2-1 → tie.After-slice_known-2-1
+lent c = c.before.before
 
 add-v : tie.Need-overflow_add-v
 add-v c = search rules

@@ -20,7 +20,7 @@ use Rattle.states.proofs.adding.grow.Statement.{statement}
 use Rattle.states.proofs.adding.grow.Tie as tie
 
 abbrev start : tie.After-draft → tie.Start
-start c = c.before.before.before.before.before.before.before
+start c = c.before.before.before.before.before
 
 -- the memory at first
 abbrev first : tie.Start → Memory
@@ -28,13 +28,13 @@ first s = memory s.args.rows.now s.args.place.now s.args.kinds.now s.args.heads.
 
 -- the row that was drafted
 drafts : (c : tie.Else-not-draft) → let d = c.before in let s = start d in
-    rule_row (bound 128) s.args.k (rows_of (take s.args.m s.args.rows.now)) (take (8 + s.args.k + s.args.m) s.args.place.now) (constraint_of s.args.c) ≡ some (cells d.draft.new.1.1.1.1.0)
-drafts c = let d = c.before in d.draft.ensures.is ∙ ap (λ b. cond b (some (cells d.draft.new.1.1.1.1.0)) none) (not-false d.draft.result c.if-not-draft.false-raw)
+    rule_row (bound 128) s.args.k (rows_of (take s.args.m s.args.rows.now)) (take (8 + s.args.k + s.args.m) s.args.place.now) (constraint_of s.args.c) ≡ some (cells d.draft.new.row)
+drafts c = let d = c.before in d.draft.ensures.is ∙ ap (λ b. cond b (some (cells d.draft.new.row)) none) (not-false d.draft.result c.if-not-draft.false-raw)
 
-joins : (c : tie.Else-not-draft) → Joins (start c.before).args.k c.before.draft.new.1.1.1.1.0
+joins : (c : tie.Else-not-draft) → Joins (start c.before).args.k c.before.draft.new.row
 joins c =
     let d = c.before in let s = start d in let e = d.draft.ensures in let o = s.requires.0 in
-    let w = rule-whole s.args.k (rows_of (take s.args.m s.args.rows.now)) (take (8 + s.args.k + s.args.m) s.args.place.now) (open-laid o) (bound 128) (constraint_of s.args.c) (cells d.draft.new.1.1.1.1.0) (drafts c) in
+    let w = rule-whole s.args.k (rows_of (take s.args.m s.args.rows.now)) (take (8 + s.args.k + s.args.m) s.args.place.now) (open-laid o) (bound 128) (constraint_of s.args.c) (cells d.draft.new.row) (drafts c) in
     record { sheet = e.sheet; line = w.0; over = w.1 }
 
 add-names : tie.Need-overflow_add-names
@@ -47,16 +47,16 @@ slice-reshare-prefix-draft : tie.Need-slice_bounds-draft-end
 slice-reshare-prefix-draft c = search rules
 
 slice-aggregate-draft : tie.Need-slice_bounds-draft-end-2
-slice-aggregate-draft c = sym (rows_taken c.before.before.before.before.requires.0)
+slice-aggregate-draft c = sym (rows_taken c.before.before.before.requires.0)
 
 slice-reshare-prefix-draft-2 : tie.Need-slice_bounds-draft-end-3
 slice-reshare-prefix-draft-2 c = search rules
 
 slice-aggregate-draft-2 : tie.Need-slice_bounds-draft-end-4
-slice-aggregate-draft-2 c = sym (place-taken c.before.before.before.before.before.requires.0)
+slice-aggregate-draft-2 c = sym (place-taken c.before.before.before.requires.0)
 
 draft-requires : tie.Need-draft-requires
-draft-requires c κs = let s = c.before.before.before.before.before.before in (s.requires.0.stands.sheets, open-laid s.requires.0)
+draft-requires c κs = let s = c.before.before.before.before in (s.requires.0.stands.sheets, open-laid s.requires.0)
 
 slice-write-heads : tie.Need-bounds-heads-4
 slice-write-heads c = search rules
@@ -71,7 +71,7 @@ same-length-3 : tie.Need-shape_of-heads-then-not-draft
 same-length-3 c = search rules
 
 returns : tie.Need-returns-then-not-draft
-returns c = let d = c.before in let s = start d in grown-wide s.args.k s.args.m (constraint_of s.args.c) (first s) (d.draft.ensures.is ∙ ap (λ b. cond b (some (cells d.draft.new.1.1.1.1.0)) none) (not-true d.draft.result c.if-not-draft.true-raw))
+returns c = let d = c.before in let s = start d in grown-wide s.args.k s.args.m (constraint_of s.args.c) (first s) (d.draft.ensures.is ∙ ap (λ b. cond b (some (cells d.draft.new.row)) none) (not-true d.draft.result c.if-not-draft.true-raw))
 
 kind-of-requires : tie.Need-kind_of-kind-requires
 kind-of-requires c κs = search rules
@@ -103,7 +103,7 @@ same-length-7 c = search rules
 returns-2 : tie.Need-returns
 returns-2 c =
     let g = c.before.before.before.before.before in let k = g.before.before.before.before in let e = k.before in let d = e.before in let s = start d in
-    grown-row s.args.k s.args.m k.kind_of-kind.result (constraint_of s.args.c) (first s) (cells d.draft.new.1.1.1.1.0) (drafts e) k.kind_of-kind.ensures g.go_with.ensures
+    grown-row s.args.k s.args.m k.kind_of-kind.result (constraint_of s.args.c) (first s) (cells d.draft.new.row) (drafts e) k.kind_of-kind.ensures g.go_with.ensures
 
 pub grow_spec : {M : Type 1} → statement M
 grow_spec =

@@ -26,7 +26,7 @@ abbrev grew : tie.After-heads-1 → tie.After-grow
 grew c = c.before.before.before.before.before.before
 
 -- the heads keep their number
-long : (c : tie.After-heads-1) → length (grew c).grow.new.1.1.1.1.1.1.0 ≡ length (start (point (grew c)).before).args.heads.now
+long : (c : tie.After-heads-1) → length (grew c).grow.new.heads ≡ length (start (point (grew c)).before).args.heads.now
 long c = let h = (start (point (grew c)).before).args.heads.now in c.heads-1.given ∙ length-set h 2 (get_or h 2 0 + 1)
 
 slice-read-k : tie.Need-bounds-heads-1
@@ -82,7 +82,7 @@ same-length-5 c = long c.before.before.before
 returns-2 : tie.Need-returns
 returns-2 c =
     let a = c.before.before.before in let g = grew a in let e = point g in let s = start e.before in
-    joined-point (constraint_of s.args.c) (first s) e.if-w-ne1.left g.grow.ensures c.said_of-2.ensures
+    joined-point (constraint_of s.args.c) (first s) e.if-w-ne1.false g.grow.ensures c.said_of-2.ensures
 
 pub join_spec : {M : Type 1} → statement M
 join_spec =

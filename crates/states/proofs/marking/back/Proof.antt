@@ -17,15 +17,15 @@ use Rattle.states.proofs.marking.back.Tie as tie
 abbrev begun : tie.Else-name-gt-NAME → tie.Start
 begun c = c.before.before.before.before
 
-abbrev tried : tie.After-fits2 → tie.Else-name-gt-NAME
-tried c = c.before.before.before.before.before
+abbrev tried : tie.After-fits → tie.Else-name-gt-NAME
+tried c = c.before
 
 -- the memory at first
 abbrev first : tie.Start → Memory
 first s = memory s.args.rows.now s.args.place.now s.args.kinds.now s.args.heads.now
 
 fit : (c : tie.Else-not-fits) → fitting (first (begun (tried c.before))) ≡ true
-fit c = sym c.before.fits2.ensures ∙ not-false _ c.if-not-fits.false-raw
+fit c = sym c.before.fits.ensures ∙ not-false _ c.if-not-fits.false-raw
 
 fits : (c : tie.Else-not-fits) → Fits (first (begun (tried c.before)))
 fits c = fitting-fits _ (fit c)
@@ -62,7 +62,7 @@ same-length-4 : tie.Need-shape_of-heads-then-not-fits
 same-length-4 c = search rules
 
 returns-2 : tie.Need-returns-then-not-fits
-returns-2 c = back-unfit _ _ (tried c.before).if-name-gt-NAME.false (sym c.before.fits2.ensures ∙ not-true _ c.if-not-fits.true-raw)
+returns-2 c = back-unfit _ _ (tried c.before).if-name-gt-NAME.false (sym c.before.fits.ensures ∙ not-true _ c.if-not-fits.true-raw)
 
 add-rank : tie.Need-overflow_add-rank
 add-rank c = record { fits = let h = (tried c.before).if-name-gt-NAME.false in omega arith }
@@ -121,7 +121,7 @@ same-length-12 c = search rules
 returns-4 : tie.Need-returns-then-not-is_word
 returns-4 c =
     let w = c.before in let d = w.before.before in let e = fitted d in
-    back_none _ _ (tried e.before).if-name-gt-NAME.false (fit e) _ refl d.if-rank-eq0.false (sym w.is_IsWord.ensures ∙ not-true _ c.if-not-is_word.true-raw)
+    back_none _ _ (tried e.before).if-name-gt-NAME.false (fit e) _ refl d.if-rank-eq0.false (sym w.is_word.ensures ∙ not-true _ c.if-not-is_word.true-raw)
 
 add-copy-slot : tie.Need-overflow_add-name
 add-copy-slot c = search rules
@@ -152,7 +152,7 @@ same-length-16 c = search rules
 returns-5 : tie.Need-returns
 returns-5 c =
     let a = c.before.before.before in let s = copying a in let w = stated s in let d = marked w in let e = fitted d in
-    back_done _ _ (tried e.before).if-name-gt-NAME.false (fit e) _ refl d.if-rank-eq0.left (sym w.before.is_IsWord.ensures ∙ not-false _ w.if-not-is_word.left) c.said_of.ensures
+    back_done _ _ (tried e.before).if-name-gt-NAME.false (fit e) _ refl d.if-rank-eq0.false (sym w.before.is_word.ensures ∙ not-false _ w.if-not-is_word.false-raw) c.said_of.ensures
     (ranked-is (map (forgotten _)) s.copy_slot.ensures a.forget_after.ensures)
 
 pub back_spec : {M : Type 1} → statement M

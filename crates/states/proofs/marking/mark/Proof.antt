@@ -16,15 +16,15 @@ use Rattle.states.proofs.marking.mark.Tie as tie
 abbrev begun : tie.Else-name-gt-NAME → tie.Start
 begun c = c.before.before.before.before
 
-abbrev tried : tie.After-fits2 → tie.Else-name-gt-NAME
-tried c = c.before.before.before.before.before
+abbrev tried : tie.After-fits → tie.Else-name-gt-NAME
+tried c = c.before
 
 -- the memory at first
 abbrev first : tie.Start → Memory
 first s = memory s.args.rows.now s.args.place.now s.args.kinds.now s.args.heads.now
 
 fit : (c : tie.Else-not-fits) → fitting (first (begun (tried c.before))) ≡ true
-fit c = sym c.before.fits2.ensures ∙ not-false _ c.if-not-fits.false-raw
+fit c = sym c.before.fits.ensures ∙ not-false _ c.if-not-fits.false-raw
 
 fits : (c : tie.Else-not-fits) → Fits (first (begun (tried c.before)))
 fits c = fitting-fits _ (fit c)
@@ -58,7 +58,7 @@ same-length-4 : tie.Need-shape_of-heads-then-not-fits
 same-length-4 c = search rules
 
 returns-2 : tie.Need-returns-then-not-fits
-returns-2 c = mark-unfit _ _ (tried c.before).if-name-gt-NAME.false (sym c.before.fits2.ensures ∙ not-true _ c.if-not-fits.true-raw)
+returns-2 c = mark-unfit _ _ (tried c.before).if-name-gt-NAME.false (sym c.before.fits.ensures ∙ not-true _ c.if-not-fits.true-raw)
 
 slice-read-w : tie.Need-bounds-heads-4
 slice-read-w c = let f = fits c.before in omega (arith, f.heads)
@@ -79,7 +79,7 @@ same-length-8 : tie.Need-shape_of-heads-then-not-is_word
 same-length-8 c = search rules
 
 returns-3 : tie.Need-returns-then-not-is_word
-returns-3 c = let w = c.before in let e = w.before.before in mark-none _ _ (tried e.before).if-name-gt-NAME.false (fit e) (sym w.is_IsWord.ensures ∙ not-true _ c.if-not-is_word.true-raw)
+returns-3 c = let w = c.before in let e = w.before.before in mark-none _ _ (tried e.before).if-name-gt-NAME.false (fit e) (sym w.is_word.ensures ∙ not-true _ c.if-not-is_word.true-raw)
 
 add-copy-slot : tie.Need-overflow_add-name
 add-copy-slot c = search rules
@@ -110,7 +110,7 @@ same-length-12 c = search rules
 returns-4 : tie.Need-returns
 returns-4 c =
     let a = c.before.before.before in let s = copying a in let d = stated s in let e = fitted d in
-    mark-done _ _ (tried e.before).if-name-gt-NAME.false (fit e) (sym d.before.is_IsWord.ensures ∙ not-false _ d.if-not-is_word.left) c.said_of.ensures
+    mark-done _ _ (tried e.before).if-name-gt-NAME.false (fit e) (sym d.before.is_word.ensures ∙ not-false _ d.if-not-is_word.false-raw) c.said_of.ensures
     (ranked-is (newest (begun (tried e.before)).args.name) s.copy_slot.ensures a.mark_newest.ensures)
 
 pub mark_spec : {M : Type 1} → statement M

@@ -26,7 +26,7 @@ divisions-are s = let h = s.requires.divisions in let f = s.requires.few in leng
 
 -- the rows filled
 abbrev filled : (c : tie.After-fill_bounds) → List (List ℤ)
-filled c = take (2 * (start c).args.k) c.fill_bounds.new.1.1.0
+filled c = take (2 * (start c).args.k) c.fill_bounds.new.rows
 
 filled-long : (c : tie.After-fill_bounds) → length (filled c) ≡ 2 * (start c).args.k
 filled-long c = let s = start c in ap length c.fill_bounds.ensures.firsts ∙ rows_long s.args.k (divisions s) s.requires.few (divisions-are s)

@@ -88,7 +88,7 @@ returns : tie.Need-returns
 returns c =
     let f = c.before.before.before in let w = f.before.before.before.before in let t = w.before.before.before.before.before.before.before in
     let d = t.before.before.before.before in let s = start d in
-    let r = subst (λ (ds : List S.Division). Ran (start_end s.args.k ds) t.tested-w.result t.tested-w.new.1.1.0 t.tested-w.new.1.1.1.0) d.divisions_of-ds.ensures.are t.tested-w.ensures.0 in
+    let r = subst (λ (ds : List S.Division). Ran (start_end s.args.k ds) t.tested-w.result t.tested-w.new.t t.tested-w.new.place) d.divisions_of-ds.ensures.are t.tested-w.ensures.0 in
     opens-is s.args.n s.args.k (memory s.args.rows.now s.args.place.now s.args.kinds.now s.args.heads.now) r t.tested-w.ensures.1 w.write_head.ensures f.forget_after.ensures c.said_of.ensures
 
 pub set_up_spec : {M : Type 1} → statement M

@@ -11,15 +11,15 @@ use borrow.Author.Rules.{rules}
 use Rattle.states.proofs.opening.start.Statement.{statement}
 use Rattle.states.proofs.opening.start.Tie as tie
 
-abbrev begun : tie.After-fits2 → tie.Start
-begun c = c.before.before.before.before.before.before.before.before
+abbrev begun : tie.After-fits → tie.Start
+begun c = c.before.before.before.before
 
 -- the memory at first
 abbrev first : tie.Start → Memory
 first s = memory s.args.rows.now s.args.place.now s.args.kinds.now s.args.heads.now
 
 fit : (c : tie.Else-not-fits) → fitting (first (begun c.before)) ≡ true
-fit c = sym c.before.fits2.ensures ∙ not-false _ c.if-not-fits.false-raw
+fit c = sym c.before.fits.ensures ∙ not-false _ c.if-not-fits.false-raw
 
 fits-requires : tie.Need-fits-requires
 fits-requires c κs = search rules
@@ -37,7 +37,7 @@ same-length-4 : tie.Need-shape_of-heads-then-not-fits
 same-length-4 c = search rules
 
 returns : tie.Need-returns-then-not-fits
-returns c = start-unfit _ _ _ (sym c.before.fits2.ensures ∙ not-true _ c.if-not-fits.true-raw)
+returns c = start-unfit _ _ _ (sym c.before.fits.ensures ∙ not-true _ c.if-not-fits.true-raw)
 
 same-length-5 : tie.Need-shape_of-rows-then-divisions-ne0
 same-length-5 c = search rules

@@ -23,7 +23,7 @@ add-go-on : tie.Need-overflow_add-k
 add-go-on c = search rules
 
 go-on-requires : tie.Need-go_on-e-requires
-go-on-requires c κs = let l = c.before.before.before.before.before.before.before.before in let b = l.lay.ensures in let s = start l in (b.rows.sheets, begun-fine b s.requires.few (divisions-are s), omega arith)
+go-on-requires c κs = let l = c.before.before.before.before.before.before.before in let b = l.lay.ensures in let s = start l in (b.rows.sheets, begun-fine b s.requires.few (divisions-are s), omega arith)
 
 word-of-requires : tie.Need-word_of-requires
 word-of-requires c κs = search rules
@@ -39,7 +39,7 @@ same-length-3 c = search rules
 
 returns : tie.Need-returns
 returns c =
-    let g = c.before.before.before.before.before in let l = g.before.before.before.before.before.before.before.before.before in
+    let g = c.before.before.before.before.before in let l = g.before.before.before.before.before.before.before.before in
     (ran g.go_on-e.ensures (begun-run l.lay.ensures) c.word_of.ensures, l.lay.ensures.kinds_are)
 
 pub tested_spec : {M : Type 1} → statement M
