@@ -14,7 +14,6 @@ use borrow.Author.Tests.{leb-true, le-leb, lt-leb}
 use Rattle.model.specs.Lists.{all, concat_map, All}
 use Rattle.model.proofs.Lists.{map_get}
 use Rattle.model.proofs.Count.{and-true}
-use Rattle.model.specs.Sets as S
 use Rattle.model.specs.Sets.{Division, Constraint, BasicSet}
 use Rattle.model.specs.Values.{division_of, constraint_of, basic_set_of}
 use Rattle.model.specs.declared.Division.{Division as StoredDivision}
@@ -24,7 +23,7 @@ use Rattle.codec.specs.Valid.{ValidDivision, ValidConstraint, Valid}
 use Rattle.integers.specs.Mach.{clash}
 use Rattle.algebra.specs.Tighten.{void, tight}
 use Rattle.algebra.proofs.Tightened.{tight-solvable}
-use Rattle.algebra.specs.Cut.{above, below, join, cut_by, joined_divisions, moved_constraints, move_constraint, keeps, cut_tight, cut, cut_tight_fits, candidates_fit}
+use Rattle.algebra.specs.Cut.{above, below, cut_by, joined_divisions, moved_constraints, move_constraint, keeps, cut_tight, cut, cut_tight_fits, candidates_fit}
 use Rattle.cutting.specs.declared.pieces.CutSteps.{CutSteps}
 use Rattle.joining.specs.declared.divisions.Joined.{Joined}
 use Rattle.candidates.specs.declared.survivors.Survivors.{Survivors}

@@ -2,16 +2,13 @@ use mathlib.Core.Path.{◌≡◌}
 use mathlib.Core.Bool.{true}
 use Prim.Native.Nat.{◌+◌, ◌-◌, ◌≤◌}
 use native.Mathlib.Omega.{arith}
+use borrow.Author.Rules.{rules}
 use borrow.Author.Tests.{not-true, not-false}
-use lib.ListN.{length, take, length-map}
+use lib.ListN.{length, take}
 use Rattle.model.specs.Values.{basic_set_of}
 use Rattle.cutting.proofs.Turns.{moved_to, Gathered, both-unjoined, placed-is, gathered-start, gathered-more, both-over, both_end}
 use Rattle.cutting.proofs.pieces.both.Statement.{statement}
 use Rattle.cutting.proofs.pieces.both.Tie as tie
-use Rattle.cutting.proofs.pieces.both.Reads as reads
-use Rattle.cutting.proofs.pieces.both.Lts as lts
-use Rattle.joining.proofs.join.Reads as join-reads
-use Rattle.joining.proofs.moved.Reads as moved-reads
 
 abbrev invariant-loop : tie.invariant-loop-k
 invariant-loop c n m j fits cons more places set₀ k₀ set k =

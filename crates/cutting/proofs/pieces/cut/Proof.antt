@@ -1,9 +1,9 @@
+use Rattle.cutting.proofs.pieces.cut.Lts.{then-far, else-far}
 use mathlib.Core.Path.{◌≡◌, refl, sym, ap, ◌∙◌, subst}
-use mathlib.Core.Logic.{⊎_elim}
 use mathlib.Core.Bool.{Bool, true, ◌&&◌, cond}
 use Prim.Native.Nat.{◌+◌, ◌-◌, ◌*◌, ◌≤◌, ◌<◌}
 use native.Mathlib.Omega.{arith}
-use lib.ListN.{length, length-set, length-map}
+use lib.ListN.{length, length-set}
 use Rattle.model.specs.Values.{constraint_of, basic_set_of}
 use Rattle.algebra.specs.Tighten.{void}
 use borrow.Author.Tests.{not-true, not-false}
@@ -16,20 +16,6 @@ use Rattle.cutting.proofs.Following.{stepped, lengthened, turned, behind-followe
 use borrow.Author.Rules.{rules}
 use Rattle.cutting.proofs.pieces.cut.Statement.{statement}
 use Rattle.cutting.proofs.pieces.cut.Tie as tie
-use Rattle.cutting.proofs.pieces.cut.Reads as reads
-use Rattle.cutting.proofs.pieces.passed.Reads as Passed-reads
-use Rattle.cutting.proofs.pieces.cut.Lts as lts
-use Rattle.candidates.proofs.follow.Reads as follow-reads
-use Rattle.candidates.proofs.kept.Reads as kept-reads
-use Rattle.candidates.proofs.kept_alone.Reads as kept-alone-reads
-use Rattle.candidates.proofs.start.Reads as start-reads
-use Rattle.joining.proofs.join.Reads as join-reads
-use Rattle.joining.proofs.joining_rule.Reads as joining-rule-reads
-use Rattle.cutting.proofs.pieces.begin.Reads as begin-reads
-use Rattle.cutting.proofs.pieces.either.Reads as either-reads
-use Rattle.cutting.proofs.pieces.mark.Reads as mark-reads
-use Rattle.cutting.proofs.pieces.one.Reads as one-reads
-use Rattle.cutting.proofs.pieces.told.Reads as told-reads
 
 abbrev invariant-loop : tie.invariant-loop-k
 invariant-loop rows₀ place₀ kinds₀ past₀ spare₀ c n m places fits w₀ steps₀ count₀ cols₀ h₀ cons k₀ rows place kinds past spare w steps count cols h k =
@@ -49,10 +35,10 @@ joins c = c.before.before.before.before.before.before.before.before.before.befor
 abbrev in-turn : tie.After-joining_rule-r invariant-loop decreases-loop → tie.In-loop-k invariant-loop decreases-loop
 in-turn c = c.before.before.before
 
-abbrev ruled : tie.After-kept-arg5 invariant-loop decreases-loop → tie.After-joining_rule-r invariant-loop decreases-loop
-ruled c = c.before.before.before.before.before.before
+abbrev ruled : tie.After-kept-arg-1 invariant-loop decreases-loop → tie.After-joining_rule-r invariant-loop decreases-loop
+ruled c = c.before.before
 
-abbrev tried : tie.Joined-far invariant-loop decreases-loop → tie.After-kept-arg5 invariant-loop decreases-loop
+abbrev tried : tie.Joined-far invariant-loop decreases-loop → tie.After-kept-arg-1 invariant-loop decreases-loop
 tried c = c.before.before.before
 
 abbrev settled : tie.After-one invariant-loop decreases-loop → tie.Joined-far invariant-loop decreases-loop
@@ -90,7 +76,7 @@ turning : (c : tie.After-joining_rule-r invariant-loop decreases-loop) → Turni
 turning c = opened-turning (opened (joins (in-turn c).before)) (in-turn c).before.loop-k.invariant.0 (in-turn c).loop-k-test.true c.before.before.if-at-eq-CONSTRAINTS.false c.joining_rule-r.ensures
 
 -- its candidates, by the shared tests, or alone where one of those is wide
-spare-long : (c : tie.After-kept-arg5 invariant-loop decreases-loop) → length (in-turn (ruled c)).before.loop-k.spare ≡ 64
+spare-long : (c : tie.After-kept-arg-1 invariant-loop decreases-loop) → length (in-turn (ruled c)).before.loop-k.spare ≡ 64
 spare-long c = let l = (in-turn (ruled c)).before in l.loop-k.invariant.2 ∙ (entered (joins l)).requires.2.high
 
 judged : (c : tie.Joined-far invariant-loop decreases-loop) → Keeping (basic_set_of (in-turn (ruled (tried c))).before.loop-k.w) (constraint_of (ruled (tried c)).joining_rule-r.result) c.if-far.x
@@ -98,15 +84,18 @@ judged c =
     let t = ruled (tried c) in
     let w = (in-turn t).before.loop-k.w in
     let r = t.joining_rule-r.result in
-    ⊎_elim
-    (λ y. subst (Keeping (basic_set_of w) (constraint_of r)) (sym y.5) y.2.ensures)
-    (λ y. subst (Keeping (basic_set_of w) (constraint_of r)) (sym y.2) (c.before.before.kept-x.ensures.is (basic_set_of w) (caught-holds (caught (in-turn t))) y.0.left))
-    c.if-far.branch
+    elim c.if-far.branch [
+      | then-far y ↦ subst (Keeping (basic_set_of w) (constraint_of r)) (sym y.x-is) y.kept_alone-x.ensures
+      | else-far y ↦ subst (Keeping (basic_set_of w) (constraint_of r)) (sym y.x-is) (c.before.before.kept-x.ensures.is (basic_set_of w) (caught-holds (caught (in-turn t))) y.if-far.false)
+    ]
 
 spare-kept : (c : tie.Joined-far invariant-loop decreases-loop) → length c.if-far.spare ≡ length (in-turn (ruled (tried c))).before.loop-k.spare
 spare-kept c =
     let k = c.before.before.kept-x.auto.spare in
-    ⊎_elim (λ y. ap length y.4 ∙ y.2.kept.1.1.0 ∙ k) (λ y. ap length y.1 ∙ k) c.if-far.branch
+    elim c.if-far.branch [
+      | then-far y ↦ ap length y.spare-is ∙ y.kept_alone-x.auto.spare ∙ k
+      | else-far y ↦ ap length y.spare-is ∙ k
+    ]
 
 -- once it has joined, or has not
 turn : (c : tie.After-one invariant-loop decreases-loop) → Turned (stepped (in-turn (ruled (tried (settled c)))).before.loop-k.w (in-turn (ruled (tried (settled c)))).before.loop-k.steps (in-turn (ruled (tried (settled c)))).before.loop-k.count) (ruled (tried (settled c))).joining_rule-r.result (settled c).if-far.x (stepped (lengthened (in-turn (ruled (tried (settled c)))).before.loop-k.w (ruled (tried (settled c))).joining_rule-r.result c.one.result) c.before.before.before.mark-count.new.steps c.before.before.before.mark-count.result)
@@ -192,7 +181,7 @@ joining-rule-requires : tie.Need-joining_rule-r-requires invariant-loop decrease
 joining-rule-requires c κs = let j = joins c.before.before.before in ((entered j).requires.0.divs', opened-placed (opened j))
 
 slice-aggregate-kept : tie.Need-slice_bounds-kept-end invariant-loop decreases-loop
-slice-aggregate-kept c = sym (in-turn c.before.before.before.before.before).before.loop-k.invariant.1.stands.many'
+slice-aggregate-kept c = sym (in-turn c.before).before.loop-k.invariant.1.stands.many'
 
 kept-requires : tie.Need-kept-x-requires invariant-loop decreases-loop
 kept-requires c κs =

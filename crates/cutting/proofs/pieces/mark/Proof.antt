@@ -6,10 +6,6 @@ use Rattle.cutting.proofs.Steps.{bit-small, steps-stored}
 use borrow.Author.Rules.{rules}
 use Rattle.cutting.proofs.pieces.mark.Statement.{statement}
 use Rattle.cutting.proofs.pieces.mark.Tie as tie
-use Rattle.cutting.proofs.pieces.mark.Reads as reads
-use Rattle.cutting.proofs.pieces.mark.Lts as lts
-use Rattle.cutting.proofs.pieces.one.Reads as one-reads
-use Rattle.cutting.proofs.pieces.step.Reads as step-reads
 
 one-requires : tie.Need-one-requires
 one-requires c κs = search rules

@@ -7,9 +7,6 @@ use Rattle.model.specs.Values.{constraint_of}
 use Rattle.algebra.specs.Tighten.{void}
 use Rattle.cutting.proofs.pieces.passed.Statement.{statement}
 use Rattle.cutting.proofs.pieces.passed.Tie as tie
-use Rattle.cutting.proofs.pieces.passed.Reads as reads
-use Rattle.cutting.proofs.pieces.passed.Lts as lts
-use Rattle.joining.proofs.void.Reads as void-reads
 
 add-next : tie.Need-overflow_add-next
 add-next c = search rules

@@ -18,11 +18,6 @@ use Rattle.candidates.proofs.Catching.{below_of, above_of}
 use borrow.Author.Rules.{rules}
 use Rattle.cutting.proofs.pieces.piece.Statement.{statement}
 use Rattle.cutting.proofs.pieces.piece.Tie as tie
-use Rattle.cutting.proofs.pieces.piece.Reads as reads
-use Rattle.cutting.proofs.pieces.piece.Lts as lts
-use Rattle.joining.proofs.tight_above.Reads as tight-above-reads
-use Rattle.joining.proofs.tight_below.Reads as tight-below-reads
-use Rattle.candidates.proofs.put.Reads as put_reads
 
 -- the working constraint of a step, as it is read
 read_is : (cs : List Stored) (cons at : ℕ) → at < cons → get_or (map constraint_of (take cons cs)) at no_rule ≡ constraint_of (get_or cs at no_constraint)
