@@ -1,4 +1,3 @@
-use Prim.Native.Nat.{◌-◌}
 use native.Mathlib.Omega.{arith}
 use Rattle.listing.proofs.Writing.{writes_more, writes-same}
 use Rattle.codec.specs.Bytes.{kind_of}
@@ -22,9 +21,6 @@ coefficients-requires c κs = search rules
 coefficients-requires-2 : tie.Need-coefficients-at-requires-2
 coefficients-requires-2 c κs = search rules
 
-slice-aggregate-word : tie.Need-slice-aggregate-word
-slice-aggregate-word c = search rules
-
 word-requires : tie.Need-word-requires
 word-requires c κs = search rules
 
@@ -37,9 +33,9 @@ returns c =
     let at-number = at-coefficients.before.before.before.before in let at-u32-at = at-number.before in let at-kind-word = at-u32-at.before.before.before.before in
     let st = at-kind-word.before.before.before.before in
     writes-same (omega arith)
-    (constraint-text st.args.n st.args.k at-u32-at.u32-at.result (kind_of st.args.b) st.args.t.now st.requires.1 st.requires.2 at-u32-at.u32-at.ensures.0)
-    (writes_more at-kind-word.kind-word.ensures
-    (writes_more (writes_more at-number.number.ensures (writes_more at-coefficients.coefficients.ensures at-coefficients2.coefficients2.ensures)) c.before.before.word.ensures))
+    (constraint-text st.args.n st.args.k at-u32-at.u32_at.result (kind_of st.args.b) st.args.t.now st.requires.1 st.requires.2 at-u32-at.u32_at.ensures.0)
+    (writes_more at-kind-word.kind_word-at.ensures
+    (writes_more (writes_more at-number.number-at.ensures (writes_more at-coefficients.coefficients-at.ensures at-coefficients2.coefficients-at-2.ensures)) c.before.before.word.ensures))
 
 pub constraint_line_spec : {M : Type 1} → statement M
 constraint_line_spec =
@@ -50,7 +46,6 @@ constraint_line_spec =
     number-requires
     coefficients-requires
     coefficients-requires-2
-    slice-aggregate-word
     word-requires
     same_length
     returns)

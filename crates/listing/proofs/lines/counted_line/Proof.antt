@@ -1,5 +1,4 @@
 use mathlib.Core.Path.{refl}
-use Prim.Native.Nat.{◌-◌}
 use native.Mathlib.Omega.{arith}
 use Rattle.listing.proofs.Writing.{writes_more, writes-same}
 use borrow.Author.Rules.{rules}
@@ -12,9 +11,6 @@ word-requires c κs = search rules
 natural-requires : tie.Need-natural-at-requires
 natural-requires c κs = search rules
 
-slice-aggregate-word : tie.Need-slice-aggregate-word
-slice-aggregate-word c = search rules
-
 word-requires-2 : tie.Need-word-requires
 word-requires-2 c κs = search rules
 
@@ -24,7 +20,7 @@ same_length c = search rules
 returns : tie.Need-returns
 returns c =
     let at-natural = c.before.before.before.before.before.before.before in let at-word = at-natural.before.before.before.before in
-    writes-same (omega arith) refl (writes_more at-word.word.ensures (writes_more at-natural.natural.ensures c.before.before.word.ensures))
+    writes-same (omega arith) refl (writes_more at-word.word-at.ensures (writes_more at-natural.natural-at.ensures c.before.before.word.ensures))
 
 pub counted_line_spec : {M : Type 1} → statement M
 counted_line_spec =
@@ -32,7 +28,6 @@ counted_line_spec =
     (tie.spec
     word-requires
     natural-requires
-    slice-aggregate-word
     word-requires-2
     same_length
     returns)

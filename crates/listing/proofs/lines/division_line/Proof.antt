@@ -1,13 +1,9 @@
-use Prim.Native.Nat.{◌-◌}
 use native.Mathlib.Omega.{arith}
 use Rattle.listing.proofs.Writing.{writes_more, writes-same}
 use Rattle.listing.proofs.LineTexts.{division-text}
 use borrow.Author.Rules.{rules}
 use Rattle.listing.proofs.lines.division_line.Statement.{statement}
 use Rattle.listing.proofs.lines.division_line.Tie as tie
-
-slice-aggregate-word : tie.Need-slice-aggregate-word
-slice-aggregate-word c = search rules
 
 word-requires : tie.Need-word-at-requires
 word-requires c κs = search rules
@@ -24,9 +20,6 @@ number-requires c κs = search rules
 coefficients-requires : tie.Need-coefficients-at-requires
 coefficients-requires c κs = search rules
 
-slice-aggregate-word-2 : tie.Need-slice-aggregate-word-2
-slice-aggregate-word-2 c = search rules
-
 word-requires-2 : tie.Need-word-requires
 word-requires-2 c κs = search rules
 
@@ -39,21 +32,19 @@ returns c =
     let at-natural = at-u32-at.before.before.before.before in let at-word = at-natural.before.before.before.before in
     let st = at-word.before.before.before.before.before in
     writes-same (omega arith)
-    (division-text st.args.n st.args.d at-u32-at.u32-at.result st.args.t.now st.requires.1 at-u32-at.u32-at.ensures.0)
-    (writes_more at-word.word.ensures
-    (writes_more (writes_more at-natural.natural.ensures (writes_more at-number.number.ensures at-coefficients.coefficients.ensures)) c.before.before.word.ensures))
+    (division-text st.args.n st.args.d at-u32-at.u32_at.result st.args.t.now st.requires.1 at-u32-at.u32_at.ensures.0)
+    (writes_more at-word.word-at.ensures
+    (writes_more (writes_more at-natural.natural-at.ensures (writes_more at-number.number-at.ensures at-coefficients.coefficients-at.ensures)) c.before.before.word.ensures))
 
 pub division_line_spec : {M : Type 1} → statement M
 division_line_spec =
     tie.close
     (tie.spec
-    slice-aggregate-word
     word-requires
     natural-requires
     u32-at-requires
     number-requires
     coefficients-requires
-    slice-aggregate-word-2
     word-requires-2
     same_length
     returns)

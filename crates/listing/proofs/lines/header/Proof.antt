@@ -1,6 +1,6 @@
 use mathlib.Core.Path.{ap}
 use mathlib.Core.List.{List, ◌++◌}
-use Prim.Native.Nat.{ℕ, ◌+◌, ◌-◌}
+use Prim.Native.Nat.{ℕ}
 use native.Mathlib.Omega.{arith}
 use Rattle.listing.proofs.Writing.{writes_more, writes-same}
 use Rattle.listing.specs.Text.{codes, number}
@@ -10,26 +10,17 @@ use borrow.Author.Rules.{rules}
 use Rattle.listing.proofs.lines.header.Statement.{statement}
 use Rattle.listing.proofs.lines.header.Tie as tie
 
-slice-aggregate-word : tie.Need-slice-aggregate-word
-slice-aggregate-word c = search rules
-
 word-requires : tie.Need-word-at-requires
 word-requires c κs = search rules
 
 natural-requires : tie.Need-natural-at-requires
 natural-requires c κs = search rules
 
-slice-aggregate-word-2 : tie.Need-slice-aggregate-word-2
-slice-aggregate-word-2 c = search rules
-
 word-requires-2 : tie.Need-word-at-requires-2
 word-requires-2 c κs = search rules
 
 natural-requires-2 : tie.Need-natural-at-requires-2
 natural-requires-2 c κs = search rules
-
-slice-aggregate-word-3 : tie.Need-slice-aggregate-word-3
-slice-aggregate-word-3 c = search rules
 
 word-requires-3 : tie.Need-word-requires
 word-requires-3 c κs = search rules
@@ -42,20 +33,17 @@ returns c =
     let at-natural2 = c.before.before.before.before.before.before.before in let at-word2 = at-natural2.before.before.before.before in
     let at-natural = at-word2.before.before.before.before.before in let at-word = at-natural.before.before.before.before in let st = at-word.before.before.before.before in
     writes-same (omega arith) (ap (λ (x : List ℕ). codes "set" ++ (number (pos st.args.m) ++ x)) (one_number (codes " has") st.args.count))
-    (writes_more at-word.word.ensures
-    (writes_more at-natural.natural.ensures (writes_more at-word2.word2.ensures (writes_more at-natural2.natural2.ensures c.before.before.word.ensures))))
+    (writes_more at-word.word-at.ensures
+    (writes_more at-natural.natural-at.ensures (writes_more at-word2.word-at-2.ensures (writes_more at-natural2.natural-at-2.ensures c.before.before.word.ensures))))
 
 pub header_spec : {M : Type 1} → statement M
 header_spec =
     tie.close
     (tie.spec
-    slice-aggregate-word
     word-requires
     natural-requires
-    slice-aggregate-word-2
     word-requires-2
     natural-requires-2
-    slice-aggregate-word-3
     word-requires-3
     same_length
     returns)

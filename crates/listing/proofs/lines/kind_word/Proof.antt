@@ -1,5 +1,4 @@
 use mathlib.Core.Path.{ap, sym, ◌∙◌}
-use Prim.Native.Nat.{◌-◌}
 use native.Mathlib.Omega.{arith}
 use Rattle.listing.proofs.Writing.{writes-same}
 use mathlib.Core.Bool.{Bool, cond}
@@ -12,9 +11,6 @@ use Rattle.listing.proofs.lines.kind_word.Tie as tie
 is-equality-requires : tie.Need-is_equality-requires
 is-equality-requires c κs = search rules
 
-slice-aggregate-word : tie.Need-slice-aggregate-word
-slice-aggregate-word c = search rules
-
 word-requires : tie.Need-word-requires
 word-requires c κs = search rules
 
@@ -24,10 +20,7 @@ same_length c = search rules
 returns : tie.Need-returns-then-is_equality
 returns c =
     let at-if1 = c.before.before.before.before.before in
-    writes-same (omega arith) (ap (λ (x : Bool). codes (word (cond x equality inequality))) (sym at-if1.if1.true ∙ at-if1.before.is-equality.ensures)) c.before.before.word.ensures
-
-slice-aggregate-word-2 : tie.Need-slice-aggregate-word-2
-slice-aggregate-word-2 c = search rules
+    writes-same (omega arith) (ap (λ (x : Bool). codes (word (cond x equality inequality))) (sym at-if1.if-is_equality.true ∙ at-if1.before.is_equality.ensures)) c.before.before.word.ensures
 
 word-requires-2 : tie.Need-word-requires-2
 word-requires-2 c κs = search rules
@@ -38,18 +31,16 @@ same-length-2 c = search rules
 returns-2 : tie.Need-returns
 returns-2 c =
     let at-if1 = c.before.before.before.before.before in
-    writes-same (omega arith) (ap (λ (x : Bool). codes (word (cond x equality inequality))) (sym at-if1.if1.false ∙ at-if1.before.is-equality.ensures)) c.before.before.word-2.ensures
+    writes-same (omega arith) (ap (λ (x : Bool). codes (word (cond x equality inequality))) (sym at-if1.if-is_equality.false ∙ at-if1.before.is_equality.ensures)) c.before.before.word-2.ensures
 
 pub kind_word_spec : {M : Type 1} → statement M
 kind_word_spec =
     tie.close
     (tie.spec
     is-equality-requires
-    slice-aggregate-word
     word-requires
     same_length
     returns
-    slice-aggregate-word-2
     word-requires-2
     same-length-2
     returns-2)

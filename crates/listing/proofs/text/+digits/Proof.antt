@@ -44,7 +44,7 @@ digits-same-length t c = simp length-set
 
 digits-returns :
     (t : ℕ) → digits-lts.Need-returns-then-n-lt10 (digits-below t, digits.Post) (digits-at t) digits.Post
-digits-returns t c = writes-same (omega arith) (sym (digits-small c.before.before.args.n c.if1.true)) (writes_one c.before.before.args.out.now c.before.before.args.at (48 + c.before.before.args.n) (omega arith))
+digits-returns t c = writes-same (omega arith) (sym (digits-small c.before.before.args.n c.if-n-lt10.true)) (writes_one c.before.before.args.out.now c.before.before.args.at (48 + c.before.before.args.n) (omega arith))
 
 digits-digits-requires :
     (t : ℕ) →
@@ -63,30 +63,30 @@ digits-slice-write-out-2 : (t : ℕ) → digits-lts.Need-bounds-out-k (
   digits-below t,
   digits.Post,
 ) (digits-at t) digits.Post
-digits-slice-write-out-2 t c = omega (arith, digits-room c.before.before.before.before.before.before.args.n c.before.before.before.before.before.before.ranges.n.fits, c.before.before.digits.ensures.wrote.end_is, c.before.before.digits.auto.0)
+digits-slice-write-out-2 t c = omega (arith, digits-room c.before.before.before.before.before.before.args.n c.before.before.before.before.before.before.ranges.n.fits, c.before.before.digits-k.ensures.wrote.end_is, c.before.before.digits-k.auto.out)
 
 digits-add-result-2 :
     (t : ℕ) → digits-lts.Need-overflow_add-result-2 (digits-below t, digits.Post) (digits-at t) digits.Post
-digits-add-result-2 t c = omega (arith, digits-room c.before.before.before.before.before.before.args.n c.before.before.before.before.before.before.ranges.n.fits, c.before.before.digits.ensures.wrote.end_is, c.before.before.digits.auto.0)
+digits-add-result-2 t c = omega (arith, digits-room c.before.before.before.before.before.before.args.n c.before.before.before.before.before.before.ranges.n.fits, c.before.before.digits-k.ensures.wrote.end_is, c.before.before.digits-k.auto.out)
 
 digits-same-length-2 :
     (t : ℕ) →
     digits-lts.Need-shape_of-out (digits-below t, digits.Post) (digits-at t) digits.Post
-digits-same-length-2 t c = length-set c.before.before.digits.new.0 c.before.before.digits.result (48 + c.before.before.before.before.before.before.args.n % 10) ∙ c.before.before.digits.auto.0
+digits-same-length-2 t c = length-set c.before.before.digits-k.new.out c.before.before.digits-k.result (48 + c.before.before.before.before.before.before.args.n % 10) ∙ c.before.before.digits-k.auto.out
 
 digits-returns-2 :
     (t : ℕ) → digits-lts.Need-returns (digits-below t, digits.Post) (digits-at t) digits.Post
 digits-returns-2 t c =
-    let st = c.before.before.before.before.before.before in let d = c.before.before.digits in
-    let r = digits-room c.before.before.before.before.before.before.args.n c.before.before.before.before.before.before.ranges.n.fits in let e = d.ensures.wrote.end_is in let k = d.auto.0 in
-    let one = writes_one d.new.0 d.result (48 + st.args.n % 10) (omega arith) in
+    let st = c.before.before.before.before.before.before in let d = c.before.before.digits-k in
+    let r = digits-room c.before.before.before.before.before.before.args.n c.before.before.before.before.before.before.ranges.n.fits in let e = d.ensures.wrote.end_is in let k = d.auto.out in
+    let one = writes_one d.new.out d.result (48 + st.args.n % 10) (omega arith) in
     record {
       short = omega arith;
       wrote = rw (digits-next st.args.n (omega arith) st.ranges.n.fits) (wrote-more d.ensures.wrote one.wrote);
     }
 
-pub +digits-spec : {M : Type 1} → statement M
-+digits-spec =
+pub +digits_spec : {M : Type 1} → statement M
++digits_spec =
     close
     μ-digits
     λ t. digits-lts.spec

@@ -32,8 +32,8 @@ u16-at-requires c κs = search rules
 number-requires : tie.Need-number-k-requires invariant-loop decreases-loop
 number-requires c κs =
     let in-loop = c.before.before.before in
-    let l = wrote-length in-loop.loop.invariant.1.wrote in
-    let s = in-loop.loop.invariant.1.short in
+    let l = wrote-length in-loop.loop-i.invariant.1.wrote in
+    let s = in-loop.loop-i.invariant.1.short in
     let e = c.u16_at.ensures.1 in
     (omega arith, omega arith, omega arith)
 
@@ -47,10 +47,10 @@ loop-again : tie.Need-loop-i-preserved invariant-loop decreases-loop
 loop-again c =
     let at-number = c.before.before in let at-u16-at = at-number.before in let in-loop = at-u16-at.before.before.before in let at-p9 = in-loop.before.before.before in
     let st = at-p9 in
-    let l = in-loop.loop in (
+    let l = in-loop.loop-i in (
       omega arith,
-      numbers_more st.args.t.now st.args.out.now l.out at-number.number.new.0 st.args.p l.i at-u16-at.u16-at.result st.args.at l.k
-          at-number.number.result at-u16-at.u16-at.ensures.0 l.invariant.1 at-number.number.ensures,
+      numbers_more st.args.t.now st.args.out.now l.out at-number.number-k.new.out st.args.p l.i at-u16-at.u16_at.result st.args.at l.k
+          at-number.number-k.result at-u16-at.u16_at.ensures.0 l.invariant.1 at-number.number-k.ensures,
     )
 
 same_length : tie.Need-shape_of-out invariant-loop decreases-loop

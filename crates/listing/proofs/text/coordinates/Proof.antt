@@ -41,12 +41,12 @@ loop-again : tie.Need-loop-i-preserved invariant-loop decreases-loop
 loop-again c =
     let at-integer = c.before.before in let at-integer-arg2 = at-integer.before in let in-loop = at-integer-arg2.before.before.before in let at-p8 = in-loop.before.before in
     let st = at-p8 in
-    let l = in-loop.loop in
-    let z = to_z_of_z {w = w64} {z = get_or st.args.t3 l.i (pos 0)} (record { sfits = at-integer-arg2.integer-arg2.given }) in (
+    let l = in-loop.loop-i in
+    let z = to_z_of_z {w = w64} {z = get_or st.args.p l.i (pos 0)} (record { sfits = at-integer-arg2.integer-arg-in-loop-i-1.given }) in (
       omega arith,
       l.invariant.1,
-      integers-more st.args.t3 st.args.out.now l.out at-integer.integer.new.0 l.i st.args.at l.k at-integer.integer.result _ (omega arith) z
-          l.invariant.2 at-integer.integer.ensures,
+      integers-more st.args.p st.args.out.now l.out at-integer.integer-k.new.out l.i st.args.at l.k at-integer.integer-k.result _ (omega arith) z
+          l.invariant.2 at-integer.integer-k.ensures,
     )
 
 same_length : tie.Need-shape_of-out invariant-loop decreases-loop

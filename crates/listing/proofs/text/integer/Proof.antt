@@ -2,7 +2,6 @@ use mir.Syntax.{w64}
 use Rattle.integers.specs.Mach.{to_z_of_z, b-of, b-lit, is_lt, is_ge}
 use lib.IntN.{nat_abs}
 use mathlib.Core.Path.{refl, ap, ◌∙◌}
-use Prim.Native.Nat.{◌-◌}
 use native.Mathlib.Omega.{arith}
 use Rattle.listing.proofs.Writing.{writes_more, writes-same, integer-below, integer-from}
 use borrow.Author.Rules.{rules}
@@ -11,9 +10,6 @@ use Rattle.listing.proofs.text.integer.Tie as tie
 
 magnitude-requires : tie.Need-magnitude-m-requires
 magnitude-requires c κs = search rules
-
-slice-aggregate-word : tie.Need-slice-aggregate-word
-slice-aggregate-word c = search rules
 
 word-requires : tie.Need-word-k-requires
 word-requires c κs = search rules
@@ -30,8 +26,8 @@ returns c =
     let m = at-p10 in
     let st = m.before.before in
     writes-same (omega arith)
-    (integer-below st.args.z m.magnitude.result (m.magnitude.ensures ∙ ap nat_abs (to_z_of_z st.ranges.z)) (is_lt (b-of st.ranges.z) (b-lit w64 0 refl) at-if1.if1.true))
-    (writes_more at-word.word.ensures c.before.before.digits.ensures)
+    (integer-below st.args.z m.magnitude-m.result (m.magnitude-m.ensures ∙ ap nat_abs (to_z_of_z st.ranges.z)) (is_lt (b-of st.ranges.z) (b-lit w64 0 refl) at-if1.if-z-lt0.true))
+    (writes_more at-word.word-k.ensures c.before.before.digits.ensures)
 
 natural-requires : tie.Need-natural-requires
 natural-requires c κs = search rules
@@ -45,7 +41,7 @@ returns-2 c =
     let m = at-p5 in
     let st = m.before.before in
     writes-same (omega arith)
-    (integer-from st.args.z m.magnitude.result (m.magnitude.ensures ∙ ap nat_abs (to_z_of_z st.ranges.z)) (is_ge (b-of st.ranges.z) (b-lit w64 0 refl) at-if1.if1.false))
+    (integer-from st.args.z m.magnitude-m.result (m.magnitude-m.ensures ∙ ap nat_abs (to_z_of_z st.ranges.z)) (is_ge (b-of st.ranges.z) (b-lit w64 0 refl) at-if1.if-z-lt0.false))
     c.before.before.natural.ensures
 
 pub integer_spec : {M : Type 1} → statement M
@@ -53,7 +49,6 @@ integer_spec =
     tie.close
     (tie.spec
     magnitude-requires
-    slice-aggregate-word
     word-requires
     digits-requires
     same_length

@@ -1,11 +1,7 @@
-use Prim.Native.Nat.{◌-◌}
 use Rattle.listing.proofs.Writing.{writes_more}
 use borrow.Author.Rules.{rules}
 use Rattle.listing.proofs.text.natural.Statement.{statement}
 use Rattle.listing.proofs.text.natural.Tie as tie
-
-slice-aggregate-word : tie.Need-slice-aggregate-word
-slice-aggregate-word c = search rules
 
 word-requires : tie.Need-word-k-requires
 word-requires c κs = search rules
@@ -21,4 +17,4 @@ returns c = writes_more c.before.before.before.before.before.before.word-k.ensur
 
 pub natural_spec : {M : Type 1} → statement M
 natural_spec =
-    tie.close (tie.spec slice-aggregate-word word-requires digits-requires same_length returns)
+    tie.close (tie.spec word-requires digits-requires same_length returns)

@@ -1,4 +1,3 @@
-use Prim.Native.Nat.{◌-◌}
 use native.Mathlib.Omega.{arith}
 use Rattle.listing.proofs.Writing.{writes_more, writes-same, number-low, number-high}
 use borrow.Author.Rules.{rules}
@@ -17,10 +16,7 @@ same_length c = search rules
 returns : tie.Need-returns-then-v-size
 returns c =
     let at-if1 = c.before.before.before.before in let st = at-if1.before.before in
-    writes-same (omega arith) (number-low st.args.size st.args.v at-if1.if1.true) c.before.before.natural.ensures
-
-slice-aggregate-word : tie.Need-slice-aggregate-word
-slice-aggregate-word c = search rules
+    writes-same (omega arith) (number-low st.args.size st.args.v at-if1.if-v-size.true) c.before.before.natural.ensures
 
 word-requires : tie.Need-word-k-requires
 word-requires c κs = search rules
@@ -37,7 +33,7 @@ same-length-2 c = search rules
 returns-2 : tie.Need-returns
 returns-2 c =
     let at-word = c.before.before.before.before.before.before in let at-if1 = at-word.before.before.before in let st = at-if1.before.before in
-    writes-same (omega arith) (number-high st.args.size st.args.v at-if1.if1.false st.requires.1) (writes_more at-word.word.ensures c.before.before.digits.ensures)
+    writes-same (omega arith) (number-high st.args.size st.args.v at-if1.if-v-size.false st.requires.1) (writes_more at-word.word-k.ensures c.before.before.digits.ensures)
 
 pub number_spec : {M : Type 1} → statement M
 number_spec =
@@ -47,7 +43,6 @@ number_spec =
     natural-requires
     same_length
     returns
-    slice-aggregate-word
     word-requires
     sub-digits
     digits-requires

@@ -36,7 +36,7 @@ loop-less c = omega arith
 loop-again : tie.Need-loop-i-preserved invariant-loop decreases-loop
 loop-again c =
     let in-loop = c.before.before in let st = in-loop.before in
-    (omega arith, wrote-copied st.args.w.now st.args.out.now in-loop.loop.out st.args.at in-loop.loop.i (omega arith) (omega arith) in-loop.loop.invariant.1)
+    (omega arith, wrote-copied st.args.w.now st.args.out.now in-loop.loop-i.out st.args.at in-loop.loop-i.i (omega arith) (omega arith) in-loop.loop-i.invariant.1)
 
 add-result : tie.Need-overflow_add-result invariant-loop decreases-loop
 add-result c = omega arith
