@@ -26,7 +26,7 @@ use Rattle.states.proofs.Stepping.{mark-over, mark-done, back-over, back-never, 
 use Rattle.reaching.specs.Shows.{slot_of, used_of, word_for, rank_in, ShowsState, Shows}
 use Rattle.reaching.specs.Walks.{saying_of, told}
 use Rattle.reaching.proofs.Windows.{slot-copied, slot-other, copied-ranks, copied-fits, shows-used, slot-ranked, ranks-put, ranks-long}
-use Rattle.reaching.proofs.Ranks.{ranks, rank-none, none-rank, ranks-marked, ranks-through}
+use Rattle.reaching.proofs.Ranks.{rank-none, none-rank, ranks-marked, ranks-through}
 use Rattle.reaching.proofs.Good.{Good, head_at_lem, word-is}
 
 -- a desk of such states, each name marked once
