@@ -17,7 +17,6 @@ use Rattle.session.specs.Script as S
 use Rattle.session.specs.Script.{room, set_at, fitting, load_bytes}
 use Rattle.listing.specs.Written.{put}
 use Rattle.session.specs.Turns.{table_at, answer_of, Fitted}
-use Rattle.session.specs.declared.State.{State}
 
 -- ---- an assigned table
 

@@ -1,17 +1,16 @@
 -- A run as far as it has come: its memory is always fit for the next turn, and what it has printed is what the script
 -- prints for what it has read.
 use mathlib.Core.Path.{◌≡◌, refl, ap, sym, subst, ◌∙◌}
-use mathlib.Core.Bool.{Bool, true, false}
+use mathlib.Core.Bool.{Bool, true}
 use mathlib.Core.List.{List, [], ◌∷◌, ◌++◌, append_assoc, append-nil}
 use Prim.Native.Nat.{ℕ, suc, ◌≤◌}
 use lib.ListN.{length, drop}
 use Rattle.session.specs.Script.{script, run}
-use Rattle.session.specs.Turns.{Memory, Turned, state_in, state_at, quiet, turn_of, usable}
+use Rattle.session.specs.Turns.{Memory, Turned, state_in, state_at, turn_of, usable}
 use Rattle.session.specs.Session.{Reached, begins, goes, reads}
 use Rattle.session.specs.declared.State.{State}
 use Rattle.session.specs.declared.Listing.TheVariants.{Nothing}
-use Rattle.session.specs.declared.Next.TheVariants.{Reads, Ends, Misused}
-use Rattle.session.proofs.Commands.{no}
+use Rattle.session.specs.declared.Next.TheVariants.{Ends, Misused}
 use Rattle.session.proofs.Turning.{turn-next}
 use Rattle.session.proofs.Sessions.{Fine, rest, turned}
 use Rattle.session.proofs.Ending.{Kept, usable-kept, onward, fresh_kept}

@@ -2,7 +2,7 @@
 use mathlib.Core.Path.{◌≡◌, refl, ap, ap₂, sym, subst, ◌∙◌}
 use mathlib.Core.Bool.{Bool, true, false, not, ◌&&◌, ◌||◌, cond}
 use mathlib.Core.List.{List, [], ◌∷◌, ◌++◌, append_assoc, append-nil}
-use Prim.Native.Nat.{ℕ, zero, suc, ◌+◌, ◌-◌, ◌*◌, ◌≤◌, ◌<◌}
+use Prim.Native.Nat.{ℕ, zero, suc, ◌+◌, ◌*◌, ◌≤◌, ◌<◌}
 use native.Mathlib.Omega.{arith}
 use borrow.Author.Tests.{ltb-true, ltb-false, eqb-true, eqb-false}
 use lib.Dec.{leb, ltb, eqb}
@@ -21,7 +21,7 @@ use Rattle.listing.specs.Text as T
 use Rattle.session.specs.Script as S
 use Rattle.session.specs.Script.{room, set_at, set_numbers, load_bytes, command_width, ending, Done, refused_line, execute, run, script}
 use Rattle.listing.specs.Written.{put}
-use Rattle.session.specs.Turns.{Memory, memory, state_in, state_of, table_at, keeps, Effect, none, assigns, listed, is_assignment, answer_of, effect_of, performs, shown, listing_of, memory_of, goes_on, Turned, quiet, state_at, line_of, past, there, line_turn, command_turn, front_turn, front_of, turn_of, usable, header_line, start_of, Fitted}
+use Rattle.session.specs.Turns.{Memory, state_in, state_of, table_at, keeps, Effect, none, assigns, listed, is_assignment, answer_of, effect_of, performs, shown, listing_of, memory_of, goes_on, Turned, quiet, state_at, line_of, past, line_turn, command_turn, front_turn, front_of, turn_of, usable, header_line, start_of, Fitted}
 use Rattle.session.specs.Session.{Session, goes, reads, closes, ends}
 use Rattle.session.specs.declared.Front.TheVariants.{Whole, More, Stop}
 use Rattle.session.specs.declared.Cursor.{Cursor}
