@@ -15,7 +15,7 @@ use Rattle.model.specs.declared.BasicSet.{BasicSet}
 use Rattle.tableau.specs.Rows.{den, Line}
 use Rattle.wide_tableau.specs.Cells.{cells, rows_of, Becomes, Turns}
 use Rattle.simplex.specs.Table.{start_row, Valid, First}
-use Rattle.simplex.proofs.Filled.{row-whole, divisions-long, FirstTable, first-table, first_rows, first-shows, first-sorted, first_fine}
+use Rattle.simplex.proofs.Filled.{row-whole, divisions-long, FirstTable, first-table, first_rows_lem, first-shows, first-sorted, first_fine}
 use Rattle.optimum.specs.Value.{extreme_of}
 use Rattle.optimum.proofs.Carried.{carried-is}
 use Rattle.climbing.specs.Steps.{aim_of, halves, Posed, Begun}
@@ -36,7 +36,7 @@ module _ {b : BasicSet} {rows rows' : List (List ℤ)} {place place' kinds kinds
   filled = first-table v f (omega arith) (omega arith)
 
   pub filled-rows : length (take m rows') ≡ m
-  filled-rows = first_rows b (take m rows') place' kinds' filled
+  filled-rows = first_rows_lem b (take m rows') place' kinds' filled
 
   -- each with its 18 numbers
   pub filled-long : (k : ℕ) → k < length (take m rows') → length (get_or (take m rows') k []) ≡ 18

@@ -10,7 +10,6 @@ use lib.IntN.{ℤ, pos}
 use Rattle.integers.specs.Size.{bound}
 use Rattle.model.specs.Sets as S
 use Rattle.model.specs.Sets.{Kind, conditions}
-use Rattle.model.specs.declared.BasicSet.{BasicSet}
 use Rattle.feasibility.specs.Tableau.{Row, Tableau, sort_of, first_rows, from, pad, begin, sorts, reach, narrow}
 use Rattle.feasibility.proofs.Exchange.{Shaped}
 use Rattle.feasibility.proofs.Start.{length_from, start-shaped}

@@ -73,7 +73,7 @@ returns-4 c =
     let a = f.before in
     let s = start (sought a) in
     let d = r.before.decode_basic-b in
-    asked-own _ s.args.n s.args.set.now (expression_of s.args.e) (good (sought a)) s.args.k a.before.if-k-eq0.left a.start_of-at.result a.start_of-at.ensures f.if-set-at.left
+    asked-own _ s.args.n s.args.set.now (expression_of s.args.e) (good (sought a)) s.args.k a.before.if-k-eq0.false a.start_of-at.result a.start_of-at.ensures f.if-set-at.false
     d.result d.ensures r.refusal-own.result r.refusal-own.ensures c.if-own-ne0.true
 
 inequality-of-requires : tie.Need-inequality_of-c-requires
@@ -96,7 +96,7 @@ returns-5 c =
     let d = r.before.decode_basic-b in
     c.of_basic.ensures
     ∙ ap (λ e. gives (extreme_of (aim_of s.args.greatest) (basic_set_of d.result) e)) i.inequality_of-c.ensures
-    ∙ asked-value _ s.args.n s.args.set.now (expression_of s.args.e) (good (sought a)) s.args.k a.before.if-k-eq0.left a.start_of-at.result a.start_of-at.ensures f.if-set-at.left
+    ∙ asked-value _ s.args.n s.args.set.now (expression_of s.args.e) (good (sought a)) s.args.k a.before.if-k-eq0.false a.start_of-at.result a.start_of-at.ensures f.if-set-at.false
     d.result d.ensures (sym r.refusal-own.ensures ∙ l.if-own-ne0.false)
 
 pub extreme_spec : {M : Type 1} → statement M

@@ -1,6 +1,5 @@
 -- `extremes::value::both_halves` meets its contract. Assumes nothing.
 use mathlib.Core.Path.{ap, ◌∙◌}
-use native.Mathlib.Omega.{arith}
 use borrow.Author.Rules.{rules}
 use Rattle.codec.specs.Bytes.{gives}
 use Rattle.simplex.specs.declared.Verdict.TheVariants.{Dropped, Long, Wide}
@@ -16,8 +15,8 @@ abbrev reaching : tie.After-slice_known-2-1 → tie.After-reach-e
 reaching c = c.before.before.before
 
 -- where the second half is made
-abbrev climbing : tie.After-ended-arg → tie.After-climb-x
-climbing c = c.before.before.before.before
+abbrev climbing : tie.After-slice_known-in-Point-1 → tie.After-climb-x
+climbing c = c.before.before.before
 
 abbrev between : tie.After-climb-x → tie.In-Point
 between c = c.before.before.before.before
@@ -33,14 +32,14 @@ sub-climb c = search rules
 
 climb-requires : tie.Need-climb-x-requires
 climb-requires c κs =
-    let r = reaching c.before.before.before.before.before in
+    let r = reaching c.before.before.before.before in
     let e = r.reach-e.ensures in
     (e.rows_are.sheets, e.goal_is.sheet, reached-posed (start r).requires.2 e)
 
 ended-requires : tie.Need-ended-requires
 ended-requires c κs =
     let l = climbing c in
-    let r = reaching (between l).before.before in
+    let r = reaching (between l).before in
     let e = l.climb-x.ensures in
     (e.goal_is.sheet, climbed-over (start r).requires.2 r.reach-e.ensures _ e)
 
@@ -63,8 +62,8 @@ returns : tie.Need-returns-in-Point
 returns c =
     let l = climbing c.before in
     let t = between l in
-    let r = reaching t.before.before in
-    c.ended.ensures ∙ ap gives (halves-point (start r).requires.2 r.reach-e.ensures _ l.climb-x.ensures t.enum_told-1.given.1)
+    let r = reaching t.before in
+    c.ended.ensures ∙ ap gives (halves-point (start r).requires.2 r.reach-e.ensures _ l.climb-x.ensures t.in-Point.is)
 
 same-length-3 : tie.Need-shape_of-t-in-Dropped
 same-length-3 c = search rules
@@ -73,7 +72,7 @@ same-length-4 : tie.Need-shape_of-place-in-Dropped
 same-length-4 c = search rules
 
 returns-2 : tie.Need-returns-in-Dropped
-returns-2 c = let r = reaching c.before.before in ap gives (halves-after (start r).requires.2 r.reach-e.ensures _ Dropped c.enum_told-in-Dropped-1.given.1)
+returns-2 c = let r = reaching c.before in ap gives (halves-after (start r).requires.2 r.reach-e.ensures _ Dropped c.in-Dropped.is)
 
 same-length-5 : tie.Need-shape_of-t-in-Long
 same-length-5 c = search rules
@@ -82,7 +81,7 @@ same-length-6 : tie.Need-shape_of-place-in-Long
 same-length-6 c = search rules
 
 returns-3 : tie.Need-returns-in-Long
-returns-3 c = let r = reaching c.before.before in ap gives (halves-after (start r).requires.2 r.reach-e.ensures _ Long c.enum_told-in-Long-1.given.1)
+returns-3 c = let r = reaching c.before in ap gives (halves-after (start r).requires.2 r.reach-e.ensures _ Long c.in-Long.is)
 
 same-length-7 : tie.Need-shape_of-t-in-Wide
 same-length-7 c = search rules
@@ -91,7 +90,7 @@ same-length-8 : tie.Need-shape_of-place-in-Wide
 same-length-8 c = search rules
 
 returns-4 : tie.Need-returns-in-Wide
-returns-4 c = let r = reaching c.before.before in ap gives (halves-after (start r).requires.2 r.reach-e.ensures _ Wide c.enum_told-in-Wide-1.given.1)
+returns-4 c = let r = reaching c.before in ap gives (halves-after (start r).requires.2 r.reach-e.ensures _ Wide c.in-Wide.is)
 
 pub both_halves_spec : {M : Type 1} → statement M
 both_halves_spec =

@@ -25,17 +25,17 @@ enum-told-4 c = search rules
 
 returns : tie.Need-returns-in-Best
 returns c =
-    let s = c.before.before.before in
-    ap gives (c.fraction.ensures ∙ ap (λ (x : Outcome). outcome_of x (cells s.args.goal.now)) (sym c.before.enum_told-1.given.1))
+    let s = c.before.before in
+    ap gives (c.fraction.ensures ∙ ap (λ (x : Outcome). outcome_of x (cells s.args.goal.now)) (sym c.in-Best.is))
 
 returns-2 : tie.Need-returns-in-Endless
-returns-2 c = let s = c.before.before in ap (λ (x : Outcome). gives (outcome_of x (cells s.args.goal.now))) (sym c.enum_told-in-Endless-1.given.1)
+returns-2 c = let s = c.before in ap (λ (x : Outcome). gives (outcome_of x (cells s.args.goal.now))) (sym c.in-Endless.is)
 
 returns-3 : tie.Need-returns-in-Long
-returns-3 c = let s = c.before.before in ap (λ (x : Outcome). gives (outcome_of x (cells s.args.goal.now))) (sym c.enum_told-in-Long-1.given.1)
+returns-3 c = let s = c.before in ap (λ (x : Outcome). gives (outcome_of x (cells s.args.goal.now))) (sym c.in-Long.is)
 
 returns-4 : tie.Need-returns-in-Wide
-returns-4 c = let s = c.before.before in ap (λ (x : Outcome). gives (outcome_of x (cells s.args.goal.now))) (sym c.enum_told-in-Wide-1.given.1)
+returns-4 c = let s = c.before in ap (λ (x : Outcome). gives (outcome_of x (cells s.args.goal.now))) (sym c.in-Wide.is)
 
 pub ended_spec : {M : Type 1} → statement M
 ended_spec =

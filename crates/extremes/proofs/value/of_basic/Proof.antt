@@ -24,8 +24,8 @@ ready c = c.before.before.before.before
 
 begun : (c : tie.After-conditions) →
     let b = (start c).args.b in
-    let l = c.conditions.new.1 in
-    FirstTable b (rows_of (take (2 * b.divs + b.cons) l.0)) l.1.0 l.1.1.0
+    let l = c.conditions.new in
+    FirstTable b (rows_of (take (2 * b.divs + b.cons) l.t)) l.place l.kinds
 begun c = begun-table (start c).requires c.conditions.ensures
 
 mul-m : tie.Need-overflow_mul-m

@@ -44,7 +44,7 @@ returns-5 c = search rules
 
 returns-6 : tie.Need-returns-in-Value
 returns-6 c =
-    c.fraction_words.ensures ∙ sym (ap (λ (x : Extent). value_words (extent_is x)) c.before.before.x-1.given.1)
+    c.fraction_words.ensures ∙ sym (ap (λ (x : Extent). value_words (extent_is x)) c.in-Value.is)
 
 pub value_words_spec : {M : Type 1} → statement M
 value_words_spec =
