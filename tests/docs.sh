@@ -36,15 +36,14 @@ while read -r path; do
   if compgen -G "crates/$base*" >/dev/null || [ -e "$base" ]; then seen yes "$path"; else seen no "$path"; fi
 done < <(grep -hoE '\b[a-z_]+/(specs|proofs|src)/[A-Za-z_.]+|\b(docs|tests|tools|examples|include|bench)/[A-Za-z_./-]+' $documents | sort -u)
 
-# theorems and definitions: names in code marks that have a hyphen, or a capital inside
+# theorems and definitions: names in code marks that have a hyphen or a dash below, or begin with a capital
 while read -r name; do
   if grep -qxF -- "$name" "$names"; then seen yes "$name"; else seen no "$name"; fi
-done < <(grep -hoE '`[a-z][a-zA-Z]*(-[a-z0-9-]+|[A-Z][A-Za-z]*)`' docs/REVIEW.md docs/CONTRACTS.md | tr -d '`' | sort -u)
+done < <(grep -hoE '`([a-z][a-zA-Z0-9]*([-_][a-z0-9]+)+|[A-Z][A-Za-z]*)`' docs/REVIEW.md docs/CONTRACTS.md | tr -d '`' | sort -u)
 
-# edits that must fail: each has a row, and each row its edit, those on demand as such; those of crates without code are rt's
+# edits that must fail: each has a row, and each row its edit; those of must-fail/ are tried by `.ci/run`, those of tests/edits on demand
 for e in crates/*/must-fail/*.edit tests/edits/*/*.edit; do
-  name=$(sed -E 's#^(crates|tests/edits)/([a-z_]+)/(must-fail/)?([a-z_0-9]+)\.edit$#\2/\4#' <<<"$e")
-  if [ "$(head -n 1 "$e")" = '# on demand' ]; then echo "$name (on demand)"; else echo "$name"; fi
+  sed -E 's#^crates/([a-z_]+)/must-fail/([a-z_0-9]+)\.edit$#\1/\2#; s#^tests/edits/([a-z_]+)/([a-z_0-9]+)\.edit$#\1/\2 (on demand)#' <<<"$e"
 done | sort > "$names"
 while read -r row; do seen no "the row or the edit of $row"; done < <(
   grep -vE '^\| `[a-z]+::' docs/CONTRACTS.md | grep -oE '[a-z_]+/[a-z_0-9]+( \(on demand\))? \|$' | sed 's/ |$//' | sort | comm -3 - "$names" | sed 's/^\t//')
@@ -68,6 +67,6 @@ counted "home:" python3 tools/layout.py
 counted "crates.txt:" python3 tools/depends.py
 # no definition and no contract stands on a file of proofs/
 while read -r line; do seen no "a definition without proofs/: $line"; done < <(
-  grep -rnE '^(pub |ghost )*use Rattle·[a-z_]+(·proofs)?\.proofs' crates/*/specs crates/*/src)
+  grep -rnE '^(pub |ghost )*use Rattle\.[a-z_]+\.proofs' crates/*/specs crates/*/src | grep -v 'use Rattle\.std\.')
 echo "$passed passed, $failed failed"
 [ "$failed" -eq 0 ]

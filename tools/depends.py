@@ -5,13 +5,12 @@ import os
 import re
 import sys
 
-KIT = {"libc", "io", "os"}
-
 
 def listed():
     with open("crates.txt", encoding="utf8") as f:
         lines = [line.split("#")[0] for line in f]
-    return {name.strip(): set(rest.split()) for name, _, rest in (line.partition(":") for line in lines if ":" in line)}
+    # a static library has that word behind its name
+    return {name.split()[0]: set(rest.split()) for name, _, rest in (line.partition(":") for line in lines if ":" in line)}
 
 
 def named(crate, crates):
@@ -23,7 +22,7 @@ def named(crate, crates):
                 continue
             with open(os.path.join(folder, name), encoding="utf8") as f:
                 text = "\n".join(line for line in f if not re.match(r"\s*(//|--)", line))
-            found.update(re.findall(r"Rattle·(\w+)", text))
+            found.update(re.findall(r"\bRattle\.(\w+)", text))
             if name.endswith(".rt"):
                 found.update(re.findall(r"(?<![\w:])(\w+)::", text))
     return {name for name in found if name in crates} - {crate}
@@ -35,7 +34,7 @@ def main():
     for crate, has in crates.items():
         # a module of the crate's own may have a crate's name
         own = {name[:-3] for name in os.listdir(os.path.join("crates", crate, "src"))}
-        needs = {name for name in named(crate, crates.keys() | KIT) if name not in own or name in has}
+        needs = {name for name in named(crate, crates.keys()) if name not in own or name in has}
         passed += len(has & needs)
         for name in sorted(has ^ needs):
             failed += 1

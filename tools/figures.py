@@ -1,11 +1,10 @@
 #!/usr/bin/env python3
-"""The crates in figures, as a table for docs/ARCHITECTURE.md: run at the repository's root as `rt prove | tools/figures.py`.
+"""The crates in figures, as a table for docs/ARCHITECTURE.md: run at the repository's root.
 
-Lines that are neither empty nor comments: code, contracts (with ghost uses), definitions (specs/), laws and functions' proofs (proofs/); the
-seconds of each crate's check as rt prints them."""
+Lines that are neither empty nor comments: code, contracts (with ghost uses), definitions (specs/), laws and functions' proofs (proofs/); and
+edits that must fail, those of must-fail/ and those on demand (tests/edits)."""
 import os
 import re
-import sys
 
 
 def lines(path, mark):
@@ -22,9 +21,12 @@ def below(folder, end):
 
 def code_and_contracts(path):
     code = contracts = 0
+    clause = False
     for l in lines(path, "//"):
-        if l.startswith(("ghost", "requires", "ensures")):
+        # a clause goes on to the line that ends with its brace
+        if clause or re.match(r"ghost |requires |ensures |#!\[tactic", l):
             contracts += 1
+            clause = not l.endswith(("}", ";", "]"))
         else:
             code += 1
     return code, contracts
@@ -37,19 +39,19 @@ def row(crate):
     for p in below(os.path.join(at, "proofs"), ".antt"):
         proofs[p.endswith("Proof.antt")] += len(lines(p, "--"))
     specs = sum(len(lines(p, "--")) for p in below(os.path.join(at, "specs"), ".antt"))
-    edits = len(list(below(os.path.join(at, "must-fail"), ".edit")))
-    return [sum(c for c, _ in both), sum(c for _, c in both), specs, proofs[False], proofs[True], edits]
+    edits = [len(list(below(folder, ".edit"))) for folder in (os.path.join(at, "must-fail"), os.path.join("tests/edits", crate))]
+    return [sum(c for c, _ in both), sum(c for _, c in both), specs, proofs[False], proofs[True], *edits]
 
 
 def main():
-    seconds = dict(re.findall(r"^rt: (\w+) proved \((\d+) s\)", sys.stdin.read(), re.M)) if not sys.stdin.isatty() else {}
-    crates = [l.split(":")[0] for l in open("crates.txt", encoding="utf8") if ":" in l and not l.startswith("#")]
+    with open("crates.txt", encoding="utf8") as f:
+        crates = [line.split(":")[0].split()[0] for line in f if ":" in line and not line.startswith("#")]
     rows = {c: row(c) for c in crates}
-    print("| Crate | code | contracts | definitions | laws | functions' proofs | edits that must fail | check, s |")
+    print("| Crate | code | contracts | definitions | laws | functions' proofs | edits that must fail | on demand |")
     print("|---|---|---|---|---|---|---|---|")
     for c, r in rows.items():
-        print("| " + " | ".join([c, *map(str, r), seconds.get(c, "")]) + " |")
-    print("| " + " | ".join(["all", *(str(sum(x)) for x in zip(*rows.values())), ""]) + " |")
+        print("| " + " | ".join([c, *map(str, r)]) + " |")
+    print("| " + " | ".join(["all", *(str(sum(x)) for x in zip(*rows.values()))]) + " |")
 
 
 main()

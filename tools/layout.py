@@ -14,7 +14,7 @@ LAYOUT = {"0x11", "0x12", "0x13", "0x14", "0x16", "0x17", "17", "18", "19", "20"
 LIMITS = {"8", "15", "32", "48", "200", "8000", "32766", "32767", "1000000", "1048575", "1048576", "999999999", "1000000000"}
 LIMITS |= {"2097152", "274877906944", "343597383680", "549755813888"}
 # a refusal's number as a digit: where it is given back
-REFUSALS = re.compile(r"\b(?:refused|Refused|refusedLine|Stop)[ (](\d+)\b|\breturn ([2-9]|1[0-9]);")
+REFUSALS = re.compile(r"\b(?:refused|Refused|refused_line|Stop)[ (](\d+)\b|(?:\breturn |^ *)([2-9]|1[0-9])(?:;|$)")
 # a place inside a command: where a number is read from lent bytes
 PLACES = re.compile(r"\b(?:[siu](?:16|32)_at|dot_at|extreme|coefficients)\((?:\w+, )+?(\d+)\b")
 HOMES = {"crates/model/src/limit.rt", "crates/model/src/refusal.rt", "crates/model/specs/Limits.antt", "crates/model/specs/Refusals.antt"}
@@ -50,6 +50,8 @@ OTHER = {
     "crates/commands/": {"1", "2", "3", "8", "20", "32", "37"},
     "crates/script/src/fronts.rt": {"2", "3", "4"},
     "crates/session/": {"37"},
+    # what a decoded set is made of, with the documents' numbers as they are written there
+    "crates/codec/specs/Valid.antt": {"8", "48", "32767", "999999999", "1000000000"},
     # numbers of 2 bytes from a place on
     "crates/records/src/decoding.rt": {"8"},
 }
@@ -60,7 +62,7 @@ def excepted(path, number):
 
 
 def digits(line):
-    return re.findall(r"(?<![\w.·])(0x[0-9a-fA-F]+|\d+)(?![\w.])", line)
+    return re.findall(r"(?<![\w.])(0x[0-9a-fA-F]+|\d+)(?![\w.])", line.replace("_", ""))
 
 
 def places(path, code):
