@@ -1,12 +1,7 @@
 use borrow.Author.Rules.{rules}
-use Rattle.codec.specs.Places.{set_from}
 use Rattle.subtraction.proofs.Firsts.{first-level, divided-void, divided-cut, divided-tight}
 use Rattle.subtraction.proofs.levels.cut_divided.Statement.{statement}
 use Rattle.subtraction.proofs.levels.cut_divided.Tie as tie
-use Rattle.subtraction.proofs.levels.cut_divided.Reads as reads
-use Rattle.subtraction.proofs.levels.cut_divided.Lts as lts
-use Rattle.joining.proofs.tight_set.Reads as tight-set-reads
-use Rattle.subtraction.proofs.levels.cut_all.Reads as cut-all-reads
 
 -- where none of the rules is void: the start, and the same from the call of cut_all
 abbrev start : tie.Else-none → tie.Start

@@ -3,12 +3,6 @@ use borrow.Author.Rules.{rules}
 use Rattle.subtraction.proofs.Onward.{level-sound, level-last}
 use Rattle.subtraction.proofs.levels.cut_first.Statement.{statement}
 use Rattle.subtraction.proofs.levels.cut_first.Tie as tie
-use Rattle.subtraction.proofs.levels.cut_first.Reads as reads
-use Rattle.subtraction.proofs.levels.cut_first.Lts as lts
-use Rattle.joining.proofs.any_divisible.Reads as any-divisible-reads
-use Rattle.results.proofs.emit.Reads as emit-reads
-use Rattle.subtraction.proofs.levels.cut_all.Reads as cut-all-reads
-use Rattle.subtraction.proofs.levels.cut_divided.Reads as cut-divided-reads
 
 -- the start from where a cutter is left
 abbrev start : tie.Else-left-eq0 → tie.Start

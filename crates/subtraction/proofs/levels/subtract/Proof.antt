@@ -12,11 +12,6 @@ use Rattle.algebra.specs.Cut.{keeps, cut_all, cut_all_fits}
 use Rattle.subtraction.proofs.Along.{Along, along-start, along-end, along-opened, along-valid, along-stop, along-next, nothing-ready, Decodes, level-start, difference-made}
 use Rattle.subtraction.proofs.levels.subtract.Statement.{statement}
 use Rattle.subtraction.proofs.levels.subtract.Tie as tie
-use Rattle.subtraction.proofs.levels.subtract.Reads as reads
-use Rattle.subtraction.proofs.levels.subtract.Lts as lts
-use Rattle.records.proofs.decode_basic.Reads as decode-basic-reads
-use Rattle.codec.proofs.count.Reads as count-reads
-use Rattle.subtraction.proofs.levels.cut_first.Reads as cut-first-reads
 
 abbrev invariant-loop : tie.invariant-loop-pos
 invariant-loop a b out₀ left rows₀ place₀ kinds₀ past₀ spare₀ t₀ pos₀ out rows place kinds past spare t pos = Along (Decodes b) (cut_all keeps (set_from b 0)) (cut_all_fits keeps (set_from b 0)) a out₀ t₀ rows place kinds out t pos × Spares past spare
