@@ -14,7 +14,7 @@ use Rattle.codec.specs.Valid.{Valid}
 use Rattle.algebra.specs.Cut.{keeps, both, join_fits, joined_divisions, both_fits, intersection, intersection_fits}
 use Rattle.algebra.proofs.Closed.{both-valid}
 use Rattle.algebra.proofs.Levels.{concat-concat, all-concat-is}
-use Rattle.algebra.specs.Tighten.{divisible, tightened, solvable}
+use Rattle.algebra.specs.Tighten.{divisible, solvable}
 use Rattle.algebra.proofs.Tightened.{tight-solvable}
 use Rattle.joining.specs.Joining.{Tightens}
 use Rattle.joining.specs.declared.tightening.Tightened.{Tightened}

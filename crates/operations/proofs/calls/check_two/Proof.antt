@@ -3,9 +3,6 @@ use Rattle.operations.proofs.Answering.{checks-first, checks-second}
 use borrow.Author.Rules.{rules}
 use Rattle.operations.proofs.calls.check_two.Statement.{statement}
 use Rattle.operations.proofs.calls.check_two.Tie as tie
-use Rattle.operations.proofs.calls.check_two.Reads as reads
-use Rattle.operations.proofs.calls.check_two.Lts as lts
-use Rattle.codec.proofs.check.Reads as check-reads
 
 -- src/calls.rt:25:9
 check-requires : tie.Need-check-k-requires

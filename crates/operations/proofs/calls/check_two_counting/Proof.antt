@@ -1,5 +1,5 @@
 use mathlib.Core.Path.{◌≡◌, sym, ap₂, ◌∙◌}
-use Prim.Native.Nat.{ℕ, ◌+◌}
+use Prim.Native.Nat.{◌+◌}
 use native.Mathlib.Omega.{arith}
 use Rattle.codec.specs.Bytes.{decode, number}
 use Rattle.codec.specs.Places.{set_from}

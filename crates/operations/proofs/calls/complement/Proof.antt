@@ -8,12 +8,6 @@ use Rattle.operations.proofs.Answering.{one-refused, whole-sets, whole-given}
 use borrow.Author.Rules.{rules}
 use Rattle.operations.proofs.calls.complement.Statement.{statement}
 use Rattle.operations.proofs.calls.complement.Tie as tie
-use Rattle.operations.proofs.calls.complement.Reads as reads
-use Rattle.operations.proofs.calls.complement.Lts as lts
-use Rattle.codec.proofs.check.Reads as check-reads
-use Rattle.subtraction.proofs.subtract.Reads as subtract-reads
-use Rattle.results.proofs.finish.Reads as finish-reads
-use Rattle.results.proofs.refuse.Reads as refuse-reads
 
 -- src/calls.rt:90:9
 check-requires : tie.Need-check-k-requires

@@ -7,12 +7,6 @@ use Rattle.operations.proofs.Answering.{sets_of, two-refused, two-given}
 use borrow.Author.Rules.{rules}
 use Rattle.operations.proofs.calls.union.Statement.{statement}
 use Rattle.operations.proofs.calls.union.Tie as tie
-use Rattle.operations.proofs.calls.union.Reads as reads
-use Rattle.operations.proofs.calls.union.Lts as lts
-use Rattle.operations.proofs.calls.append.Reads as append-reads
-use Rattle.operations.proofs.calls.check_two_counting.Reads as check-two-counting-reads
-use Rattle.results.proofs.finish.Reads as finish-reads
-use Rattle.results.proofs.refuse.Reads as refuse-reads
 
 -- src/calls.rt:56:9
 check-two-counting-requires : tie.Need-check_two_counting-c-requires

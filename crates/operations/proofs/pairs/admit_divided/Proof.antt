@@ -2,10 +2,6 @@ use Rattle.operations.proofs.Meeting.{admit-void, admit-sound, admit-tested}
 use borrow.Author.Rules.{rules}
 use Rattle.operations.proofs.pairs.admit_divided.Statement.{statement}
 use Rattle.operations.proofs.pairs.admit_divided.Tie as tie
-use Rattle.operations.proofs.pairs.admit_divided.Reads as reads
-use Rattle.operations.proofs.pairs.admit_divided.Lts as lts
-use Rattle.joining.proofs.tight_set.Reads as tight-set-reads
-use Rattle.operations.proofs.pairs.emit_kept.Reads as emit-kept-reads
 
 -- where none of the rules is void: the start, and the same from the call of emit_kept
 abbrev start : tie.Else-none → tie.Start

@@ -2,10 +2,6 @@ use Rattle.operations.proofs.Meeting.{tested-kept, tested-dropped}
 use borrow.Author.Rules.{rules}
 use Rattle.operations.proofs.pairs.emit_kept.Statement.{statement}
 use Rattle.operations.proofs.pairs.emit_kept.Tie as tie
-use Rattle.operations.proofs.pairs.emit_kept.Reads as reads
-use Rattle.operations.proofs.pairs.emit_kept.Lts as lts
-use Rattle.candidates.proofs.keeps.Reads as keeps-reads
-use Rattle.results.proofs.emit.Reads as emit-reads
 
 -- the test's answer, and the start from there
 abbrev told : tie.After-slice_known-5-1 → tie.After-keeps

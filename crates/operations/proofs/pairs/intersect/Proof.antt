@@ -11,10 +11,6 @@ use Rattle.operations.proofs.Meeting.{intersection-made}
 use Rattle.subtraction.proofs.Along.{Along, along-start, along-end, along-opened, along-valid, along-stop, along-next, nothing-ready, Decodes, level-start}
 use Rattle.operations.proofs.pairs.intersect.Statement.{statement}
 use Rattle.operations.proofs.pairs.intersect.Tie as tie
-use Rattle.operations.proofs.pairs.intersect.Reads as reads
-use Rattle.operations.proofs.pairs.intersect.Lts as lts
-use Rattle.records.proofs.decode_basic.Reads as decode-basic-reads
-use Rattle.operations.proofs.pairs.meet_first.Reads as meet-first-reads
 
 abbrev invariant-loop : tie.invariant-loop-pos
 invariant-loop a b out₀ rows₀ place₀ kinds₀ t₀ pos₀ out rows place kinds t pos = Along (Decodes b) (first_meetings (set_from b 0)) (first_meetings_fit (set_from b 0)) a out₀ t₀ rows place kinds out t pos

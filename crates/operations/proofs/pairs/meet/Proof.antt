@@ -9,12 +9,6 @@ use Rattle.results.proofs.Chained.{emits-refused}
 use Rattle.operations.proofs.Meeting.{meet-sound, meet-admitted, admit-plain}
 use Rattle.operations.proofs.pairs.meet.Statement.{statement}
 use Rattle.operations.proofs.pairs.meet.Tie as tie
-use Rattle.operations.proofs.pairs.meet.Reads as reads
-use Rattle.operations.proofs.pairs.meet.Lts as lts
-use Rattle.cutting.proofs.both.Reads as both-reads
-use Rattle.joining.proofs.any_divisible.Reads as any-divisible-reads
-use Rattle.operations.proofs.pairs.admit_divided.Reads as admit-divided-reads
-use Rattle.operations.proofs.pairs.emit_kept.Reads as emit-kept-reads
 
 -- where the two are one: the start, and the same from the two calls
 abbrev start : tie.Else-not-fits → tie.Start

@@ -11,10 +11,6 @@ use Rattle.operations.proofs.Meeting.{SoundOver}
 use Rattle.subtraction.proofs.Along.{Along, along-start, along-end, along-opened, along-valid, along-stop, along-next}
 use Rattle.operations.proofs.pairs.meet_all.Statement.{statement}
 use Rattle.operations.proofs.pairs.meet_all.Tie as tie
-use Rattle.operations.proofs.pairs.meet_all.Reads as reads
-use Rattle.operations.proofs.pairs.meet_all.Lts as lts
-use Rattle.records.proofs.decode_basic.Reads as decode-basic-reads
-use Rattle.operations.proofs.pairs.meet.Reads as meet-reads
 
 abbrev invariant-loop : tie.invariant-loop-pos
 invariant-loop p b out₀ rows₀ place₀ kinds₀ t₀ pos₀ out rows place kinds t pos = Along (SoundOver p) (meeting (basic_set_of p)) (both_fits keeps (basic_set_of p)) b out₀ t₀ rows place kinds out t pos

@@ -4,10 +4,6 @@ use Rattle.operations.proofs.Meeting.{first-void, first-emits}
 use borrow.Author.Rules.{rules}
 use Rattle.operations.proofs.pairs.meet_divided.Statement.{statement}
 use Rattle.operations.proofs.pairs.meet_divided.Tie as tie
-use Rattle.operations.proofs.pairs.meet_divided.Reads as reads
-use Rattle.operations.proofs.pairs.meet_divided.Lts as lts
-use Rattle.joining.proofs.tight_set.Reads as tight-set-reads
-use Rattle.operations.proofs.pairs.meet_all.Reads as meet-all-reads
 
 -- where none of the rules is void: the start, and the same from the call of meet_all
 abbrev start : tie.Else-none → tie.Start

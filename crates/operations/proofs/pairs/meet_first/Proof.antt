@@ -4,11 +4,6 @@ use Rattle.codec.specs.Places.{set_from}
 use Rattle.operations.proofs.Meeting.{first_plain}
 use Rattle.operations.proofs.pairs.meet_first.Statement.{statement}
 use Rattle.operations.proofs.pairs.meet_first.Tie as tie
-use Rattle.operations.proofs.pairs.meet_first.Reads as reads
-use Rattle.operations.proofs.pairs.meet_first.Lts as lts
-use Rattle.joining.proofs.any_divisible.Reads as any-divisible-reads
-use Rattle.operations.proofs.pairs.meet_divided.Reads as meet-divided-reads
-use Rattle.operations.proofs.pairs.meet_all.Reads as meet-all-reads
 
 any-divisible-requires : tie.Need-any_divisible-requires
 any-divisible-requires c κs = search rules
