@@ -24,10 +24,11 @@ counted() {
 documents="README.md docs/REVIEW.md docs/CONTRACTS.md docs/ARCHITECTURE.md docs/DECISIONS.md"
 names=$(mktemp)
 trap 'rm -f "$names"' EXIT
-# every name that is declared in a definition, a proof or code
+# every name that is declared in a definition, a proof, code or the header
 { grep -rhoE '^ *(abbrev |unfoldable )?(pub )?[^ ():]+ :' crates --include='*.antt' | sed -E 's/^ *(abbrev |unfoldable )?(pub )?//; s/ :$//'
   grep -rhoE '(record|data) [A-Z][A-Za-z]*' crates --include='*.antt' | sed 's/.* //'
-  grep -rhoE '(fn|struct|enum) [A-Za-z_0-9]+' crates --include='*.rt' | sed 's/.* //'
+  grep -rhoE '(fn|struct|enum) [A-Za-z_0-9]+|^    [A-Z][A-Za-z]*[,(]' crates --include='*.rt' | sed 's/.* //; s/[,(]$//'
+  grep -oE '\bpitsets_[a-z_]+' include/pitsets.h
   ls crates; } | sort -u > "$names"
 
 # a path: crate/specs/File, crate/proofs/File, crate/src/file.rt, docs, tests, tools
@@ -48,6 +49,12 @@ done | sort > "$names"
 while read -r row; do seen no "the row or the edit of $row"; done < <(
   grep -vE '^\| `[a-z]+::' docs/CONTRACTS.md | grep -oE '[a-z_]+/[a-z_0-9]+( \(on demand\))? \|$' | sed 's/ |$//' | sort | comm -3 - "$names" | sed 's/^\t//')
 passed=$((passed + $(wc -l < "$names")))
+# so too the two of each public call
+while read -r edit; do
+  if grep -qxF -- "$edit" "$names"; then seen yes "$edit"; else seen no "the edit of a call $edit"; fi
+done < <(grep -E '^\| `[a-z]+::' docs/CONTRACTS.md |
+  awk '{ later = 0; n = split($0, w, /[ ,;]+/)
+         for (i = 1; i <= n; i++) if (w[i] == "demand") later = 1; else if (w[i] ~ /^[a-z_]+\/[a-z_0-9]+$/) print w[i] (later ? " (on demand)" : "") }')
 sed -i 's/ (on demand)$//' "$names"
 while read -r edit; do
   if grep -qxF -- "$edit" "$names"; then seen yes "$edit"; else seen no "edit $edit"; fi
