@@ -96,7 +96,7 @@ cleared-all o k h = ap (λ (i : ℕ). replicate (i - 0) 0) h
 pub loaded-table : (l o o₁ : List ℕ) (e : ℕ) → length o ≡ room → length o₁ ≡ room → Wrote l o 0 e o₁ → take e o₁ ++ replicate (length o₁ - e) 0 ≡ table_of room (gives l)
 unfolding put
 loaded-table l o o₁ e h k w =
-    let i : e ≡ length l = let j = w.end-is in omega arith in
+    let i : e ≡ length l = let j = w.end_is in omega arith in
     ap₂ (λ (x : List ℕ) (i : ℕ). x ++ replicate i 0)
     (ap₂ take i w.bytes ∙ take-append_seam l (drop (0 + length l) o))
     (ap₂ (λ (i j : ℕ). i - j) k i)

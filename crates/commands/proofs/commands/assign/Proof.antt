@@ -1,5 +1,5 @@
 use mathlib.Core.Path.{ap, sym, subst}
-use Prim.Native.Nat.{ℕ, ◌-◌}
+use Prim.Native.Nat.{ℕ}
 use native.Mathlib.Omega.{arith}
 use lib.ListN.{get_or}
 use Rattle.commands.proofs.Answers.{answered-refused, answered-gives, kept-refused, kept-given, one-operand}
@@ -29,21 +29,16 @@ enum-known-a-2 c = search rules
 
 byte-requires : tie.Need-byte-requires
 byte-requires c κs =
-    let st = c.before.before.before.before.before.before.before.before.before.before.before.before.before.before.before.before in
-    let f = one-operand st.args.b st.requires.2 in
-    let e = st.requires.1.enough in
+    let f = one-operand c.args.b c.requires.2 in
+    let e = c.requires.1.enough in
     omega arith
 
 keep-requires : tie.Need-keep-requires
 keep-requires c κs =
-    let at-answer = c.before.before.before.before.before.before.before.before.before in let st = at-answer.before.before.before.before.before.before.before.before.before in
-    let g = number-good _ 0 st.args.s.now st.requires.1.good (numbers-one st.args.b) in
-    let e = c.before.byte.ensures.0 in
-    let k = at-answer.answer.auto.res in
-    (st.requires.0.tables_long, st.requires.0.lengths_long, omega arith, omega arith)
-
-slice-aggregate-word : tie.Need-slice-aggregate-word
-slice-aggregate-word c = search rules
+    let g = number-good _ 0 c.args.s.now c.requires.1.good (numbers-one c.args.b) in
+    let e = c.byte.ensures.0 in
+    let k = c.answer-a.auto.res in
+    (c.requires.0.tables_long, c.requires.0.lengths_long, omega arith, omega arith)
 
 word-requires : tie.Need-word-requires
 word-requires c κs = search rules
@@ -62,17 +57,15 @@ same-length-4 c = search rules
 
 returns : tie.Need-returns-in-Refused
 returns c =
-    let at_a = c.before.before.before.before.before in let at-answer = at_a.before.before.before.before in
-    let st = at-answer.before.before.before.before.before.before.before.before.before in
     let x = subst
-    (λ (o : Answer ℕ). Result room (answer_of (state_in st.args.axes st.args.tables.now st.args.lengths.now) st.args.b st.args.s.now) o
-    at-answer.answer.new.res)
-    (ap outcome_is at_a.a-1.given.1) at-answer.answer.ensures in
+    (λ (o : Answer ℕ). Result room (answer_of (state_in c.args.axes c.args.tables.now c.args.lengths.now) c.args.b c.args.s.now) o
+    c.answer-a.new.res)
+    (ap outcome_is c.in-Refused.is) c.answer-a.ensures in
     let e = answered-refused _ x in (
-      writes-same (omega arith) (ap (tells done_line) (sym e)) c.before.before.refused_line.ensures,
+      writes-same (omega arith) (ap (tells done_line) (sym e)) c.refused_line.ensures,
       kept-refused
-          (memory st.args.tables.now st.args.lengths.now st.args.res.now) (get_or st.args.s.now 0 0)
-          (answer_of (state_in st.args.axes st.args.tables.now st.args.lengths.now) st.args.b st.args.s.now) _ _ e x.bytes,
+          (memory c.args.tables.now c.args.lengths.now c.args.res.now) (get_or c.args.s.now 0 0)
+          (answer_of (state_in c.args.axes c.args.tables.now c.args.lengths.now) c.args.b c.args.s.now) _ _ e x.bytes,
     )
 
 same-length-5 : tie.Need-shape_of-tables-in-Length
@@ -89,17 +82,15 @@ same-length-8 c = search rules
 
 returns-2 : tie.Need-returns-in-Length
 returns-2 c =
-    let at-keep = c.before.before.before.before.before.before.before.before.before in let at_byte = at-keep.before.before in let at-a2 = at_byte.before.before.before.before in
-    let at-answer = at-a2.before.before.before.before in let st = at-answer.before.before.before.before.before.before.before.before.before in
     let x = subst
-    (λ (o : Answer ℕ). Result room (answer_of (state_in st.args.axes st.args.tables.now st.args.lengths.now) st.args.b st.args.s.now) o
-    at-answer.answer.new.res)
-    (ap outcome_is at-a2.a2.given.1) at-answer.answer.ensures in
+    (λ (o : Answer ℕ). Result room (answer_of (state_in c.args.axes c.args.tables.now c.args.lengths.now) c.args.b c.args.s.now) o
+    c.answer-a.new.res)
+    (ap outcome_is c.in-Length.is) c.answer-a.ensures in
     let g = answered-gives _ x in (
-      writes-same (omega arith) (ap (tells done_line) (sym g.is)) c.before.before.word.ensures,
-      kept-given (memory st.args.tables.now st.args.lengths.now st.args.res.now)
-          (get_or st.args.s.now 0 0) (answer_of (state_in st.args.axes st.args.tables.now st.args.lengths.now) st.args.b st.args.s.now) _ _ _ _ _ at_byte.byte.ensures.0 g
-          x.bytes at-keep.keep.ensures.0 at-keep.keep.ensures.1,
+      writes-same (omega arith) (ap (tells done_line) (sym g.is)) c.word.ensures,
+      kept-given (memory c.args.tables.now c.args.lengths.now c.args.res.now)
+          (get_or c.args.s.now 0 0) (answer_of (state_in c.args.axes c.args.tables.now c.args.lengths.now) c.args.b c.args.s.now) _ _ _ _ _ c.byte.ensures.0 g
+          x.bytes c.keep.ensures.0 c.keep.ensures.1,
     )
 
 pub assign_spec : {M : Type 1} → statement M
@@ -112,7 +103,6 @@ assign_spec =
     enum-known-a-2
     byte-requires
     keep-requires
-    slice-aggregate-word
     word-requires
     same_length
     same-length-2

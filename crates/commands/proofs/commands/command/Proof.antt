@@ -1,7 +1,7 @@
 use mathlib.Core.Path.{◌≡◌, ap, sym, ◌∙◌}
 use mathlib.Core.Bool.{true, false}
 use mathlib.Core.List.{List, ◌∷◌}
-use Prim.Native.Nat.{ℕ, ◌-◌}
+use Prim.Native.Nat.{ℕ}
 use native.Mathlib.Omega.{arith}
 use lib.ListN.{length, take, get_or}
 use Rattle.commands.proofs.CommandLaws.{begun, split-first, command-end, command-open, command-bad, command-good, none-command, good-command, numbers-enough}
@@ -18,20 +18,15 @@ use Rattle.commands.proofs.commands.command.Tie as tie
 
 shared-slice-read-b : tie.Need-bounds-c-0
 shared-slice-read-b c =
-    let st = c.before.before.before.before.before.before in
-    let g = begun st.args.axes st.args.c.now st.requires.0 in
+    let g = begun c.args.axes c.args.c.now c.requires.0 in
     let h = g.some in
     omega arith
 
 tail-requires : tie.Need-tail-s-requires
 tail-requires c κs =
-    let st = c.before.before.before.before.before.before in
-    let g = begun st.args.axes st.args.c.now st.requires.0 in
+    let g = begun c.args.axes c.args.c.now c.requires.0 in
     let h = g.some in
     omega arith
-
-slice-aggregate-word : tie.Need-slice-aggregate-word
-slice-aggregate-word c = search rules
 
 word-requires : tie.Need-word-requires
 word-requires c κs = search rules
@@ -43,26 +38,23 @@ same_length : tie.Need-shape_of-out-then-b-eq0
 same_length c = search rules
 
 returns : tie.Need-returns-then-b-eq0
-returns c =
-    let at-word = c.before.before.before in let at-if1 = at-word.before.before.before in let at_tail = at-if1.before in
-    let st = at_tail.before.before.before.before.before.before.before in (
-      command-end st.args.axes st.args.tables.now st.args.lengths.now st.args.c.now _ st.args.out.now _ (get_or st.args.c.now 0 0) _
-          (split-first st.args.c.now (begun st.args.axes st.args.c.now st.requires.0).some ∙ ap (λ (l : List ℕ). get_or st.args.c.now 0 0 ∷ l) (sym at_tail.tail.ensures))
-          at-if1.if1.true c.says.ensures at-word.word.ensures,
-      none-command (memory st.args.tables.now st.args.lengths.now st.args.res.now)
-          (state_in st.args.axes st.args.tables.now st.args.lengths.now) st.args.c.now (get_or st.args.c.now 0 0) _
-          (split-first st.args.c.now (begun st.args.axes st.args.c.now st.requires.0).some ∙ ap (λ (l : List ℕ). get_or st.args.c.now 0 0 ∷ l) (sym at_tail.tail.ensures))
-          (effect-end (state_in st.args.axes st.args.tables.now st.args.lengths.now) (get_or st.args.c.now 0 0) _ at-if1.if1.true),
-    )
+returns c = (
+  command-end c.args.axes c.args.tables.now c.args.lengths.now c.args.c.now _ c.args.out.now _ (get_or c.args.c.now 0 0) _
+      (split-first c.args.c.now (begun c.args.axes c.args.c.now c.requires.0).some ∙ ap (λ (l : List ℕ). get_or c.args.c.now 0 0 ∷ l) (sym c.tail-s.ensures))
+      c.if-b-eq0.true c.says.ensures c.word.ensures,
+  none-command (memory c.args.tables.now c.args.lengths.now c.args.res.now)
+      (state_in c.args.axes c.args.tables.now c.args.lengths.now) c.args.c.now (get_or c.args.c.now 0 0) _
+      (split-first c.args.c.now (begun c.args.axes c.args.c.now c.requires.0).some ∙ ap (λ (l : List ℕ). get_or c.args.c.now 0 0 ∷ l) (sym c.tail-s.ensures))
+      (effect-end (state_in c.args.axes c.args.tables.now c.args.lengths.now) (get_or c.args.c.now 0 0) _ c.if-b-eq0.true),
+)
 
 byte-requires : tie.Need-byte-requires
 byte-requires c κs =
-    let st = c.before.before.before.before.before.before.before.before.before in
-    let g = begun st.args.axes st.args.c.now st.requires.0 in
+    let g = begun c.args.axes c.args.c.now c.requires.0 in
     let h = g.enough in
     let f = ap fixed_width c.if-b-eq16.true in
-    let t = ap length c.before.before.tail-s.ensures in
-    let d = length-drop 1 st.args.c.now in
+    let t = ap length c.tail-s.ensures in
+    let d = length-drop 1 c.args.c.now in
     omega arith
 
 open-requires : tie.Need-open-requires
@@ -72,30 +64,27 @@ same-length-2 : tie.Need-shape_of-out-then-b-eq16
 same-length-2 c = search rules
 
 returns-2 : tie.Need-returns-then-b-eq16
-returns-2 c =
-    let at_byte = c.before.before.before.before in let at-if2 = at_byte.before in let at_tail = at-if2.before.before in
-    let st = at_tail.before.before.before.before.before.before.before in (
-      command-open st.args.axes st.args.tables.now st.args.lengths.now st.args.c.now _ st.args.out.now _ (get_or st.args.c.now 0 0) _
-          (split-first st.args.c.now (begun st.args.axes st.args.c.now st.requires.0).some ∙ ap (λ (l : List ℕ). get_or st.args.c.now 0 0 ∷ l) (sym at_tail.tail.ensures))
-          at-if2.if2.true at_byte.byte.result at_byte.byte.ensures.0 c.before.before.«open».ensures,
-      none-command
-          (memory st.args.tables.now st.args.lengths.now st.args.res.now) (state_in st.args.axes st.args.tables.now st.args.lengths.now) st.args.c.now
-          (get_or st.args.c.now 0 0) _
-          (split-first st.args.c.now (begun st.args.axes st.args.c.now st.requires.0).some ∙ ap (λ (l : List ℕ). get_or st.args.c.now 0 0 ∷ l) (sym at_tail.tail.ensures))
-          (effect-open (state_in st.args.axes st.args.tables.now st.args.lengths.now) (get_or st.args.c.now 0 0) _ at-if2.if2.true),
-    )
+returns-2 c = (
+  command-open c.args.axes c.args.tables.now c.args.lengths.now c.args.c.now _ c.args.out.now _ (get_or c.args.c.now 0 0) _
+      (split-first c.args.c.now (begun c.args.axes c.args.c.now c.requires.0).some ∙ ap (λ (l : List ℕ). get_or c.args.c.now 0 0 ∷ l) (sym c.tail-s.ensures))
+      c.if-b-eq16.true c.byte.result c.byte.ensures.0 c.«open».ensures,
+  none-command
+      (memory c.args.tables.now c.args.lengths.now c.args.res.now) (state_in c.args.axes c.args.tables.now c.args.lengths.now) c.args.c.now
+      (get_or c.args.c.now 0 0) _
+      (split-first c.args.c.now (begun c.args.axes c.args.c.now c.requires.0).some ∙ ap (λ (l : List ℕ). get_or c.args.c.now 0 0 ∷ l) (sym c.tail-s.ensures))
+      (effect-open (state_in c.args.axes c.args.tables.now c.args.lengths.now) (get_or c.args.c.now 0 0) _ c.if-b-eq16.true),
+)
 
 set-numbers-requires : tie.Need-set_numbers-requires
 set-numbers-requires c κs = search rules
 
 numbers-fit-requires : tie.Need-numbers_fit-requires
 numbers-fit-requires c κs =
-    let at_tail = c.before.before.before in let st = at_tail.before.before.before.before.before.before.before in
-    let g = begun st.args.axes st.args.c.now st.requires.0 in
+    let g = begun c.args.axes c.args.c.now c.requires.0 in
     let h = g.enough in
-    let k = numbers-enough (get_or st.args.c.now 0 0) g.known c.before.before.if-b-eq0.false c.before.if-b-eq16.false in
-    let t = ap length at_tail.tail-s.ensures in
-    let d = length-drop 1 st.args.c.now in
+    let k = numbers-enough (get_or c.args.c.now 0 0) g.known c.if-b-eq0.false c.if-b-eq16.false in
+    let t = ap length c.tail-s.ensures in
+    let d = length-drop 1 c.args.c.now in
     let e = c.set_numbers.ensures in
     omega arith
 
@@ -110,30 +99,26 @@ same-length-3 c = search rules
 
 returns-3 : tie.Need-returns-then-not-numbers_fit
 returns-3 c =
-    let at-refused-line = c.before.before.before in let at-if3 = at-refused-line.before.before in let at-numbers-fit = at-if3.before in let at-set-numbers = at-numbers-fit.before in
-    let at-if2 = at-set-numbers.before in let at-if1 = at-if2.before in let at_tail = at-if1.before in let st = at_tail.before.before.before.before.before.before.before in
-    let e : all (λ (m : ℕ). leb m 3) (take (set_numbers (get_or st.args.c.now 0 0)) at_tail.tail.result.now) ≡ false = ap
-    (λ (k : ℕ). all (λ (m : ℕ). leb m 3) (take k at_tail.tail.result.now)) (sym at-set-numbers.set-numbers.ensures) ∙ sym at-numbers-fit.numbers_fit.ensures ∙ not-true _
-    at-if3.if3.true in (
-      command-bad st.args.axes st.args.tables.now st.args.lengths.now st.args.c.now _ st.args.out.now _ (get_or st.args.c.now 0 0) _
-          (split-first st.args.c.now (begun st.args.axes st.args.c.now st.requires.0).some ∙ ap (λ (l : List ℕ). get_or st.args.c.now 0 0 ∷ l) (sym at_tail.tail.ensures))
-          at-if1.if1.false at-if2.if2.false e c.says-then-not-numbers_fit.ensures at-refused-line.refused-line.ensures,
+    let e : all (λ (m : ℕ). leb m 3) (take (set_numbers (get_or c.args.c.now 0 0)) c.tail-s.result.now) ≡ false = ap
+    (λ (k : ℕ). all (λ (m : ℕ). leb m 3) (take k c.tail-s.result.now)) (sym c.set_numbers.ensures) ∙ sym c.numbers_fit.ensures ∙ not-true _
+    c.if-not-numbers_fit.true-raw in (
+      command-bad c.args.axes c.args.tables.now c.args.lengths.now c.args.c.now _ c.args.out.now _ (get_or c.args.c.now 0 0) _
+          (split-first c.args.c.now (begun c.args.axes c.args.c.now c.requires.0).some ∙ ap (λ (l : List ℕ). get_or c.args.c.now 0 0 ∷ l) (sym c.tail-s.ensures))
+          c.if-b-eq0.false c.if-b-eq16.false e c.says-then-not-numbers_fit.ensures c.refused_line.ensures,
       none-command
-          (memory st.args.tables.now st.args.lengths.now st.args.res.now) (state_in st.args.axes st.args.tables.now st.args.lengths.now) st.args.c.now
-          (get_or st.args.c.now 0 0) _
-          (split-first st.args.c.now (begun st.args.axes st.args.c.now st.requires.0).some ∙ ap (λ (l : List ℕ). get_or st.args.c.now 0 0 ∷ l) (sym at_tail.tail.ensures))
-          (effect-bad (state_in st.args.axes st.args.tables.now st.args.lengths.now) (get_or st.args.c.now 0 0) _ e),
+          (memory c.args.tables.now c.args.lengths.now c.args.res.now) (state_in c.args.axes c.args.tables.now c.args.lengths.now) c.args.c.now
+          (get_or c.args.c.now 0 0) _
+          (split-first c.args.c.now (begun c.args.axes c.args.c.now c.requires.0).some ∙ ap (λ (l : List ℕ). get_or c.args.c.now 0 0 ∷ l) (sym c.tail-s.ensures))
+          (effect-bad (state_in c.args.axes c.args.tables.now c.args.lengths.now) (get_or c.args.c.now 0 0) _ e),
     )
 
 perform-requires : tie.Need-perform-requires
 perform-requires c κs =
-    let at-if3 = c.before.before.before.before in let at-numbers-fit = at-if3.before in let at-set-numbers = at-numbers-fit.before in let at-if2 = at-set-numbers.before in
-    let at-if1 = at-if2.before in let at_tail = at-if1.before in let st = at_tail.before.before.before.before.before.before.before in
-    let g = begun st.args.axes st.args.c.now st.requires.0 in
+    let g = begun c.args.axes c.args.c.now c.requires.0 in
     let h = g.enough in
-    let t = ap length at_tail.tail.ensures in
-    let d = length-drop 1 st.args.c.now in
-    record { usable = st.requires.1; operands = record { enough = omega arith; good = ap (λ (k : ℕ). all (λ (m : ℕ). leb m 3) (take k at_tail.tail.result.now)) (sym at-set-numbers.set-numbers.ensures) ∙ sym at-numbers-fit.numbers_fit.ensures ∙ not-false _ at-if3.if3.false }; known = g.known; later = (ne_eqb _ _ at-if1.if1.false, ne_eqb _ _ at-if2.if2.false) }
+    let t = ap length c.tail-s.ensures in
+    let d = length-drop 1 c.args.c.now in
+    record { usable = c.requires.1; operands = record { enough = omega arith; good = ap (λ (k : ℕ). all (λ (m : ℕ). leb m 3) (take k c.tail-s.result.now)) (sym c.set_numbers.ensures) ∙ sym c.numbers_fit.ensures ∙ not-false _ c.if-not-numbers_fit.false-raw }; known = g.known; later = (ne_eqb _ _ c.if-b-eq0.false, ne_eqb _ _ c.if-b-eq16.false) }
 
 same-length-4 : tie.Need-shape_of-tables
 same-length-4 c = search rules
@@ -149,19 +134,16 @@ same-length-7 c = search rules
 
 returns-4 : tie.Need-returns
 returns-4 c =
-    let at-perform = c.before.before.before.before.before.before.before.before in let at-if3 = at-perform.before.before.before.before.before in
-    let at-numbers-fit = at-if3.before in let at-set-numbers = at-numbers-fit.before in let at-if2 = at-set-numbers.before in let at-if1 = at-if2.before in let at_tail = at-if1.before in
-    let st = at_tail.before.before.before.before.before.before.before in
-    let e : all (λ (m : ℕ). leb m 3) (take (set_numbers (get_or st.args.c.now 0 0)) at_tail.tail.result.now) ≡ true = ap
-    (λ (k : ℕ). all (λ (m : ℕ). leb m 3) (take k at_tail.tail.result.now)) (sym at-set-numbers.set-numbers.ensures) ∙ sym at-numbers-fit.numbers_fit.ensures ∙ not-false _
-    at-if3.if3.false in (
-      command-good st.args.axes st.args.tables.now st.args.lengths.now st.args.c.now _ st.args.out.now _ (get_or st.args.c.now 0 0) _
-          (split-first st.args.c.now (begun st.args.axes st.args.c.now st.requires.0).some ∙ ap (λ (l : List ℕ). get_or st.args.c.now 0 0 ∷ l) (sym at_tail.tail.ensures))
-          at-if1.if1.false at-if2.if2.false e at-perform.perform.ensures.0,
-      good-command (memory st.args.tables.now st.args.lengths.now st.args.res.now)
-          (state_in st.args.axes st.args.tables.now st.args.lengths.now) st.args.c.now (get_or st.args.c.now 0 0) _
-          (split-first st.args.c.now (begun st.args.axes st.args.c.now st.requires.0).some ∙ ap (λ (l : List ℕ). get_or st.args.c.now 0 0 ∷ l) (sym at_tail.tail.ensures)) e
-          at-perform.perform.ensures.1,
+    let e : all (λ (m : ℕ). leb m 3) (take (set_numbers (get_or c.args.c.now 0 0)) c.tail-s.result.now) ≡ true = ap
+    (λ (k : ℕ). all (λ (m : ℕ). leb m 3) (take k c.tail-s.result.now)) (sym c.set_numbers.ensures) ∙ sym c.numbers_fit.ensures ∙ not-false _
+    c.if-not-numbers_fit.false-raw in (
+      command-good c.args.axes c.args.tables.now c.args.lengths.now c.args.c.now _ c.args.out.now _ (get_or c.args.c.now 0 0) _
+          (split-first c.args.c.now (begun c.args.axes c.args.c.now c.requires.0).some ∙ ap (λ (l : List ℕ). get_or c.args.c.now 0 0 ∷ l) (sym c.tail-s.ensures))
+          c.if-b-eq0.false c.if-b-eq16.false e c.perform.ensures.0,
+      good-command (memory c.args.tables.now c.args.lengths.now c.args.res.now)
+          (state_in c.args.axes c.args.tables.now c.args.lengths.now) c.args.c.now (get_or c.args.c.now 0 0) _
+          (split-first c.args.c.now (begun c.args.axes c.args.c.now c.requires.0).some ∙ ap (λ (l : List ℕ). get_or c.args.c.now 0 0 ∷ l) (sym c.tail-s.ensures)) e
+          c.perform.ensures.1,
     )
 
 pub command_spec : {M : Type 1} → statement M
@@ -170,7 +152,6 @@ command_spec =
     (tie.spec
     shared-slice-read-b
     tail-requires
-    slice-aggregate-word
     word-requires
     says-requires
     same_length

@@ -1,5 +1,4 @@
 use mathlib.Core.Path.{ap, sym, ◌∙◌}
-use Prim.Native.Nat.{◌-◌}
 use native.Mathlib.Omega.{arith}
 use Rattle.listing.proofs.Writing.{writes-same}
 use Rattle.listing.proofs.LineTexts.{one_number}
@@ -24,17 +23,11 @@ at-line-requires c κs = search rules
 enum-told-2 : tie.Need-enum_told-in-Nothing
 enum-told-2 c = search rules
 
-slice-aggregate-counted-line : tie.Need-slice-aggregate-counted-line
-slice-aggregate-counted-line c = search rules
-
 counted-line-requires : tie.Need-counted_line-requires
 counted-line-requires c κs = search rules
 
 enum-told-3 : tie.Need-enum_told-in-Spent
 enum-told-3 c = search rules
-
-slice-aggregate-counted-line-2 : tie.Need-slice-aggregate-counted-line-2
-slice-aggregate-counted-line-2 c = search rules
 
 counted-line-requires-2 : tie.Need-counted_line-requires-in-Spent
 counted-line-requires-2 c κs = search rules
@@ -50,36 +43,32 @@ same_length c = search rules
 
 returns : tie.Need-returns-in-At
 returns c =
-    let at-enum-told = c.before.before.before.before in let st = at-enum-told.before.before.before.before.before in
-    writes-same (omega arith) (ap (λ (x : Outcome). tells search_line (found_by st.args.n st.args.f x)) (sym at-enum-told.enum_told.given.1)) c.before.before.at_line.ensures
+    writes-same (omega arith) (ap (λ (x : Outcome). tells search_line (found_by c.args.n c.args.f x)) (sym c.in-At.is)) c.at_line.ensures
 
 same-length-2 : tie.Need-shape_of-out-in-Nothing
 same-length-2 c = search rules
 
 returns-2 : tie.Need-returns-in-Nothing
 returns-2 c =
-    let at-enum-told2 = c.before.before.before.before.before in let st = at-enum-told2.before.before.before.before.before in
     writes-same (omega arith)
-    (one_number (codes "none") st.args.f.tested ∙ ap (λ (x : Outcome). tells search_line (found_by st.args.n st.args.f x)) (sym at-enum-told2.enum-told2.given.1))
-    c.before.before.counted_line.ensures
+    (one_number (codes "none") c.args.f.tested ∙ ap (λ (x : Outcome). tells search_line (found_by c.args.n c.args.f x)) (sym c.in-Nothing.is))
+    c.counted_line.ensures
 
 same-length-3 : tie.Need-shape_of-out-in-Spent
 same-length-3 c = search rules
 
 returns-3 : tie.Need-returns-in-Spent
 returns-3 c =
-    let at-enum-told3 = c.before.before.before.before.before in let st = at-enum-told3.before.before.before.before.before in
     writes-same (omega arith)
-    (one_number (codes "spent") st.args.f.tested ∙ ap (λ (x : Outcome). tells search_line (found_by st.args.n st.args.f x)) (sym at-enum-told3.enum-told3.given.1))
-    c.before.before.counted_line-in-Spent.ensures
+    (one_number (codes "spent") c.args.f.tested ∙ ap (λ (x : Outcome). tells search_line (found_by c.args.n c.args.f x)) (sym c.in-Spent.is))
+    c.counted_line-in-Spent.ensures
 
 same-length-4 : tie.Need-shape_of-out-in-Refused
 same-length-4 c = search rules
 
 returns-4 : tie.Need-returns-in-Refused
 returns-4 c =
-    let at_seen = c.before.before.before.before.before in let st = at_seen.before.before.before.before.before in
-    writes-same (omega arith) (ap (λ (x : Outcome). tells search_line (found_by st.args.n st.args.f x)) (sym at_seen.seen-1.given.1)) c.before.before.refused_line.ensures
+    writes-same (omega arith) (ap (λ (x : Outcome). tells search_line (found_by c.args.n c.args.f x)) (sym c.in-Refused.is)) c.refused_line.ensures
 
 pub found_line_spec : {M : Type 1} → statement M
 found_line_spec =
@@ -89,10 +78,8 @@ found_line_spec =
     enum_told
     at-line-requires
     enum-told-2
-    slice-aggregate-counted-line
     counted-line-requires
     enum-told-3
-    slice-aggregate-counted-line-2
     counted-line-requires-2
     enum-known-seen
     refused-line-requires

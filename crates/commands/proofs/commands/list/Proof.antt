@@ -1,5 +1,4 @@
 use mathlib.Core.Path.{sym, ◌∙◌}
-use Prim.Native.Nat.{◌-◌}
 use Rattle.commands.proofs.CommandLaws.{told-refused, told-listed}
 use Rattle.codec.proofs.Boundaries.{decode_is}
 use Rattle.codec.specs.Places.{set_from}
@@ -21,12 +20,11 @@ same_length c = search rules
 
 returns : tie.Need-returns-then-k-ne0
 returns c =
-    let at-refused-line = c.before.before.before in let at-if1 = at-refused-line.before.before in let at-check = at-if1.before in let st = at-check.before.before.before in
-    told-refused st.args.axes st.args.m st.args.s.now at-check.check.result at-check.check.ensures at-if1.if1.true c.says.ensures
-    at-refused-line.refused-line.ensures
+    told-refused c.args.axes c.args.m c.args.s.now c.check-k.result c.check-k.ensures c.if-k-ne0.true c.says.ensures
+    c.refused_line.ensures
 
 count-requires : tie.Need-count-requires
-count-requires c κs = record { n = c.before.before.before.before.before.args.axes; accepted = sym c.before.before.check-k.ensures ∙ c.before.if-k-ne0.false }
+count-requires c κs = record { n = c.args.axes; accepted = sym c.check-k.ensures ∙ c.if-k-ne0.false }
 
 header-requires : tie.Need-header-text-requires
 header-requires c κs = search rules
@@ -36,9 +34,8 @@ same-length-2 c = search rules
 
 returns-2 : tie.Need-returns
 returns-2 c =
-    let at_count = c.before.before.before in let at-if1 = at_count.before.before in let at-check = at-if1.before in let st = at-check.before.before.before in
-    told-listed st.args.axes st.args.m st.args.s.now (set_from st.args.s.now 0)
-    (decode_is st.args.axes st.args.s.now (sym at-check.check.ensures ∙ at-if1.if1.false)) at_count.count.result at_count.count.ensures c.before.before.header-text.ensures
+    told-listed c.args.axes c.args.m c.args.s.now (set_from c.args.s.now 0)
+    (decode_is c.args.axes c.args.s.now (sym c.check-k.ensures ∙ c.if-k-ne0.false)) c.count.result c.count.ensures c.header-text.ensures
 
 pub list_spec : {M : Type 1} → statement M
 list_spec =

@@ -1,5 +1,4 @@
 use mathlib.Core.Path.{ap, sym, ◌∙◌}
-use Prim.Native.Nat.{◌-◌}
 use native.Mathlib.Omega.{arith}
 use Rattle.listing.proofs.Writing.{writes-same}
 use Rattle.session.specs.Script.{member_line}
@@ -20,17 +19,11 @@ member-requires c κs = search rules
 enum_told : tie.Need-enum_told-1
 enum_told c = search rules
 
-slice-aggregate-word : tie.Need-slice-aggregate-word
-slice-aggregate-word c = search rules
-
 word-requires : tie.Need-word-requires
 word-requires c κs = search rules
 
 enum-told-2 : tie.Need-enum_told-in-Out
 enum-told-2 c = search rules
-
-slice-aggregate-word-2 : tie.Need-slice-aggregate-word-2
-slice-aggregate-word-2 c = search rules
 
 word-requires-2 : tie.Need-word-requires-in-Out
 word-requires-2 c κs = search rules
@@ -46,35 +39,30 @@ same_length c = search rules
 
 returns : tie.Need-returns-in-In
 returns c =
-    let at-enum-told = c.before.before.before.before.before in let at-member = at-enum-told.before.before in let at-point = at-member.before in
-    let st = at-point.before.before.before.before in
     writes-same (omega arith)
-    (ap (λ (m : Membership). tells member_line (member_is m)) (sym at-enum-told.enum_told.given.1) ∙ ap (tells member_line)
-    (at-member.member.ensures ∙ ap (member_bytes st.args.axes st.args.set.now) at-point.point.ensures))
-    c.before.before.word.ensures
+    (ap (λ (m : Membership). tells member_line (member_is m)) (sym c.in-In.is) ∙ ap (tells member_line)
+    (c.member-m.ensures ∙ ap (member_bytes c.args.axes c.args.set.now) c.point.ensures))
+    c.word.ensures
 
 same-length-2 : tie.Need-shape_of-out-in-Out
 same-length-2 c = search rules
 
 returns-2 : tie.Need-returns-in-Out
 returns-2 c =
-    let at-enum-told2 = c.before.before.before.before.before in let at-member = at-enum-told2.before.before in let at-point = at-member.before in
-    let st = at-point.before.before.before.before in
     writes-same (omega arith)
-    (ap (λ (m : Membership). tells member_line (member_is m)) (sym at-enum-told2.enum-told2.given.1) ∙ ap (tells member_line)
-    (at-member.member.ensures ∙ ap (member_bytes st.args.axes st.args.set.now) at-point.point.ensures))
-    c.before.before.word-in-Out.ensures
+    (ap (λ (m : Membership). tells member_line (member_is m)) (sym c.in-Out.is) ∙ ap (tells member_line)
+    (c.member-m.ensures ∙ ap (member_bytes c.args.axes c.args.set.now) c.point.ensures))
+    c.word-in-Out.ensures
 
 same-length-3 : tie.Need-shape_of-out-in-Refused
 same-length-3 c = search rules
 
 returns-3 : tie.Need-returns-in-Refused
 returns-3 c =
-    let at-m = c.before.before.before.before.before in let at-member = at-m.before.before in let at-point = at-member.before in let st = at-point.before.before.before.before in
     writes-same (omega arith)
-    (ap (λ (m : Membership). tells member_line (member_is m)) (sym at-m.m.given.1) ∙ ap (tells member_line)
-    (at-member.member.ensures ∙ ap (member_bytes st.args.axes st.args.set.now) at-point.point.ensures))
-    c.before.before.refused_line.ensures
+    (ap (λ (m : Membership). tells member_line (member_is m)) (sym c.in-Refused.is) ∙ ap (tells member_line)
+    (c.member-m.ensures ∙ ap (member_bytes c.args.axes c.args.set.now) c.point.ensures))
+    c.refused_line.ensures
 
 pub member_spec : {M : Type 1} → statement M
 member_spec =
@@ -83,10 +71,8 @@ member_spec =
     point-requires
     member-requires
     enum_told
-    slice-aggregate-word
     word-requires
     enum-told-2
-    slice-aggregate-word-2
     word-requires-2
     enum-known-m
     refused-line-requires

@@ -28,10 +28,9 @@ shared-slice-read-if1 c = search rules
 
 returns : tie.Need-returns-then-s-i-gt-LAST_SET invariant-loop decreases-loop
 returns c =
-    let in-loop = c.before.before.before in let st = in-loop.before in
     sym
-    (sym in-loop.loop.invariant.1 ∙ fits-at st.args.k in-loop.loop.i st.args.s.now c.before.before.loop-i-test.true st.requires ∙ ap
-    (λ (x : Bool). x && all (λ (m : ℕ). leb m 3) (drop (in-loop.loop.i + 1) (take st.args.k st.args.s.now))) (lt-leb _ _ c.if-s-i-gt-LAST_SET.true))
+    (sym c.loop-i.invariant.1 ∙ fits-at c.args.k c.loop-i.i c.args.s.now c.loop-i-test.true c.requires ∙ ap
+    (λ (x : Bool). x && all (λ (m : ℕ). leb m 3) (drop (c.loop-i.i + 1) (take c.args.k c.args.s.now))) (lt-leb _ _ c.if-s-i-gt-LAST_SET.true))
 
 add-i : tie.Need-overflow_add-i invariant-loop decreases-loop
 add-i c = search rules
@@ -40,21 +39,19 @@ loop-less : tie.Need-loop-i-smaller invariant-loop decreases-loop
 loop-less c = search rules
 
 loop-again : tie.Need-loop-i-preserved invariant-loop decreases-loop
-loop-again c =
-    let in-loop = c.before.before.before in let st = in-loop.before in (
-      omega arith,
-      sym
-          (fits-at st.args.k in-loop.loop.i st.args.s.now c.before.before.loop-i-test.true st.requires ∙ ap
-          (λ (x : Bool). x && all (λ (m : ℕ). leb m 3) (drop (in-loop.loop.i + 1) (take st.args.k st.args.s.now))) (le-leb _ _ c.if-s-i-gt-LAST_SET.false))
-          ∙ in-loop.loop.invariant.1,
-    )
+loop-again c = (
+  omega arith,
+  sym
+      (fits-at c.args.k c.loop-i.i c.args.s.now c.loop-i-test.true c.requires ∙ ap
+      (λ (x : Bool). x && all (λ (m : ℕ). leb m 3) (drop (c.loop-i.i + 1) (take c.args.k c.args.s.now))) (le-leb _ _ c.if-s-i-gt-LAST_SET.false))
+      ∙ c.loop-i.invariant.1,
+)
 
 returns-2 : tie.Need-returns invariant-loop decreases-loop
 returns-2 c =
-    let st = c.before.before in
-    let l = length-take-le st.args.k st.args.s.now st.requires in
-    let h : length (take st.args.k st.args.s.now) ≤ c.before.loop-i.i = omega arith in
-    sym (sym c.before.loop-i.invariant.1 ∙ ap (all (λ (m : ℕ). leb m 3)) (drop_of_length-le (take st.args.k st.args.s.now) h))
+    let l = length-take-le c.args.k c.args.s.now c.requires in
+    let h : length (take c.args.k c.args.s.now) ≤ c.loop-i.i = omega arith in
+    sym (sym c.loop-i.invariant.1 ∙ ap (all (λ (m : ℕ). leb m 3)) (drop_of_length-le (take c.args.k c.args.s.now) h))
 
 pub numbers_fit_spec : {M : Type 1} → statement M
 numbers_fit_spec =

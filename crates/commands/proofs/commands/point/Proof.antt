@@ -1,7 +1,6 @@
 use mir.Syntax.{w32}
 use Rattle.integers.specs.Mach.{result_is}
 use mathlib.Core.Path.{◌∙◌}
-use Prim.Native.Nat.{◌-◌}
 use Rattle.commands.proofs.CommandLaws.{eight}
 use borrow.Author.Rules.{rules}
 use Rattle.commands.proofs.commands.point.Statement.{statement}
@@ -54,12 +53,10 @@ i32-at-requires-8 c κs = search rules
 
 returns : tie.Need-returns
 returns c =
-    let at-i32-at5 = c.before.before.before in let at-i32-at4 = at-i32-at5.before in let at-i32-at3 = at-i32-at4.before in let at-i32-at2 = at-i32-at3.before in
-    let at-i32-at = at-i32-at2.before in let st = at-i32-at.before.before in
-    eight st.args.s.now st.args.p (result_is w32 _ at-i32-at.i32-at.type_inv ∙ at-i32-at.i32-at.ensures) (result_is w32 _ at-i32-at2.i32-at2.type_inv ∙ at-i32-at2.i32-at2.ensures)
-    (result_is w32 _ at-i32-at3.i32-at3.type_inv ∙ at-i32-at3.i32-at3.ensures) (result_is w32 _ at-i32-at4.i32-at4.type_inv ∙ at-i32-at4.i32-at4.ensures)
-    (result_is w32 _ at-i32-at5.i32-at5.type_inv ∙ at-i32-at5.i32-at5.ensures) (result_is w32 _ c.before.before.i32_at-6.type_inv ∙ c.before.before.i32_at-6.ensures)
-    (result_is w32 _ c.before.i32_at-7.type_inv ∙ c.before.i32_at-7.ensures) (result_is w32 _ c.i32_at-8.type_inv ∙ c.i32_at-8.ensures)
+    eight c.args.s.now c.args.p (result_is w32 _ c.i32_at.type_inv ∙ c.i32_at.ensures) (result_is w32 _ c.i32_at-2.type_inv ∙ c.i32_at-2.ensures)
+    (result_is w32 _ c.i32_at-3.type_inv ∙ c.i32_at-3.ensures) (result_is w32 _ c.i32_at-4.type_inv ∙ c.i32_at-4.ensures)
+    (result_is w32 _ c.i32_at-5.type_inv ∙ c.i32_at-5.ensures) (result_is w32 _ c.i32_at-6.type_inv ∙ c.i32_at-6.ensures)
+    (result_is w32 _ c.i32_at-7.type_inv ∙ c.i32_at-7.ensures) (result_is w32 _ c.i32_at-8.type_inv ∙ c.i32_at-8.ensures)
 
 pub point_spec : {M : Type 1} → statement M
 point_spec =

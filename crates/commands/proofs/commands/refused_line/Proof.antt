@@ -1,4 +1,3 @@
-use Prim.Native.Nat.{◌-◌}
 use native.Mathlib.Omega.{arith}
 use Rattle.listing.proofs.Writing.{writes-same}
 use Rattle.listing.proofs.LineTexts.{one_number}
@@ -7,9 +6,6 @@ use borrow.Author.Rules.{rules}
 use Rattle.commands.proofs.commands.refused_line.Statement.{statement}
 use Rattle.commands.proofs.commands.refused_line.Tie as tie
 
-slice-aggregate-counted-line : tie.Need-slice-aggregate-counted-line
-slice-aggregate-counted-line c = search rules
-
 counted-line-requires : tie.Need-counted_line-requires
 counted-line-requires c κs = search rules
 
@@ -17,8 +13,8 @@ same_length : tie.Need-shape_of-out
 same_length c = search rules
 
 returns : tie.Need-returns
-returns c = writes-same (omega arith) (one_number (codes "refused") c.before.before.before.before.before.before.args.k) c.before.before.counted_line.ensures
+returns c = writes-same (omega arith) (one_number (codes "refused") c.args.k) c.counted_line.ensures
 
 pub refused_line_spec : {M : Type 1} → statement M
 refused_line_spec =
-    tie.close (tie.spec slice-aggregate-counted-line counted-line-requires same_length returns)
+    tie.close (tie.spec counted-line-requires same_length returns)

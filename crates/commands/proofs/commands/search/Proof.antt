@@ -1,6 +1,6 @@
 use mathlib.Core.Path.{refl, ap, ap₂, ◌∙◌}
 use mathlib.Core.List.{List}
-use Prim.Native.Nat.{ℕ, ◌-◌}
+use Prim.Native.Nat.{ℕ}
 use native.Mathlib.Omega.{arith}
 use lib.ListN.{take, drop}
 use Rattle.listing.proofs.Writing.{writes-same}
@@ -39,22 +39,16 @@ same_length c = search rules
 
 returns : tie.Need-returns
 returns c =
-    let at-p4 = c.before.before.before.before in
-    let f = at-p4 in
-    let u = f.before in
-    let h = u.before in
-    let l = h.before in
-    let st = l.before.before.before.before in
-    let n : ℕ = st.args.axes in
-    let a : List ℕ = st.args.set.now in
-    let s : List ℕ = st.args.s.now in
+    let n : ℕ = c.args.axes in
+    let a : List ℕ = c.args.set.now in
+    let s : List ℕ = c.args.s.now in
     writes-same (omega arith)
     (ap (tells search_line)
     (ap (found_is n)
-    (f.first-point.ensures ∙ ap₂ (λ (x y : List ℤ). answer_of (search_bytes n a x y u.u32-at.result)) l.point.ensures h.point2.ensures ∙ ap
-    (λ (k : ℕ). answer_of (search_bytes n a (coordinates 8 (drop 5 s)) (coordinates 8 (drop 37 s)) k)) u.u32-at.ensures.0)
+    (c.first_point-f.ensures ∙ ap₂ (λ (x y : List ℤ). answer_of (search_bytes n a x y c.u32_at.result)) c.point.ensures c.point-2.ensures ∙ ap
+    (λ (k : ℕ). answer_of (search_bytes n a (coordinates 8 (drop 5 s)) (coordinates 8 (drop 37 s)) k)) c.u32_at.ensures.0)
     ∙ found-is n a (coordinates 8 (drop 5 s)) (coordinates 8 (drop 37 s)) (value_of (take 4 (drop 1 s))) refl refl))
-    c.before.before.found_line.ensures
+    c.found_line.ensures
 
 pub search_spec : {M : Type 1} → statement M
 search_spec =

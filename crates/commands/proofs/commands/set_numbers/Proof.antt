@@ -15,7 +15,7 @@ returns-4 : tie.Need-returns-then-b-eq68
 returns-4 c = rw c.if-b-eq68.true
 
 returns-5 : tie.Need-returns
-returns-5 c = simp (ne_eqb _ _ c.before.before.before.if-b-eq65.false, ne_eqb _ _ c.before.before.if-b-eq66.false, ne_eqb _ _ c.before.if-b-eq67.false, ne_eqb _ _ c.if-b-eq68.false)
+returns-5 c = simp (ne_eqb _ _ c.if-b-eq65.false, ne_eqb _ _ c.if-b-eq66.false, ne_eqb _ _ c.if-b-eq67.false, ne_eqb _ _ c.if-b-eq68.false)
 
 pub set_numbers_spec : {M : Type 1} → statement M
 set_numbers_spec = tie.close (tie.spec returns returns-2 returns-3 returns-4 returns-5)

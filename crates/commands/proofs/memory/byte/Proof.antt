@@ -1,5 +1,4 @@
 use mathlib.Core.Path.{refl}
-use Prim.Native.Nat.{◌-◌}
 use native.Mathlib.Omega.{arith}
 use borrow.Author.Rules.{rules}
 use Rattle.commands.proofs.memory.byte.Statement.{statement}
@@ -9,10 +8,10 @@ shared-slice-read-result : tie.Need-bounds-s-i
 shared-slice-read-result c = search rules
 
 cast-result : tie.Need-overflow_cast-result
-cast-result c = omega (arith, c.shared_slice_known-1.given c.before.args.i)
+cast-result c = omega (arith, c.shared_slice_known-1.given c.args.i)
 
 returns : tie.Need-returns
-returns c = (refl, omega (arith, c.shared_slice_known-1.given c.before.args.i))
+returns c = (refl, omega (arith, c.shared_slice_known-1.given c.args.i))
 
 pub byte_spec : {M : Type 1} → statement M
 byte_spec = tie.close (tie.spec shared-slice-read-result cast-result returns)

@@ -1,5 +1,4 @@
 use mathlib.Core.Path.{refl, ap, sym, ◌∙◌}
-use Prim.Native.Nat.{◌-◌}
 use native.Mathlib.Omega.{arith}
 use Rattle.commands.proofs.Answers.{load-refused, load-long, load_gives, cleared-all, loaded-table, result-same}
 use Rattle.codec.specs.Bytes.{gives}
@@ -21,9 +20,8 @@ same_length c = search rules
 
 returns : tie.Need-returns-then-k-ne0
 returns c =
-    let at-if1 = c.before.before.before.before in let at-check = at-if1.before in let st = at-check.before.before.before in
-    result-same refl (sym (load-refused st.args.n st.args.set.now at-check.check.result at-check.check.ensures at-if1.if1.true))
-    (record { answer = refl; bytes = c.before.before.clear.ensures ∙ cleared-all st.args.res.now at-check.check.result st.requires })
+    result-same refl (sym (load-refused c.args.n c.args.set.now c.check-k.result c.check-k.ensures c.if-k-ne0.true))
+    (record { answer = refl; bytes = c.clear.ensures ∙ cleared-all c.args.res.now c.check-k.result c.requires })
 
 clear-requires-2 : tie.Need-clear-requires-then-set-gt-SET_BYTES
 clear-requires-2 c κs = search rules
@@ -33,12 +31,11 @@ same-length-2 c = search rules
 
 returns-2 : tie.Need-returns-then-set-gt-SET_BYTES
 returns-2 c =
-    let at-if2 = c.before.before.before.before in let at-if1 = at-if2.before in let at-check = at-if1.before in let st = at-check.before.before.before in
     result-same refl
     (sym
-    (load-long st.args.n st.args.set.now at-check.check.result at-check.check.ensures (set_from st.args.set.now 0)
-    (decode_is st.args.n st.args.set.now (sym at-check.check.ensures ∙ at-if1.if1.false)) at-if2.if2.true))
-    (record { answer = refl; bytes = c.before.before.clear-then-set-gt-SET_BYTES.ensures ∙ cleared-all st.args.res.now 11 st.requires })
+    (load-long c.args.n c.args.set.now c.check-k.result c.check-k.ensures (set_from c.args.set.now 0)
+    (decode_is c.args.n c.args.set.now (sym c.check-k.ensures ∙ c.if-k-ne0.false)) c.if-set-gt-SET_BYTES.true))
+    (record { answer = refl; bytes = c.clear-then-set-gt-SET_BYTES.ensures ∙ cleared-all c.args.res.now 11 c.requires })
 
 word-requires : tie.Need-word-end-requires
 word-requires c κs = search rules
@@ -51,15 +48,13 @@ same-length-3 c = search rules
 
 returns-3 : tie.Need-returns
 returns-3 c =
-    let at-word = c.before.before.before.before.before.before in let at-if1 = at-word.before.before.before in let at-check = at-if1.before in
-    let st = at-check.before.before.before in
-    let w = at-word.word.ensures.wrote in
+    let w = c.word-end.ensures.wrote in
     let l = wrote-length w in
     result-same refl
     (sym
-    (load_gives st.args.n st.args.set.now at-check.check.result at-check.check.ensures (set_from st.args.set.now 0)
-    (decode_is st.args.n st.args.set.now (sym at-check.check.ensures ∙ at-if1.if1.false)) (omega arith)))
-    (record { answer = ap gives (let e = w.end_is in omega arith); bytes = c.before.before.clear-2.ensures ∙ loaded-table st.args.set.now st.args.res.now at-word.word.new.out at-word.word.result st.requires (l ∙ st.requires) w })
+    (load_gives c.args.n c.args.set.now c.check-k.result c.check-k.ensures (set_from c.args.set.now 0)
+    (decode_is c.args.n c.args.set.now (sym c.check-k.ensures ∙ c.if-k-ne0.false)) (omega arith)))
+    (record { answer = ap gives (let e = w.end_is in omega arith); bytes = c.clear-2.ensures ∙ loaded-table c.args.set.now c.args.res.now c.word-end.new.out c.word-end.result c.requires (l ∙ c.requires) w })
 
 pub load_spec : {M : Type 1} → statement M
 load_spec =

@@ -16,7 +16,7 @@ shared-slice-read-end : tie.Need-bounds-lengths-m
 shared-slice-read-end c = search rules
 
 add-end : tie.Need-overflow_add-end
-add-end c = let f = c.before.requires.0.fit c.before.args.m in omega arith
+add-end c = let f = c.requires.0.fit c.args.m in omega arith
 
 sub-result : tie.Need-slice_bounds-result-count
 sub-result c = search rules
@@ -25,13 +25,12 @@ part-result-start : tie.Need-slice_bounds-result-start
 part-result-start c = search rules
 
 part-result-end : tie.Need-slice_bounds-result-end
-part-result-end c = let f = c.before.requires.0.fit c.before.args.m in let t = c.before.requires.0.tables_long in omega arith
+part-result-end c = let f = c.requires.0.fit c.args.m in let t = c.requires.0.tables_long in omega arith
 
 returns : tie.Need-returns
 returns c =
-    let st = c.before.before in
-    let e : 8000 * st.args.m + get_or st.args.lengths.now st.args.m 0 - 8000 * st.args.m ≡ get_or st.args.lengths.now st.args.m 0 = omega arith in
-    ap (λ (k : ℕ). take k (drop (8000 * st.args.m) st.args.tables.now)) e
+    let e : 8000 * c.args.m + get_or c.args.lengths.now c.args.m 0 - 8000 * c.args.m ≡ get_or c.args.lengths.now c.args.m 0 = omega arith in
+    ap (λ (k : ℕ). take k (drop (8000 * c.args.m) c.args.tables.now)) e
 
 pub table_spec : {M : Type 1} → statement M
 table_spec =
