@@ -193,7 +193,7 @@ class Turner:
 
     def chains(self, text, env):
         env = dict(env)
-        token = re.compile(rf"\blet (?P<var>[\w']+)(?= [:=])|(?P<head>\)|(?<![\w.'-])[A-Za-z_][^\s(){{}}.;,]*)(?P<fields>(?:\.{NAME})*)")
+        token = re.compile(rf"\blet (?P<var>[\w'-]+)(?= [:=])|(?P<head>\)|(?<![\w.'-])[A-Za-z_][^\s(){{}}.;,]*)(?P<fields>(?:\.{NAME})*)")
         out, last, variable = [], 0, None
         for m in token.finditer(text):
             if m["var"]:
