@@ -23,7 +23,7 @@ fixed-width-requires c κs = search rules
 returns-2 : tie.Need-returns-then-w-eq0
 returns-2 c =
     let at-if1 = c.before.before.before in let st = at-if1.before.before in
-    sym (front-unknown st.args.axes st.args.ended st.args.s.now c.before.fixed_width-w.result at-if1.if-s-eq0.false c.before.fixed_width-w.ensures.0 c.if-w-eq0.true)
+    sym (front-unknown st.args.axes st.args.ended st.args.s.now c.before.fixed_width-w.result at-if1.if1.false c.before.fixed_width-w.ensures.0 c.if-w-eq0.true)
 
 in-place-requires : tie.Need-in_place-requires
 in-place-requires c κs = search rules
@@ -32,7 +32,7 @@ returns-3 : tie.Need-returns-then-not-in_place
 returns-3 c =
     let at-fixed-width = c.before.before.before in let at-if1 = at-fixed-width.before.before in let st = at-if1.before.before in
     sym
-    (front-place st.args.axes st.args.ended st.args.s.now at-fixed-width.fixed_width-w.result at-if1.if-s-eq0.false at-fixed-width.fixed_width-w.ensures.0
+    (front-place st.args.axes st.args.ended st.args.s.now at-fixed-width.fixed-width.result at-if1.if1.false at-fixed-width.fixed-width.ensures.0
     c.before.before.if-w-eq0.false (sym c.before.in_place.ensures ∙ not-true _ c.if-not-in_place.true-raw))
 
 cut-off-requires-2 : tie.Need-cut_off-requires-then-s-w
@@ -42,9 +42,9 @@ returns-4 : tie.Need-returns-then-s-w
 returns-4 c =
     let at-in-place = c.before.before.before in let at-if2 = at-in-place.before in let at-fixed-width = at-if2.before in let at-if1 = at-fixed-width.before.before in
     let st = at-if1.before.before in
-    let l = width-least st.args.s.now at-fixed-width.fixed_width-w.result at-if1.if-s-eq0.false at-fixed-width.fixed_width-w.ensures.0 in
+    let l = width-least st.args.s.now at-fixed-width.fixed-width.result at-if1.if1.false at-fixed-width.fixed-width.ensures.0 in
     c.cut_off-then-s-w.ensures ∙ sym
-    (front_cut st.args.axes st.args.ended st.args.s.now at-fixed-width.fixed_width-w.result at-if1.if-s-eq0.false at-fixed-width.fixed_width-w.ensures.0 at-if2.if-w-eq0.false
+    (front_cut st.args.axes st.args.ended st.args.s.now at-fixed-width.fixed-width.result at-if1.if1.false at-fixed-width.fixed-width.ensures.0 at-if2.if2.false
     (sym at-in-place.in_place.ensures ∙ not-false _ c.before.before.if-not-in_place.false-raw) (omega arith))
 
 load-length-requires : tie.Need-load_length-requires
@@ -60,21 +60,21 @@ returns-5 : tie.Need-returns-then-s-l
 returns-5 c =
     let at-if3 = c.before.before.before.before in let at-in-place = at-if3.before in let at-if2 = at-in-place.before in let at-fixed-width = at-if2.before in
     let at-if1 = at-fixed-width.before.before in let st = at-if1.before.before in
-    let l = width_of st.args.s.now at-fixed-width.fixed_width-w.result c.before.before.load_length.result at-if1.if-s-eq0.false at-fixed-width.fixed_width-w.ensures.0
+    let l = width_of st.args.s.now at-fixed-width.fixed-width.result c.before.before.load_length.result at-if1.if1.false at-fixed-width.fixed-width.ensures.0
     c.before.before.load_length.ensures.0 in
     c.cut_off-then-s-l.ensures ∙ sym
-    (front_cut st.args.axes st.args.ended st.args.s.now at-fixed-width.fixed_width-w.result at-if1.if-s-eq0.false at-fixed-width.fixed_width-w.ensures.0 at-if2.if-w-eq0.false
-    (sym at-in-place.in_place.ensures ∙ not-false _ at-if3.if-not-in_place.false-raw) (omega arith))
+    (front_cut st.args.axes st.args.ended st.args.s.now at-fixed-width.fixed-width.result at-if1.if1.false at-fixed-width.fixed-width.ensures.0 at-if2.if2.false
+    (sym at-in-place.in_place.ensures ∙ not-false _ at-if3.if3.false) (omega arith))
 
 returns-6 : tie.Need-returns
 returns-6 c =
     let at-if3 = c.before.before.before in let at-in-place = at-if3.before in let at-if2 = at-in-place.before in let at-fixed-width = at-if2.before in
     let at-if1 = at-fixed-width.before.before in let st = at-if1.before.before in
-    let l = width_of st.args.s.now at-fixed-width.fixed_width-w.result c.before.load_length.result at-if1.if-s-eq0.false at-fixed-width.fixed_width-w.ensures.0
+    let l = width_of st.args.s.now at-fixed-width.fixed-width.result c.before.load_length.result at-if1.if1.false at-fixed-width.fixed-width.ensures.0
     c.before.load_length.ensures.0 in
     ap Whole l ∙ sym
-    (front-whole st.args.axes st.args.ended st.args.s.now at-fixed-width.fixed_width-w.result at-if1.if-s-eq0.false at-fixed-width.fixed_width-w.ensures.0 at-if2.if-w-eq0.false
-    (sym at-in-place.in_place.ensures ∙ not-false _ at-if3.if-not-in_place.false-raw) (omega arith))
+    (front-whole st.args.axes st.args.ended st.args.s.now at-fixed-width.fixed-width.result at-if1.if1.false at-fixed-width.fixed-width.ensures.0 at-if2.if2.false
+    (sym at-in-place.in_place.ensures ∙ not-false _ at-if3.if3.false) (omega arith))
 
 pub next_spec : {M : Type 1} → statement M
 next_spec =

@@ -28,7 +28,7 @@ returns-4 c =
     let at-if2 = c.before.before.before in let at-if1 = at-if2.before.before in let st = at-if1.before in
     let k = st.args.c in
     sym
-    (ap₂ (λ (x y : Bool). x && (y && (leb k.basics room && leb k.divisions 8))) (le-leb _ _ at-if1.if-set-gt3.false) (le-leb _ _ at-if2.if-lengths-set.false) ∙ ap
+    (ap₂ (λ (x y : Bool). x && (y && (leb k.basics room && leb k.divisions 8))) (le-leb _ _ at-if1.if1.false) (le-leb _ _ at-if2.if2.false) ∙ ap
     (λ (z : Bool). z && leb k.divisions 8) (le-leb _ _ c.before.if-c-gt-SET_BYTES.false))
 
 pub cursor_fits_spec : {M : Type 1} → statement M

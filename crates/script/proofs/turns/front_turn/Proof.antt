@@ -82,7 +82,7 @@ returns-3 c =
     (sym (sym at_next.next.ensures ∙ at-f2.f2.given.1)))
     (command-turn st.args.state (memory st.args.tables.now st.args.lengths.now st.args.res.now) _ _
     (sym (length-take-le _ st.args.input.now (fronted st.args.state.axes st.args.ended st.args.input.now _ (sym at_next.next.ensures ∙ at-f2.f2.given.1)).inside))
-    c.after.ensures at-command.command-d.ensures.0 at-command.command-d.ensures.1)
+    c.after.ensures at-command.command.ensures.0 at-command.command.ensures.1)
 
 pub front_turn_spec : {M : Type 1} → statement M
 front_turn_spec =

@@ -32,8 +32,8 @@ returns : tie.Need-returns-then-lengths-i-gt-SET_BYTES invariant-loop decreases-
 returns c =
     let in-loop = c.before.before.before in let st = in-loop.before in
     sym
-    (sym in-loop.loop-i.invariant.1 ∙ all_from in-loop.loop-i.i st.args.lengths.now c.before.before.loop-i-test.true ∙ ap
-    (λ (x : Bool). x && all (λ (l : ℕ). leb l room) (drop (in-loop.loop-i.i + 1) st.args.lengths.now)) (lt-leb _ _ c.if-lengths-i-gt-SET_BYTES.true))
+    (sym in-loop.loop.invariant.1 ∙ all_from in-loop.loop.i st.args.lengths.now c.before.before.loop-i-test.true ∙ ap
+    (λ (x : Bool). x && all (λ (l : ℕ). leb l room) (drop (in-loop.loop.i + 1) st.args.lengths.now)) (lt-leb _ _ c.if-lengths-i-gt-SET_BYTES.true))
 
 add-i : tie.Need-overflow_add-i invariant-loop decreases-loop
 add-i c = search rules
@@ -46,9 +46,9 @@ loop-again c =
     let in-loop = c.before.before.before in let st = in-loop.before in (
       omega arith,
       sym
-          (all_from in-loop.loop-i.i st.args.lengths.now c.before.before.loop-i-test.true ∙ ap
-          (λ (x : Bool). x && all (λ (l : ℕ). leb l room) (drop (in-loop.loop-i.i + 1) st.args.lengths.now)) (le-leb _ _ c.if-lengths-i-gt-SET_BYTES.false))
-          ∙ in-loop.loop-i.invariant.1,
+          (all_from in-loop.loop.i st.args.lengths.now c.before.before.loop-i-test.true ∙ ap
+          (λ (x : Bool). x && all (λ (l : ℕ). leb l room) (drop (in-loop.loop.i + 1) st.args.lengths.now)) (le-leb _ _ c.if-lengths-i-gt-SET_BYTES.false))
+          ∙ in-loop.loop.invariant.1,
     )
 
 returns-2 : tie.Need-returns invariant-loop decreases-loop

@@ -41,9 +41,9 @@ returns-2 c =
     let at-if1 = c.before.before.before.before in let at_table = at-if1.before in let st = at_table.before.before.before.before in
     says_same
     (sym
-    (over-unknown st.args.axes (memory [] [] []) st.args.c _ st.args.c.place at-if1.if-s-place.false c.before.before.width-w.result c.before.before.width-w.ensures
+    (over-unknown st.args.axes (memory [] [] []) st.args.c _ st.args.c.place at-if1.if1.false c.before.before.width-w.result c.before.before.width-w.ensures
     c.before.if-w-eq0.true)
-    ∙ ap (λ (l : List ℕ). line_turn st.args.axes (memory [] [] []) st.args.c (drop st.args.c.place l)) at_table.table-s.ensures)
+    ∙ ap (λ (l : List ℕ). line_turn st.args.axes (memory [] [] []) st.args.c (drop st.args.c.place l)) at_table.table.ensures)
     (says-quiet (state_at st.args.axes Nothing) (memory [] [] []) Goes st.args.out.now c.over-then-w-eq0.ensures)
 
 sub-if3 : tie.Need-overflow_sub-s
@@ -57,15 +57,15 @@ returns-3 c =
     let at_width = c.before.before.before in let at-if1 = at_width.before.before in let at_table = at-if1.before in let st = at_table.before.before.before.before in
     says_same
     (sym
-    (over-cut st.args.axes (memory [] [] []) st.args.c _ st.args.c.place at-if1.if-s-place.false at_width.width-w.result at_width.width-w.ensures c.before.before.if-w-eq0.false
+    (over-cut st.args.axes (memory [] [] []) st.args.c _ st.args.c.place at-if1.if1.false at_width.width-w.result at_width.width-w.ensures c.before.before.if-w-eq0.false
     c.before.if-s-place-2.true)
-    ∙ ap (λ (l : List ℕ). line_turn st.args.axes (memory [] [] []) st.args.c (drop st.args.c.place l)) at_table.table-s.ensures)
+    ∙ ap (λ (l : List ℕ). line_turn st.args.axes (memory [] [] []) st.args.c (drop st.args.c.place l)) at_table.table.ensures)
     (says-quiet (state_at st.args.axes Nothing) (memory [] [] []) Goes st.args.out.now c.over-then-s-place-2.ensures)
 
 line-requires : tie.Need-line-text-requires
 line-requires c κs =
     let at_width = c.before.before.before in let at-if1 = at_width.before.before in let st = at-if1.before.before.before.before.before in
-    let e = at_width.width-w.ensures in let n = c.before.before.if-w-eq0.false in let l = c.before.if-s-place-2.false in let h = at-if1.if-s-place.false in
+    let e = at_width.width-w.ensures in let n = c.before.before.if-w-eq0.false in let l = c.before.if-s-place-2.false in let h = at-if1.if1.false in
     record { axes = st.requires.2; line_long = st.requires.3; few_basics = st.requires.1.few_basics; few_divisions = st.requires.1.few_divisions; whole = record { known = omega arith; room = omega arith } }
 
 past-requires : tie.Need-past-requires
@@ -84,10 +84,10 @@ returns-4 c =
     let at-if1 = at_width.before.before in let at_table = at-if1.before in let st = at_table.before.before.before.before in
     says_same
     (sym
-    (line-there st.args.axes (memory [] [] []) st.args.c _ st.args.c.place at-if1.if-s-place.false at_width.width-w.result at_width.width-w.ensures at-if2.if-w-eq0.false
-    at-if3.if-s-place-2.false)
-    ∙ ap (λ (l : List ℕ). line_turn st.args.axes (memory [] [] []) st.args.c (drop st.args.c.place l)) at_table.table-s.ensures)
-    (record { text = at-line.line-text.ensures.wrote; used = refl; state = ap (λ (x : Cursor). state_at st.args.axes (From x)) c.past.ensures; next = refl })
+    (line-there st.args.axes (memory [] [] []) st.args.c _ st.args.c.place at-if1.if1.false at_width.width.result at_width.width.ensures at-if2.if2.false
+    at-if3.if3.false)
+    ∙ ap (λ (l : List ℕ). line_turn st.args.axes (memory [] [] []) st.args.c (drop st.args.c.place l)) at_table.table.ensures)
+    (record { text = at-line.line.ensures.wrote; used = refl; state = ap (λ (x : Cursor). state_at st.args.axes (From x)) c.past.ensures; next = refl })
 
 pub listing_turn_spec : {M : Type 1} → statement M
 listing_turn_spec =

@@ -59,7 +59,7 @@ front-turn-requires c κs =
     let at-if1 = c.before.before.before.before.before.before in let at-usable = at-if1.before in
     let st = at-usable.before.before.before.before.before.before.before.before.before in
     (lent st.args.state (memory st.args.tables.now st.args.lengths.now st.args.res.now) st.args.out.now
-    (sym at-usable.usable.ensures ∙ not-false _ at-if1.if-not-usable.false-raw)).usable_is
+    (sym at-usable.usable.ensures ∙ not-false _ at-if1.if1.false)).usable_is
 
 same-length-4 : tie.Need-shape_of-tables-in-From
 same-length-4 c = search rules
@@ -104,8 +104,8 @@ returns-3 c =
     turn-same
     (sym
     (turn_in st.args.state (memory st.args.tables.now st.args.lengths.now st.args.res.now) (length st.args.out.now) st.args.ended st.args.input.now
-    (sym at-usable.usable.ensures ∙ not-false _ at-if1.if-not-usable.false-raw) _ at-enum-told.enum_told-1.given.1))
-    at-front-turn.front_turn.ensures
+    (sym at-usable.usable.ensures ∙ not-false _ at-if1.if1.false) _ at-enum-told.enum_told.given.1))
+    at-front-turn.front-turn.ensures
 
 pub step_spec : {M : Type 1} → statement M
 step_spec =

@@ -24,16 +24,16 @@ returns-4 : tie.Need-returns-then-res-ne-SET_BYTES
 unfolding Rattle.session.specs.Turns.usable
 returns-4 c =
     let at-if2 = c.before.before.before in let at-if1 = at-if2.before in
-    rw (eq-eqb _ _ at-if1.if-tables-ne32000.false, eq-eqb _ _ at-if2.if-lengths-ne4.false, sym c.before.before.lengths_fit.ensures ∙ not-false _ c.before.if-not-lengths_fit.false-raw, ne_eqb _ _ c.if-res-ne-SET_BYTES.true)
+    rw (eq-eqb _ _ at-if1.if1.false, eq-eqb _ _ at-if2.if2.false, sym c.before.before.lengths_fit.ensures ∙ not-false _ c.before.if-not-lengths_fit.false-raw, ne_eqb _ _ c.if-res-ne-SET_BYTES.true)
 
 returns-5 : tie.Need-returns-then-width-lt512
 unfolding Rattle.session.specs.Turns.usable
 returns-5 c =
     let at-lengths-fit = c.before.before.before in let at-if2 = at-lengths-fit.before in let at-if1 = at-if2.before in
     rw (
-      eq-eqb _ _ at-if1.if-tables-ne32000.false,
-      eq-eqb _ _ at-if2.if-lengths-ne4.false,
-      sym at-lengths-fit.lengths_fit.ensures ∙ not-false _ c.before.before.if-not-lengths_fit.false-raw,
+      eq-eqb _ _ at-if1.if1.false,
+      eq-eqb _ _ at-if2.if2.false,
+      sym at-lengths-fit.lengths-fit.ensures ∙ not-false _ c.before.before.if-not-lengths_fit.false-raw,
       eq-eqb _ _
           c.before.if-res-ne-SET_BYTES.false,
       lt-leb _ _ c.if-width-lt512.true,
@@ -44,9 +44,9 @@ unfolding Rattle.session.specs.Turns.usable
 returns-6 c =
     let at-if3 = c.before.before.before in let at-lengths-fit = at-if3.before in let at-if2 = at-lengths-fit.before in let at-if1 = at-if2.before in
     rw (
-      eq-eqb _ _ at-if1.if-tables-ne32000.false,
-      eq-eqb _ _ at-if2.if-lengths-ne4.false,
-      sym at-lengths-fit.lengths_fit.ensures ∙ not-false _ at-if3.if-not-lengths_fit.false-raw,
+      eq-eqb _ _ at-if1.if1.false,
+      eq-eqb _ _ at-if2.if2.false,
+      sym at-lengths-fit.lengths-fit.ensures ∙ not-false _ at-if3.if3.false,
       eq-eqb _ _
           c.before.before.if-res-ne-SET_BYTES.false,
       le-leb _ _ c.before.if-width-lt512.false,
@@ -68,12 +68,12 @@ returns-7 c =
     let at-if5 = c.before.before.before in let at-if4 = at-if5.before in let at-if3 = at-if4.before in let at-lengths-fit = at-if3.before in let at-if2 = at-lengths-fit.before in
     let at-if1 = at-if2.before in
     rw (
-      eq-eqb _ _ at-if1.if-tables-ne32000.false,
-      eq-eqb _ _ at-if2.if-lengths-ne4.false,
-      sym at-lengths-fit.lengths_fit.ensures ∙ not-false _ at-if3.if-not-lengths_fit.false-raw,
-      eq-eqb _ _ at-if4.if-res-ne-SET_BYTES.false,
+      eq-eqb _ _ at-if1.if1.false,
+      eq-eqb _ _ at-if2.if2.false,
+      sym at-lengths-fit.lengths-fit.ensures ∙ not-false _ at-if3.if3.false,
+      eq-eqb _ _ at-if4.if4.false,
       le-leb _ _
-          at-if5.if-width-lt512.false,
+          at-if5.if5.false,
       le-leb _ _ c.before.before.if-axes-gt-AXES.false,
       c.enum_told-1.given.1,
     )
@@ -84,13 +84,13 @@ returns-8 c =
     let at-if6 = c.before.before.before.before in let at-if5 = at-if6.before in let at-if4 = at-if5.before in let at-if3 = at-if4.before in let at-lengths-fit = at-if3.before in
     let at-if2 = at-lengths-fit.before in let at-if1 = at-if2.before in
     c.cursor_fits.ensures ∙ rw (
-      eq-eqb _ _ at-if1.if-tables-ne32000.false,
-      eq-eqb _ _ at-if2.if-lengths-ne4.false,
-      sym at-lengths-fit.lengths_fit.ensures ∙ not-false _ at-if3.if-not-lengths_fit.false-raw,
-      eq-eqb _ _ at-if4.if-res-ne-SET_BYTES.false,
+      eq-eqb _ _ at-if1.if1.false,
+      eq-eqb _ _ at-if2.if2.false,
+      sym at-lengths-fit.lengths-fit.ensures ∙ not-false _ at-if3.if3.false,
+      eq-eqb _ _ at-if4.if4.false,
       le-leb _ _
-          at-if5.if-width-lt512.false,
-      le-leb _ _ at-if6.if-axes-gt-AXES.false,
+          at-if5.if5.false,
+      le-leb _ _ at-if6.if6.false,
       c.before.before.listing-1.given.1,
     )
 
