@@ -1,5 +1,5 @@
 -- What the functions of a turn ask and give.
-use Rattle.std.specs.Prelude.{◌≡◌, List, ℕ, suc, ◌≤◌, ◌<◌, length, get_or, set}
+use Rattle.std.specs.Prelude.{◌≡◌, List, ℕ, ◌≤◌, length, get_or}
 use Rattle.model.specs.Limits.{most_axes, most_divisions}
 use Rattle.codec.specs.Places.{Whole}
 use Rattle.session.specs.Script.{room}

@@ -34,24 +34,22 @@ returns-10 : tie.Need-returns-then-b-eq67
 returns-10 c = (rw c.if-b-eq67.true, omega arith)
 
 returns-11 : tie.Need-returns
-returns-11 c =
-    let at-if7 = c.before.before.before in let at-if6 = at-if7.before in let at-if5 = at-if6.before in let at-if4 = at-if5.before in let at-if3 = at-if4.before in
-    let at-if2 = at-if3.before in let at-if1 = at-if2.before in (
-      simp (
-        ne_eqb _ _ at-if1.if1.false,
-        ne_eqb _ _ at-if2.if2.false,
-        ne_eqb _ _ at-if3.if3.false,
-        ne_eqb _ _ at-if4.if4.false,
-        ne_eqb _ _ at-if5.if5.false,
-        ne_eqb _ _
-            at-if6.if6.false,
-        ne_eqb _ _ at-if7.if7.false,
-        ne_eqb _ _ c.before.before.if-b-eq65.false,
-        ne_eqb _ _ c.before.if-b-eq66.false,
-        ne_eqb _ _ c.if-b-eq67.false,
-      ),
-      omega arith,
-    )
+returns-11 c = (
+  simp (
+    ne_eqb _ _ c.if-b-eq0.false,
+    ne_eqb _ _ c.if-b-eq16.false,
+    ne_eqb _ _ c.if-b-eq68.false,
+    ne_eqb _ _ c.if-b-eq69.false,
+    ne_eqb _ _ c.if-b-eq70.false,
+    ne_eqb _ _
+        c.if-b-eq71.false,
+    ne_eqb _ _ c.if-b-eq64.false,
+    ne_eqb _ _ c.if-b-eq65.false,
+    ne_eqb _ _ c.if-b-eq66.false,
+    ne_eqb _ _ c.if-b-eq67.false,
+  ),
+  omega arith,
+)
 
 pub fixed_width_spec : {M : Type 1} → statement M
 fixed_width_spec =

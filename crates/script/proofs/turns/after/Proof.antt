@@ -1,6 +1,5 @@
 use mathlib.Core.Path.{ap, sym}
 use mathlib.Core.Bool.{Bool}
-use Prim.Native.Nat.{◌-◌}
 use Rattle.session.specs.Turns.{goes_on, state_at}
 use Rattle.script.proofs.turns.after.Statement.{statement}
 use Rattle.script.proofs.turns.after.Tie as tie

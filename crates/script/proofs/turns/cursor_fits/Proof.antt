@@ -18,18 +18,17 @@ shared-slice-read-if2 : tie.Need-bounds-lengths-set
 shared-slice-read-if2 c = search rules
 
 returns-2 : tie.Need-returns-then-lengths-set
-returns-2 c = simp (le-leb _ _ c.before.before.if-set-gt3.false, lt-leb _ _ c.if-lengths-set.true)
+returns-2 c = simp (le-leb _ _ c.if-set-gt3.false, lt-leb _ _ c.if-lengths-set.true)
 
 returns-3 : tie.Need-returns-then-c-gt-SET_BYTES
-returns-3 c = simp (le-leb _ _ c.before.before.before.before.if-set-gt3.false, le-leb _ _ c.before.before.if-lengths-set.false, lt-leb _ _ c.if-c-gt-SET_BYTES.true)
+returns-3 c = simp (le-leb _ _ c.if-set-gt3.false, le-leb _ _ c.if-lengths-set.false, lt-leb _ _ c.if-c-gt-SET_BYTES.true)
 
 returns-4 : tie.Need-returns
 returns-4 c =
-    let at-if2 = c.before.before.before in let at-if1 = at-if2.before.before in let st = at-if1.before in
-    let k = st.args.c in
+    let k = c.args.c in
     sym
-    (ap₂ (λ (x y : Bool). x && (y && (leb k.basics room && leb k.divisions 8))) (le-leb _ _ at-if1.if1.false) (le-leb _ _ at-if2.if2.false) ∙ ap
-    (λ (z : Bool). z && leb k.divisions 8) (le-leb _ _ c.before.if-c-gt-SET_BYTES.false))
+    (ap₂ (λ (x y : Bool). x && (y && (leb k.basics room && leb k.divisions 8))) (le-leb _ _ c.if-set-gt3.false) (le-leb _ _ c.if-lengths-set.false) ∙ ap
+    (λ (z : Bool). z && leb k.divisions 8) (le-leb _ _ c.if-c-gt-SET_BYTES.false))
 
 pub cursor_fits_spec : {M : Type 1} → statement M
 cursor_fits_spec =

@@ -1,5 +1,4 @@
 use mathlib.Core.Path.{ap, sym, ◌∙◌}
-use Prim.Native.Nat.{◌-◌}
 use Rattle.script.proofs.TurnLaws.{fronted, command-turn, stop-turn, quiet-turn, turn-same}
 use lib.Seq.{length-take-le}
 use Rattle.session.specs.Turns.{memory, front_turn}
@@ -28,38 +27,34 @@ enum-known-f-2 c = search rules
 
 slice-aggregate-command : tie.Need-slice_bounds-command-end
 slice-aggregate-command c =
-    let at_next = c.before.before.before.before in let st = at_next.before.before.before.before.before.before in
     sym
-    (length-take-le _ st.args.input.now
-    (fronted st.args.state.axes st.args.ended st.args.input.now _ (sym at_next.next.ensures ∙ c.before.before.f2.given.1)).inside)
+    (length-take-le _ c.args.input.now
+    (fronted c.args.state.axes c.args.ended c.args.input.now _ (sym c.next-f.ensures ∙ c.in-Whole.is)).inside)
 
 command-requires : tie.Need-command-d-requires
 command-requires c κs =
-    let at-f2 = c.before.before.before.before.before.before in let at_next = at-f2.before.before in let st = at_next.before.before.before.before.before.before in
-    ((fronted st.args.state.axes st.args.ended st.args.input.now _ (sym at_next.next.ensures ∙ at-f2.f2.given.1)).single, st.requires)
+    ((fronted c.args.state.axes c.args.ended c.args.input.now _ (sym c.next-f.ensures ∙ c.in-Whole.is)).single, c.requires)
 
 after-requires : tie.Need-after-requires
 after-requires c κs = search rules
 
 returns : tie.Need-returns-in-More
 returns c =
-    let at_next = c.before.before.before in let st = at_next.before.before.before.before.before.before in
     turn-same
-    (ap (front_turn st.args.state (memory st.args.tables.now st.args.lengths.now st.args.res.now) st.args.input.now)
-    (sym (sym at_next.next-f.ensures ∙ c.before.enum_told-1.given.1)))
-    (quiet-turn st.args.state (memory st.args.tables.now st.args.lengths.now st.args.res.now) Reads st.args.out.now c.silent.ensures)
+    (ap (front_turn c.args.state (memory c.args.tables.now c.args.lengths.now c.args.res.now) c.args.input.now)
+    (sym (sym c.next-f.ensures ∙ c.in-More.is)))
+    (quiet-turn c.args.state (memory c.args.tables.now c.args.lengths.now c.args.res.now) Reads c.args.out.now c.silent.ensures)
 
 same_length : tie.Need-shape_of-out-in-Stop
 same_length c = search rules
 
 returns-2 : tie.Need-returns-in-Stop
 returns-2 c =
-    let at_f = c.before.before.before.before.before in let at_next = at_f.before.before in let st = at_next.before.before.before.before.before.before in
     turn-same
-    (ap (front_turn st.args.state (memory st.args.tables.now st.args.lengths.now st.args.res.now) st.args.input.now)
-    (sym (sym at_next.next-f.ensures ∙ at_f.f-1.given.1)))
-    (stop-turn st.args.state (memory st.args.tables.now st.args.lengths.now st.args.res.now) st.args.input.now at_f.f-1.given.0.0
-    c.before.before.refused_line-text.ensures)
+    (ap (front_turn c.args.state (memory c.args.tables.now c.args.lengths.now c.args.res.now) c.args.input.now)
+    (sym (sym c.next-f.ensures ∙ c.in-Stop.is)))
+    (stop-turn c.args.state (memory c.args.tables.now c.args.lengths.now c.args.res.now) c.args.input.now c.in-Stop.k
+    c.refused_line-text.ensures)
 
 same-length-2 : tie.Need-shape_of-tables
 same-length-2 c = search rules
@@ -75,14 +70,12 @@ same-length-5 c = search rules
 
 returns-3 : tie.Need-returns-in-Whole
 returns-3 c =
-    let at-command = c.before.before.before.before.before.before.before.before.before in let at-f2 = at-command.before.before.before.before.before.before.before in
-    let at_next = at-f2.before.before in let st = at_next.before.before.before.before.before.before in
     turn-same
-    (ap (front_turn st.args.state (memory st.args.tables.now st.args.lengths.now st.args.res.now) st.args.input.now)
-    (sym (sym at_next.next.ensures ∙ at-f2.f2.given.1)))
-    (command-turn st.args.state (memory st.args.tables.now st.args.lengths.now st.args.res.now) _ _
-    (sym (length-take-le _ st.args.input.now (fronted st.args.state.axes st.args.ended st.args.input.now _ (sym at_next.next.ensures ∙ at-f2.f2.given.1)).inside))
-    c.after.ensures at-command.command.ensures.0 at-command.command.ensures.1)
+    (ap (front_turn c.args.state (memory c.args.tables.now c.args.lengths.now c.args.res.now) c.args.input.now)
+    (sym (sym c.next-f.ensures ∙ c.in-Whole.is)))
+    (command-turn c.args.state (memory c.args.tables.now c.args.lengths.now c.args.res.now) _ _
+    (sym (length-take-le _ c.args.input.now (fronted c.args.state.axes c.args.ended c.args.input.now _ (sym c.next-f.ensures ∙ c.in-Whole.is)).inside))
+    c.after.ensures c.command-d.ensures.0 c.command-d.ensures.1)
 
 pub front_turn_spec : {M : Type 1} → statement M
 front_turn_spec =

@@ -30,10 +30,9 @@ shared-slice-read-if1 c = search rules
 
 returns : tie.Need-returns-then-lengths-i-gt-SET_BYTES invariant-loop decreases-loop
 returns c =
-    let in-loop = c.before.before.before in let st = in-loop.before in
     sym
-    (sym in-loop.loop.invariant.1 ∙ all_from in-loop.loop.i st.args.lengths.now c.before.before.loop-i-test.true ∙ ap
-    (λ (x : Bool). x && all (λ (l : ℕ). leb l room) (drop (in-loop.loop.i + 1) st.args.lengths.now)) (lt-leb _ _ c.if-lengths-i-gt-SET_BYTES.true))
+    (sym c.loop-i.invariant.1 ∙ all_from c.loop-i.i c.args.lengths.now c.loop-i-test.true ∙ ap
+    (λ (x : Bool). x && all (λ (l : ℕ). leb l room) (drop (c.loop-i.i + 1) c.args.lengths.now)) (lt-leb _ _ c.if-lengths-i-gt-SET_BYTES.true))
 
 add-i : tie.Need-overflow_add-i invariant-loop decreases-loop
 add-i c = search rules
@@ -42,17 +41,16 @@ loop-less : tie.Need-loop-i-smaller invariant-loop decreases-loop
 loop-less c = omega arith
 
 loop-again : tie.Need-loop-i-preserved invariant-loop decreases-loop
-loop-again c =
-    let in-loop = c.before.before.before in let st = in-loop.before in (
-      omega arith,
-      sym
-          (all_from in-loop.loop.i st.args.lengths.now c.before.before.loop-i-test.true ∙ ap
-          (λ (x : Bool). x && all (λ (l : ℕ). leb l room) (drop (in-loop.loop.i + 1) st.args.lengths.now)) (le-leb _ _ c.if-lengths-i-gt-SET_BYTES.false))
-          ∙ in-loop.loop.invariant.1,
-    )
+loop-again c = (
+  omega arith,
+  sym
+      (all_from c.loop-i.i c.args.lengths.now c.loop-i-test.true ∙ ap
+      (λ (x : Bool). x && all (λ (l : ℕ). leb l room) (drop (c.loop-i.i + 1) c.args.lengths.now)) (le-leb _ _ c.if-lengths-i-gt-SET_BYTES.false))
+      ∙ c.loop-i.invariant.1,
+)
 
 returns-2 : tie.Need-returns invariant-loop decreases-loop
-returns-2 c = sym (sym c.before.loop-i.invariant.1 ∙ ap (all (λ (l : ℕ). leb l room)) (drop_of_length-le c.before.before.args.lengths.now c.loop-i-test.false))
+returns-2 c = sym (sym c.loop-i.invariant.1 ∙ ap (all (λ (l : ℕ). leb l room)) (drop_of_length-le c.args.lengths.now c.loop-i-test.false))
 
 pub lengths_fit_spec : {M : Type 1} → statement M
 lengths_fit_spec =

@@ -1,7 +1,7 @@
 use mathlib.Core.Path.{◌≡◌, sym, ap, ap₂, ◌∙◌, subst}
 use mathlib.Core.Bool.{false}
 use mathlib.Core.List.{List}
-use Prim.Native.Nat.{ℕ, ◌+◌, ◌-◌, ◌≤◌}
+use Prim.Native.Nat.{ℕ, ◌+◌, ◌≤◌}
 use native.Mathlib.Omega.{arith}
 use lib.ListN.{length, drop, get_or}
 use Rattle.codec.specs.Bytes.{is_opening, is_division, division_body, constraint_body, kind_of, read_division, read_constraint}
@@ -40,9 +40,6 @@ code-requires c κs = search rules
 is-opening-requires : tie.Need-is_opening-requires
 is-opening-requires c κs = search rules
 
-slice-aggregate-counted-line : tie.Need-slice-aggregate-counted-line
-slice-aggregate-counted-line c = search rules
-
 add-counted-line : tie.Need-overflow_add-basics
 add-counted-line c = search rules
 
@@ -54,8 +51,8 @@ same_length c = search rules
 
 returns : tie.Need-returns-then-is_opening
 returns c =
-    let y = c.before.before.before.before.before in let o = y.before in let a = (st o).args in
-    writes-same (omega arith) (line-basic a.axes a.c (b o) (drop (at o + 1) (s o)) (sym (opening o) ∙ y.if1.true)) c.before.before.counted_line.ensures
+    let o = c.before.before.before.before.before.before.before in let a = (st o).args in
+    writes-same (omega arith) (line-basic a.axes a.c (b o) (drop (at o + 1) (s o)) (sym (opening o) ∙ c.if-is_opening.true)) c.counted_line.ensures
 
 body-requires : tie.Need-body-t-requires
 body-requires c κs = (st c.before).requires.whole
@@ -106,7 +103,6 @@ line_spec =
     (tie.spec
     code-requires
     is-opening-requires
-    slice-aggregate-counted-line
     add-counted-line
     counted-line-requires
     same_length

@@ -1,9 +1,8 @@
 use Rattle.session.specs.declared.Listing.TheVariants.{From}
 use mathlib.Core.Path.{ap, sym, ◌∙◌}
-use Prim.Native.Nat.{◌-◌}
 use lib.ListN.{length, drop}
 use Rattle.script.proofs.TurnLaws.{lent, cursor-in, turn-same, quiet-turn, line-memory}
-use Rattle.session.proofs.Turning.{turn-misused, turn_in}
+use Rattle.session.proofs.Turning.{turn-misused, turn_in_lem}
 use borrow.Author.Tests.{not-true, not-false}
 use Rattle.session.specs.Turns.{memory, cursor_fits, table_at}
 use Rattle.session.specs.declared.Next.TheVariants.{Misused}
@@ -28,25 +27,22 @@ same-length-3 c = search rules
 
 returns : tie.Need-returns-then-not-usable
 returns c =
-    let st = c.before.before.before.before.before.before.before.before.before.before.before in
     turn-same
     (sym
-    (turn-misused st.args.state (memory st.args.tables.now st.args.lengths.now st.args.res.now) (length st.args.out.now) st.args.ended st.args.input.now
-    (sym c.before.before.usable.ensures ∙ not-true _ c.before.if-not-usable.true-raw)))
-    (quiet-turn st.args.state (memory st.args.tables.now st.args.lengths.now st.args.res.now) Misused st.args.out.now c.silent.ensures)
+    (turn-misused c.args.state (memory c.args.tables.now c.args.lengths.now c.args.res.now) (length c.args.out.now) c.args.ended c.args.input.now
+    (sym c.usable.ensures ∙ not-true _ c.if-not-usable.true-raw)))
+    (quiet-turn c.args.state (memory c.args.tables.now c.args.lengths.now c.args.res.now) Misused c.args.out.now c.silent.ensures)
 
 enum-known-listing : tie.Need-enum_known-listing
 enum-known-listing c = search rules
 
 listing-turn-requires : tie.Need-listing_turn-requires
 listing-turn-requires c κs =
-    let at-listing = c.before.before.before.before in let at-if1 = at-listing.before.before in let at-usable = at-if1.before in
-    let st = at-usable.before.before.before.before.before.before.before.before.before in
-    let l = lent st.args.state (memory st.args.tables.now st.args.lengths.now st.args.res.now) st.args.out.now
-    (sym at-usable.usable.ensures ∙ not-false _ at-if1.if1.false) in (
+    let l = lent c.args.state (memory c.args.tables.now c.args.lengths.now c.args.res.now) c.args.out.now
+    (sym c.usable.ensures ∙ not-false _ c.if-not-usable.false-raw) in (
       l.usable_is.fitted,
-      cursor-in _ st.args.lengths.now
-          (ap (cursor_fits st.args.lengths.now) (sym at-listing.listing.given.1) ∙ l.cursor),
+      cursor-in _ c.args.lengths.now
+          (ap (cursor_fits c.args.lengths.now) (sym c.in-From.is) ∙ l.cursor),
       l.usable_is.axes,
       l.usable_is.line_long,
     )
@@ -56,10 +52,8 @@ enum_told c = search rules
 
 front-turn-requires : tie.Need-front_turn-requires
 front-turn-requires c κs =
-    let at-if1 = c.before.before.before.before.before.before in let at-usable = at-if1.before in
-    let st = at-usable.before.before.before.before.before.before.before.before.before in
-    (lent st.args.state (memory st.args.tables.now st.args.lengths.now st.args.res.now) st.args.out.now
-    (sym at-usable.usable.ensures ∙ not-false _ at-if1.if1.false)).usable_is
+    (lent c.args.state (memory c.args.tables.now c.args.lengths.now c.args.res.now) c.args.out.now
+    (sym c.usable.ensures ∙ not-false _ c.if-not-usable.false-raw)).usable_is
 
 same-length-4 : tie.Need-shape_of-tables-in-From
 same-length-4 c = search rules
@@ -75,15 +69,13 @@ same-length-7 c = search rules
 
 returns-2 : tie.Need-returns-in-From
 returns-2 c =
-    let at-listing = c.before.before.before.before.before.before.before in let at-if1 = at-listing.before.before in let at-usable = at-if1.before in
-    let st = at-usable.before.before.before.before.before.before.before.before.before in
     turn-same
     (sym
-    (turn_in st.args.state (memory st.args.tables.now st.args.lengths.now st.args.res.now) (length st.args.out.now) st.args.ended st.args.input.now
-    (sym at-usable.usable.ensures ∙ not-false _ at-if1.if1.false) (From at-listing.listing.given.0.0) at-listing.listing.given.1))
-    (line-memory st.args.state.axes (memory st.args.tables.now st.args.lengths.now st.args.res.now) at-listing.listing.given.0.0
-    (drop at-listing.listing.given.0.0.place (table_at st.args.tables.now st.args.lengths.now at-listing.listing.given.0.0.set))
-    c.before.before.listing_turn.ensures)
+    (turn_in_lem c.args.state (memory c.args.tables.now c.args.lengths.now c.args.res.now) (length c.args.out.now) c.args.ended c.args.input.now
+    (sym c.usable.ensures ∙ not-false _ c.if-not-usable.false-raw) (From c.in-From.c) c.in-From.is))
+    (line-memory c.args.state.axes (memory c.args.tables.now c.args.lengths.now c.args.res.now) c.in-From.c
+    (drop c.in-From.c.place (table_at c.args.tables.now c.args.lengths.now c.in-From.c.set))
+    c.listing_turn.ensures)
 
 same-length-8 : tie.Need-shape_of-tables-in-Nothing
 same-length-8 c = search rules
@@ -99,13 +91,11 @@ same-length-11 c = search rules
 
 returns-3 : tie.Need-returns-in-Nothing
 returns-3 c =
-    let at-front-turn = c.before.before.before.before.before.before.before.before in let at-enum-told = at-front-turn.before.before.before.before.before in
-    let at-if1 = at-enum-told.before.before in let at-usable = at-if1.before in let st = at-usable.before.before.before.before.before.before.before.before.before in
     turn-same
     (sym
-    (turn_in st.args.state (memory st.args.tables.now st.args.lengths.now st.args.res.now) (length st.args.out.now) st.args.ended st.args.input.now
-    (sym at-usable.usable.ensures ∙ not-false _ at-if1.if1.false) _ at-enum-told.enum_told.given.1))
-    at-front-turn.front-turn.ensures
+    (turn_in_lem c.args.state (memory c.args.tables.now c.args.lengths.now c.args.res.now) (length c.args.out.now) c.args.ended c.args.input.now
+    (sym c.usable.ensures ∙ not-false _ c.if-not-usable.false-raw) _ c.in-Nothing.is))
+    c.front_turn.ensures
 
 pub step_spec : {M : Type 1} → statement M
 step_spec =

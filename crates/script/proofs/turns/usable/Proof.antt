@@ -1,5 +1,4 @@
 use mathlib.Core.Path.{sym, ◌∙◌}
-use Prim.Native.Nat.{◌-◌}
 use borrow.Author.Tests.{lt-leb, le-leb, eq-eqb, ne_eqb, not-true, not-false}
 use borrow.Author.Rules.{rules}
 use Rattle.script.proofs.turns.usable.Statement.{statement}
@@ -11,45 +10,42 @@ returns c = rw (ne_eqb _ _ c.if-tables-ne32000.true)
 
 returns-2 : tie.Need-returns-then-lengths-ne4
 unfolding Rattle.session.specs.Turns.usable
-returns-2 c = rw (eq-eqb _ _ c.before.if-tables-ne32000.false, ne_eqb _ _ c.if-lengths-ne4.true)
+returns-2 c = rw (eq-eqb _ _ c.if-tables-ne32000.false, ne_eqb _ _ c.if-lengths-ne4.true)
 
 lengths-fit-requires : tie.Need-lengths_fit-requires
 lengths-fit-requires c κs = search rules
 
 returns-3 : tie.Need-returns-then-not-lengths_fit
 unfolding Rattle.session.specs.Turns.usable
-returns-3 c = rw (eq-eqb _ _ c.before.before.before.if-tables-ne32000.false, eq-eqb _ _ c.before.before.if-lengths-ne4.false, sym c.before.lengths_fit.ensures ∙ not-true _ c.if-not-lengths_fit.true-raw)
+returns-3 c = rw (eq-eqb _ _ c.if-tables-ne32000.false, eq-eqb _ _ c.if-lengths-ne4.false, sym c.lengths_fit.ensures ∙ not-true _ c.if-not-lengths_fit.true-raw)
 
 returns-4 : tie.Need-returns-then-res-ne-SET_BYTES
 unfolding Rattle.session.specs.Turns.usable
 returns-4 c =
-    let at-if2 = c.before.before.before in let at-if1 = at-if2.before in
-    rw (eq-eqb _ _ at-if1.if1.false, eq-eqb _ _ at-if2.if2.false, sym c.before.before.lengths_fit.ensures ∙ not-false _ c.before.if-not-lengths_fit.false-raw, ne_eqb _ _ c.if-res-ne-SET_BYTES.true)
+    rw (eq-eqb _ _ c.if-tables-ne32000.false, eq-eqb _ _ c.if-lengths-ne4.false, sym c.lengths_fit.ensures ∙ not-false _ c.if-not-lengths_fit.false-raw, ne_eqb _ _ c.if-res-ne-SET_BYTES.true)
 
 returns-5 : tie.Need-returns-then-width-lt512
 unfolding Rattle.session.specs.Turns.usable
 returns-5 c =
-    let at-lengths-fit = c.before.before.before in let at-if2 = at-lengths-fit.before in let at-if1 = at-if2.before in
     rw (
-      eq-eqb _ _ at-if1.if1.false,
-      eq-eqb _ _ at-if2.if2.false,
-      sym at-lengths-fit.lengths-fit.ensures ∙ not-false _ c.before.before.if-not-lengths_fit.false-raw,
+      eq-eqb _ _ c.if-tables-ne32000.false,
+      eq-eqb _ _ c.if-lengths-ne4.false,
+      sym c.lengths_fit.ensures ∙ not-false _ c.if-not-lengths_fit.false-raw,
       eq-eqb _ _
-          c.before.if-res-ne-SET_BYTES.false,
+          c.if-res-ne-SET_BYTES.false,
       lt-leb _ _ c.if-width-lt512.true,
     )
 
 returns-6 : tie.Need-returns-then-axes-gt-AXES
 unfolding Rattle.session.specs.Turns.usable
 returns-6 c =
-    let at-if3 = c.before.before.before in let at-lengths-fit = at-if3.before in let at-if2 = at-lengths-fit.before in let at-if1 = at-if2.before in
     rw (
-      eq-eqb _ _ at-if1.if1.false,
-      eq-eqb _ _ at-if2.if2.false,
-      sym at-lengths-fit.lengths-fit.ensures ∙ not-false _ at-if3.if3.false,
+      eq-eqb _ _ c.if-tables-ne32000.false,
+      eq-eqb _ _ c.if-lengths-ne4.false,
+      sym c.lengths_fit.ensures ∙ not-false _ c.if-not-lengths_fit.false-raw,
       eq-eqb _ _
-          c.before.before.if-res-ne-SET_BYTES.false,
-      le-leb _ _ c.before.if-width-lt512.false,
+          c.if-res-ne-SET_BYTES.false,
+      le-leb _ _ c.if-width-lt512.false,
       lt-leb _ _ c.if-axes-gt-AXES.true,
     )
 
@@ -65,33 +61,29 @@ cursor-fits-requires c κs = search rules
 returns-7 : tie.Need-returns-in-Nothing
 unfolding Rattle.session.specs.Turns.usable
 returns-7 c =
-    let at-if5 = c.before.before.before in let at-if4 = at-if5.before in let at-if3 = at-if4.before in let at-lengths-fit = at-if3.before in let at-if2 = at-lengths-fit.before in
-    let at-if1 = at-if2.before in
     rw (
-      eq-eqb _ _ at-if1.if1.false,
-      eq-eqb _ _ at-if2.if2.false,
-      sym at-lengths-fit.lengths-fit.ensures ∙ not-false _ at-if3.if3.false,
-      eq-eqb _ _ at-if4.if4.false,
+      eq-eqb _ _ c.if-tables-ne32000.false,
+      eq-eqb _ _ c.if-lengths-ne4.false,
+      sym c.lengths_fit.ensures ∙ not-false _ c.if-not-lengths_fit.false-raw,
+      eq-eqb _ _ c.if-res-ne-SET_BYTES.false,
       le-leb _ _
-          at-if5.if5.false,
-      le-leb _ _ c.before.before.if-axes-gt-AXES.false,
-      c.enum_told-1.given.1,
+          c.if-width-lt512.false,
+      le-leb _ _ c.if-axes-gt-AXES.false,
+      c.in-Nothing.is,
     )
 
 returns-8 : tie.Need-returns-in-From
 unfolding Rattle.session.specs.Turns.usable
 returns-8 c =
-    let at-if6 = c.before.before.before.before in let at-if5 = at-if6.before in let at-if4 = at-if5.before in let at-if3 = at-if4.before in let at-lengths-fit = at-if3.before in
-    let at-if2 = at-lengths-fit.before in let at-if1 = at-if2.before in
     c.cursor_fits.ensures ∙ rw (
-      eq-eqb _ _ at-if1.if1.false,
-      eq-eqb _ _ at-if2.if2.false,
-      sym at-lengths-fit.lengths-fit.ensures ∙ not-false _ at-if3.if3.false,
-      eq-eqb _ _ at-if4.if4.false,
+      eq-eqb _ _ c.if-tables-ne32000.false,
+      eq-eqb _ _ c.if-lengths-ne4.false,
+      sym c.lengths_fit.ensures ∙ not-false _ c.if-not-lengths_fit.false-raw,
+      eq-eqb _ _ c.if-res-ne-SET_BYTES.false,
       le-leb _ _
-          at-if5.if5.false,
-      le-leb _ _ at-if6.if6.false,
-      c.before.before.listing-1.given.1,
+          c.if-width-lt512.false,
+      le-leb _ _ c.if-axes-gt-AXES.false,
+      c.in-From.is,
     )
 
 pub usable_spec : {M : Type 1} → statement M
