@@ -10,7 +10,6 @@ use Rattle.codec.specs.Bytes.{Answer, refused, gives}
 use Rattle.boxes.specs.Range as R
 use Rattle.boxes.specs.Range.{sure, never, depends, spent_inside, spent_outside, range_bytes}
 use Rattle.boxes.proofs.Truth.{Asked, asked}
-use Rattle.coverage.specs.declared.ranges.Range.{Range}
 use Rattle.coverage.specs.declared.ranges.Range.TheVariants.{Refused}
 use Rattle.coverage.specs.declared.ranges.Reading.{Reading}
 use Rattle.coverage.specs.Readings.{told_of, RangeIs}

@@ -4,7 +4,7 @@ use mathlib.Core.Bool.{Bool, true, false, ◌&&◌, cond}
 use mathlib.Core.List.{List, []}
 use Prim.Native.Nat.{ℕ}
 use lib.IntN.{ℤ}
-use lib.ListN.{length, take}
+use lib.ListN.{take}
 use Rattle.codec.specs.Bytes.{Answer, refused, gives, decode}
 use Rattle.codec.specs.Places.{set_from}
 use Rattle.codec.proofs.Decoded.{no_way}

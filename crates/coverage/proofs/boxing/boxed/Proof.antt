@@ -23,7 +23,7 @@ no-rules-requires : tie.Need-no_rules-rules-requires invariant-loop decreases-lo
 no-rules-requires c κs = search rules
 
 loop-holds : tie.Need-loop-i-init invariant-loop decreases-loop
-loop-holds c = let a = c.before.args in laying-start a.n a.t2 a.t3 c.no_rules-rules.result c.no_rules-rules.ensures
+loop-holds c = let a = c.before.args in laying-start a.n a.low a.high c.no_rules-rules.result c.no_rules-rules.ensures
 
 -- the axis of a turn
 axis : (c : tie.In-loop-i invariant-loop decreases-loop) → c.before.loop-i.i < 8
@@ -91,9 +91,9 @@ eight c = (search rules, search rules)
 loop-again : tie.Need-loop-i-preserved invariant-loop decreases-loop
 loop-again c =
     let r = c.before in let h = r.before in let l = h.before in let t = l.before in let m = t.before in let st = m.before.before in let a = st.args in
-    laying-next a.n a.t2 a.t3 st.requires.0 (eight st).0 (eight st).1 m.loop-i.invariant t.loop-i-test.true r.side_rule.result c.side_rule-in-loop-i.result
+    laying-next a.n a.low a.high st.requires.0 (eight st).0 (eight st).1 m.loop-i.invariant t.loop-i-test.true r.side_rule.result c.side_rule-in-loop-i.result
     (r.side_rule.ensures ∙ ap (side_rule m.loop-i.i (pos 1)) (opposite-is (low l) (fits l) (within l)))
-    (c.side_rule-in-loop-i.ensures ∙ ap (side_rule m.loop-i.i (negsuc 0)) (to_z_of_z (record { sfits = h.h-1.given })))
+    (c.side_rule-in-loop-i.ensures ∙ ap (side_rule m.loop-i.i (negsuc 0)) (to_z_of_z {w = w32} (record { sfits = h.h-1.given })))
 
 no-division-requires : tie.Need-no_division-d-requires invariant-loop decreases-loop
 no-division-requires c κs = search rules
@@ -104,7 +104,7 @@ mul-t27 c = let f = c.before.before.before.before.requires.0 in omega arith
 returns : tie.Need-returns invariant-loop decreases-loop
 returns c =
     let e = c.before in let m = e.before in let st = m.before.before in let a = st.args in
-    laying-end a.n a.t2 a.t3 st.requires.0 (eight st).0 (eight st).1 m.loop-i.invariant (omega (arith, e.loop-i-test.false)) _
+    laying-end a.n a.low a.high st.requires.0 (eight st).0 (eight st).1 m.loop-i.invariant (omega (arith, e.loop-i-test.false)) _
 
 pub boxed_spec : {M : Type 1} → statement M
 boxed_spec =

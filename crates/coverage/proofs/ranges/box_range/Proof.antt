@@ -51,28 +51,28 @@ enum-known-o-2 : tie.Need-enum_known-o-in-Length-1
 enum-known-o-2 c = search rules
 
 -- past the match: the difference is in the table
-abbrev at-taken : tie.In-Length-2 → tie.After-taken-o
-at-taken c = c.before.before.before.before
+abbrev at-taken : tie.In-Length → tie.After-taken-o
+at-taken c = c.before.before.before
 
-abbrev at-else : tie.In-Length-2 → tie.Else-k-ne0
+abbrev at-else : tie.In-Length → tie.Else-k-ne0
 at-else c = (at-taken c).before.before
 
 eight : (c : tie.Start) → (length c.args.lows ≡ 8) × (length c.args.highs ≡ 8)
 eight c = (search rules, search rules)
 
-given : (c : tie.In-Length-2) → let a = (begun (at-else c)).args in
-    Result (length a.out.now) (outside_result a.n (length a.out.now) a.lows a.highs (set_from a.set.now 0)) (gives c.o-in-Length-1.given.0.0) (at-taken c).taken-o.new.out
+given : (c : tie.In-Length) → let a = c.args in
+    Result (length a.out.now) (outside_result a.n (length a.out.now) a.lows a.highs (set_from a.set.now 0)) (gives c.in-Length.l) c.taken-o.new.out
 given c =
-    let x = at-taken c in let a = (begun (at-else c)).args in
-    subst (λ (o : Outcome). Result (length a.out.now) (outside_result a.n (length a.out.now) a.lows a.highs (set_from a.set.now 0)) (outcome_is o) x.taken-o.new.out) c.o-in-Length-1.given.1
-    x.taken-o.ensures
+    let a = c.args in
+    subst (λ (o : Outcome). Result (length a.out.now) (outside_result a.n (length a.out.now) a.lows a.highs (set_from a.set.now 0)) (outcome_is o) c.taken-o.new.out) c.in-Length.is
+    c.taken-o.ensures
 
 searched-requires : tie.Need-searched-requires
 searched-requires c κs =
-    let o = c.before.before in let e = at-else o in let st = begun e in let a = st.args in let q = asking e in (
+    let e = at-else c in let st = begun e in let a = st.args in let q = asking e in (
       q,
-      taken-table a.n a.set.now a.lows a.highs q.boxed (length a.out.now) o.o2.given.0.0 _ (given o)
-          (bytes_of a.set.now (λ i. (e.before.before.before.shared_slice_known-1.given i).fits)) (eight st).0 (eight st).1,
+      taken-table a.n a.set.now a.lows a.highs q.boxed (length a.out.now) c.in-Length.l _ (given c)
+          (bytes_of a.set.now (λ i. (c.shared_slice_known-1.given i).fits)) (eight st).0 (eight st).1,
     )
 
 same-length-2 : tie.Need-shape_of-out-in-Refused
@@ -80,10 +80,10 @@ same-length-2 c = search rules
 
 returns-2 : tie.Need-returns-in-Refused
 returns-2 c =
-    let o = c.before.before in let x = o.before.before.before.before in let e = x.before.before in let a = (begun e).args in
-    told_over a.n a.set.now a.lows a.highs a.inside a.outside (length a.out.now) (asking e) o.o-1.given.0.0 _ _
-    (subst (λ (y : Outcome). Result (length a.out.now) (outside_result a.n (length a.out.now) a.lows a.highs (set_from a.set.now 0)) (outcome_is y) x.taken-o.new.out) o.o-1.given.1
-    x.taken-o.ensures)
+    let a = c.args in
+    told_over a.n a.set.now a.lows a.highs a.inside a.outside (length a.out.now) (asking c.before.before.before.before.before.before) c.in-Refused.m _ _
+    (subst (λ (y : Outcome). Result (length a.out.now) (outside_result a.n (length a.out.now) a.lows a.highs (set_from a.set.now 0)) (outcome_is y) c.taken-o.new.out) c.in-Refused.is
+    c.taken-o.ensures)
     c.plain-in-Refused.ensures
 
 same-length-3 : tie.Need-shape_of-out-in-Length
@@ -91,9 +91,9 @@ same-length-3 c = search rules
 
 returns-3 : tie.Need-returns-in-Length
 returns-3 c =
-    let o = c.before.before.before in let x = at-taken o in let e = at-else o in let a = (begun e).args in
-    told-given a.n a.set.now a.lows a.highs a.inside a.outside (length a.out.now) (asking e) o.o2.given.0.0 _ _
-    (taken-bytes a.n a.set.now a.lows a.highs (asking e).boxed (length a.out.now) o.o2.given.0.0 _ (given o)) (given o).bytes c.searched.ensures
+    let o = c.before in let e = at-else o in let a = c.args in
+    told-given a.n a.set.now a.lows a.highs a.inside a.outside (length a.out.now) (asking e) c.in-Length.l _ _
+    (taken-bytes a.n a.set.now a.lows a.highs (asking e).boxed (length a.out.now) c.in-Length.l _ (given o)) (given o).bytes c.searched.ensures
 
 pub box_range_spec : {M : Type 1} → statement M
 box_range_spec =

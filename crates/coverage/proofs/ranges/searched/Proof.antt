@@ -19,7 +19,7 @@ first-point-requires c κs = search rules
 
 slice-aggregate-first-point : tie.Need-slice_bounds-first_point-end
 slice-aggregate-first-point c =
-    let st = c.before.before.before.before in let a = st.args in let h = st.requires.1.inside in
+    let a = c.args in let h = c.requires.1.inside in
     omega (arith, length-take a.l a.table.now)
 
 first-point-requires-2 : tie.Need-first_point-q-requires
@@ -30,12 +30,11 @@ ranged-requires c κs = search rules
 
 returns : tie.Need-returns
 returns c =
-    let y = c.before in let x = y.before.before in let st = x.before.before.before in let a = st.args in
-    let q = st.requires.0 in let t = st.requires.1 in
+    let a = c.args in let q = c.requires.0 in let t = c.requires.1 in
     c.ranged.ensures (search_box (set_from a.set.now 0) (take a.n (box_of a.lows a.highs)) a.inside)
     (search_box (outside a.n a.lows a.highs (set_from a.set.now 0)) (take a.n (box_of a.lows a.highs)) a.outside)
-    (x.first-point.ensures ∙ ap answer_of (searched-is a.n a.set.now a.lows a.highs a.inside (set_from a.set.now 0) (decode_is a.n a.set.now q.boxed.accepted) q.boxed.box q.limit_inside))
-    (y.first_point-q.ensures ∙ ap answer_of (searched-is a.n (take a.l a.table.now) a.lows a.highs a.outside _ t.decoded q.boxed.box q.limit_outside))
+    (c.first_point-p.ensures ∙ ap answer_of (searched-is a.n a.set.now a.lows a.highs a.inside (set_from a.set.now 0) (decode_is a.n a.set.now q.boxed.accepted) q.boxed.box q.limit_inside))
+    (c.first_point-q.ensures ∙ ap answer_of (searched-is a.n (take a.l a.table.now) a.lows a.highs a.outside _ t.decoded q.boxed.box q.limit_outside))
     (take a.l a.table.now) (let h = t.inside in omega (arith, length-take a.l a.table.now))
     ∙ ap (λ (r : Range). reading_is (gives (record { range = r; bytes = take a.l a.table.now }))) (sym (in-range a.n a.set.now a.lows a.highs a.inside a.outside))
 
