@@ -1,4 +1,4 @@
-use Rattle.std.proofs.Common.{◌≡◌, List, ℤ, ap, ◌∙◌, ap₂, rules}
+use Rattle.std.proofs.Common.{List, ℤ, ◌∙◌, ap₂, rules}
 use mathlib.Core.Option.{none}
 use Rattle.integers.specs.Mach.{coordinates}
 use Rattle.enumeration.specs.Counting.{count_bytes}

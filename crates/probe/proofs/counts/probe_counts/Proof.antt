@@ -1,4 +1,4 @@
-use Rattle.std.proofs.Common.{◌≡◌, List, length, ℤ, ap, ◌∙◌, ap₂, rules}
+use Rattle.std.proofs.Common.{List, length, ℤ, ◌∙◌, ap₂, rules}
 use Rattle.integers.specs.Mach.{coordinates}
 use Rattle.enumeration.specs.Counting.{counts_bytes}
 use Rattle.counting.specs.Answers.{counted_is, table_is}

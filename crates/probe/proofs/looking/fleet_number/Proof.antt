@@ -21,10 +21,10 @@ add-result : tie.Need-overflow_add-result
 add-result c = search rules
 
 returns : tie.Need-returns-in-Seen
-returns c = sym (ap (λ (r : Looked). fleet_number (fleet_is r)) c.before.r-1.given.1)
+returns c = sym (ap (λ (r : Looked). fleet_number (fleet_is r)) c.in-Seen.is)
 
 returns-2 : tie.Need-returns-in-Refused
-returns-2 c = sym (ap (λ (r : Looked). fleet_number (fleet_is r)) c.before.r-in-Refused-1.given.1)
+returns-2 c = sym (ap (λ (r : Looked). fleet_number (fleet_is r)) c.in-Refused.is)
 
 pub fleet_number_spec : {M : Type 1} → statement M
 fleet_number_spec =

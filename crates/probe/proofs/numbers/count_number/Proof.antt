@@ -25,7 +25,7 @@ returns-2 : tie.Need-returns-in-Spent
 returns-2 c = search rules
 
 returns-3 : tie.Need-returns-in-Refused
-returns-3 c = sym (ap count_number c.before.o-1.given.1)
+returns-3 c = sym (ap count_number c.in-Refused.is)
 
 pub count_number_spec : {M : Type 1} → statement M
 count_number_spec =

@@ -21,7 +21,7 @@ returns : tie.Need-returns-in-Length
 returns c = search rules
 
 returns-2 : tie.Need-returns-in-Refused
-returns-2 c = sym (ap (λ (o : Outcome). length_number (outcome_is o)) c.before.o-in-Refused-1.given.1)
+returns-2 c = sym (ap (λ (o : Outcome). length_number (outcome_is o)) c.in-Refused.is)
 
 pub length_number_spec : {M : Type 1} → statement M
 length_number_spec =

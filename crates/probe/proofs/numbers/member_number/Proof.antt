@@ -27,7 +27,7 @@ returns-2 : tie.Need-returns-in-Out
 returns-2 c = search rules
 
 returns-3 : tie.Need-returns-in-Refused
-returns-3 c = sym (ap (λ (m : Membership). member_number (member_is m)) c.before.m-1.given.1)
+returns-3 c = sym (ap (λ (m : Membership). member_number (member_is m)) c.in-Refused.is)
 
 pub member_number_spec : {M : Type 1} → statement M
 member_number_spec =

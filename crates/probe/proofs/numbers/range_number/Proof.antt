@@ -43,7 +43,7 @@ returns-5 : tie.Need-returns-in-SpentOutside
 returns-5 c = search rules
 
 returns-6 : tie.Need-returns-in-Refused
-returns-6 c = sym (ap range_number c.before.x-1.given.1)
+returns-6 c = sym (ap range_number c.in-Refused.is)
 
 pub range_number_spec : {M : Type 1} → statement M
 range_number_spec =

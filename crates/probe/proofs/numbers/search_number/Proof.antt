@@ -31,7 +31,7 @@ returns-3 : tie.Need-returns-in-Spent
 returns-3 c = search rules
 
 returns-4 : tie.Need-returns-in-Refused
-returns-4 c = sym (ap search_number c.before.o-1.given.1)
+returns-4 c = sym (ap search_number c.in-Refused.is)
 
 pub search_number_spec : {M : Type 1} → statement M
 search_number_spec =

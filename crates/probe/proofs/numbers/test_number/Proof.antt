@@ -24,7 +24,7 @@ verdict-number-requires : tie.Need-verdict_number-requires
 verdict-number-requires c κs = search rules
 
 returns : tie.Need-returns-in-Refused
-returns c = sym (ap (λ (t : Tested). test_number (tested_of t)) c.before.t-1.given.1)
+returns c = sym (ap (λ (t : Tested). test_number (tested_of t)) c.in-Refused.is)
 
 returns-2 : tie.Need-returns-in-NoSuchSet
 returns-2 c = search rules

@@ -36,9 +36,9 @@ loop-again c =
       omega arith,
       c.wrapping_add_usize-pivots.ensures
           ∙ ap₂ (λ x y. (x + y) % 2 ^ 64) l.invariant.1 t.ensures.pivots_are ∙ once_more (2 ^ 64) _ l.i,
-      t.auto.1.0 ∙ l.invariant.2,
-      t.auto.1.1.0 ∙ l.invariant.3,
-      t.auto.1.1.1.0 ∙ l.invariant.4,
+      t.auto.rows ∙ l.invariant.2,
+      t.auto.place ∙ l.invariant.3,
+      t.auto.kinds ∙ l.invariant.4,
     )
 
 same_length : tie.Need-shape_of-rows invariant-loop decreases-loop

@@ -30,22 +30,22 @@ add-result : tie.Need-overflow_add-result
 add-result c = search rules
 
 returns : tie.Need-returns-in-Value
-returns c = sym (ap (λ (x : Extent). extent_number (extent_is x)) c.enum_told-1.given.1)
+returns c = sym (ap (λ (x : Extent). extent_number (extent_is x)) c.in-Value.is)
 
 returns-2 : tie.Need-returns-in-Empty
-returns-2 c = sym (ap (λ (x : Extent). extent_number (extent_is x)) c.enum_told-in-Empty-1.given.1)
+returns-2 c = sym (ap (λ (x : Extent). extent_number (extent_is x)) c.in-Empty.is)
 
 returns-3 : tie.Need-returns-in-Unbounded
-returns-3 c = sym (ap (λ (x : Extent). extent_number (extent_is x)) c.enum_told-in-Unbounded-1.given.1)
+returns-3 c = sym (ap (λ (x : Extent). extent_number (extent_is x)) c.in-Unbounded.is)
 
 returns-4 : tie.Need-returns-in-TooWide
-returns-4 c = sym (ap (λ (x : Extent). extent_number (extent_is x)) c.enum_told-in-TooWide-1.given.1)
+returns-4 c = sym (ap (λ (x : Extent). extent_number (extent_is x)) c.in-TooWide.is)
 
 returns-5 : tie.Need-returns-in-TooLong
-returns-5 c = sym (ap (λ (x : Extent). extent_number (extent_is x)) c.enum_told-in-TooLong-1.given.1)
+returns-5 c = sym (ap (λ (x : Extent). extent_number (extent_is x)) c.in-TooLong.is)
 
 returns-6 : tie.Need-returns-in-Refused
-returns-6 c = sym (ap (λ (x : Extent). extent_number (extent_is x)) c.before.x-1.given.1)
+returns-6 c = sym (ap (λ (x : Extent). extent_number (extent_is x)) c.in-Refused.is)
 
 pub extent_number_spec : {M : Type 1} → statement M
 extent_number_spec =
