@@ -14,7 +14,7 @@ use lib.IntN.{ℤ, pos, negsuc, neg_ℤ}
 use lib.ListN.{length, take, replicate}
 use Rattle.model.specs.Sets.{Set, in_set}
 use Rattle.model.specs.Existential.{ExistsIn}
-use Rattle.model.proofs.Count.{from-T, to-T}
+use Rattle.model.proofs.Count.{to-T}
 use Rattle.codec.specs.Bytes.{Answer, refused, gives, encode, build, axes_fit, decode}
 use Rattle.codec.specs.Places.{commands_of}
 use Rattle.codec.proofs.Decoded.{Bytes, no_way}
@@ -22,12 +22,12 @@ use Rattle.codec.proofs.Parsing.{start}
 use Rattle.codec.proofs.Split.{refusal_of, unless, decode', decode-split}
 use Rattle.algebra.specs.Cut.{keeps, union, union_fits, intersection, intersection_fits, difference, difference_fits, complement, complement_fits}
 use Rattle.algebra.specs.Operations.{result, on_one, on_two, union_bytes, intersection_bytes, difference_bytes, complement_bytes}
-use Rattle.algebra.specs.Result.{Result, length_of}
+use Rattle.algebra.specs.Result.{Result}
 use Rattle.algebra.proofs.Contracts.{Operation, Complement}
 use Rattle.operations.proofs.Meanings.{union-means, intersection-means, difference-means, complement-means}
 use Rattle.query.specs.Member.{point_fits, member_bytes}
 use Rattle.query.proofs.Means.{Asked, asked, decoded-means}
-use Rattle.answers.specs.Numbers.{member_number, length_number, Hosted}
+use Rattle.answers.specs.Numbers.{member_number, Hosted}
 
 -- ---- no refusal has the number 0, so that a number from 0 on is no refusal
 

@@ -3,7 +3,7 @@
 use mathlib.Core.Path.{◌≡◌, sym, ap, ◌∙◌}
 use mathlib.Core.List.{List}
 use Prim.Native.Nat.{ℕ, zero, suc}
-use lib.IntN.{ℤ, pos, negsuc, neg_ℤ}
+use lib.IntN.{ℤ, negsuc}
 use Rattle.model.specs.Sets.{Constraint}
 use Rattle.codec.proofs.Decoded.{no_way}
 use Rattle.memory.specs.Memory.{Memory}

@@ -8,8 +8,6 @@ use Rattle.answers.specs.Numbers.{member_number}
 use borrow.Author.Rules.{rules}
 use Rattle.host.proofs.asking.pitsets_member.Statement.{statement}
 use Rattle.host.proofs.asking.pitsets_member.Tie as tie
-use Rattle.host.proofs.asking.pitsets_member.Reads as reads
-use Rattle.host.proofs.asking.pitsets_member.Lts as lts
 
 point-requires : tie.Need-point-requires
 point-requires c κs = search rules
@@ -25,7 +23,7 @@ returns c =
     let m = c.before in let p = m.before in let st = p.before.before in let f = st.ranges in
     let a = st.args in let x : List ℤ = a.x1 ∷ a.x2 ∷ a.x3 ∷ a.x4 ∷ a.x5 ∷ a.x6 ∷ a.x7 ∷ a.x8 ∷ [] in
     let e : p.point.result ≡ x = p.point.ensures ∙ search coordinates depth 12 in
-    result_is w64 _ c.«member-number».type_inv ∙ c.«member-number».ensures
+    result_is w64 _ c.member_number.type_inv ∙ c.member_number.ensures
     ∙ ap member_number (m.member.ensures ∙ ap (member_bytes a.n a.set.now) e)
 
 pub pitsets_member_spec : {M : Type 1} → statement M

@@ -19,8 +19,8 @@ fleet-number-requires c κs = search rules
 returns : tie.Need-returns
 returns c =
     let m = c.before in let l = m.before in record {
-      number = result_is w64 _ c.«fleet-number».type_inv ∙ c.«fleet-number».ensures ∙ ap fleet_number l.look-r.ensures;
-      bits = m.«mask-in».ensures ∙ ap mask_in l.look-r.ensures;
+      number = result_is w64 _ c.fleet_number.type_inv ∙ c.fleet_number.ensures ∙ ap fleet_number l.look-r.ensures;
+      bits = m.mask_in.ensures ∙ ap mask_in l.look-r.ensures;
     }
 
 pub pitsets_fleet_spec : {M : Type 1} → statement M

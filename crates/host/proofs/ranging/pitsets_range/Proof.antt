@@ -20,7 +20,7 @@ returns : tie.Need-returns
 returns c =
     let e = c.before.before.before.before.before.box_range-x.ensures in
     record {
-      number = result_is w64 _ c.range_number.ok ∙ c.range_number.ensures ∙ ap (λ (x : Reading). range_number x.range) e.answer;
+      number = result_is w64 _ c.range_number.type_inv ∙ c.range_number.ensures ∙ ap (λ (x : Reading). range_number x.range) e.answer;
       bytes = e.bytes;
       length = ap (λ (x : Reading). x.length) e.answer;
       first_inside = ap (λ (x : Reading). x.inside) e.answer;
