@@ -31,11 +31,11 @@ trap 'rm -f "$names"' EXIT
   grep -oE '\bpitsets_[a-z_]+' include/pitsets.h
   ls crates; } | sort -u > "$names"
 
-# a path: crate/specs/File, crate/proofs/File, crate/src/file.rt, docs, tests, tools
+# a path: crate/specs/File, crate/proofs/File, crate/src/file.rt, crate/must-fail/edit, docs, tests, tools
 while read -r path; do
   base=${path%%[.,;:)]}
   if compgen -G "crates/$base*" >/dev/null || [ -e "$base" ]; then seen yes "$path"; else seen no "$path"; fi
-done < <(grep -hoE '\b[a-z_]+/(specs|proofs|src)/[A-Za-z_.]+|\b(docs|tests|tools|examples|include|bench)/[A-Za-z_./-]+' $documents | sort -u)
+done < <(grep -hoE '\b[a-z_]+/(specs|proofs|src|must-fail)/[A-Za-z_.]+|\b(docs|tests|tools|examples|include|bench)/[A-Za-z_./-]+' $documents | sort -u)
 
 # theorems and definitions: names in code marks that have a hyphen or a dash below, or begin with a capital
 while read -r name; do
