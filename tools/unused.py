@@ -2,7 +2,7 @@
 """Definitions and laws that nothing uses: names declared under crates/*/specs and crates/*/proofs that no other line of crates/ names and no
 document under docs/ names as a theorem for readers. Run at the repository's root; prints them and ends with 'N passed, M failed'.
 
-A function's own proof (Proof.antt) is not looked at; integers/specs/Examples.antt is the page of examples that docs/PROOFS.md points to."""
+A function's own proof (Proof.antt) is not looked at; integers/proofs/Examples.antt is the page of examples that docs/PROOFS.md points to."""
 import os
 import re
 import sys
