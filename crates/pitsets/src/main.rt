@@ -11,11 +11,10 @@ ghost use Rattle.pitsets.specs.Moving.{unused, Lent, Refilled};
 
 use model::limit;
 use session::{Listing, Next, State};
-use std::fmt;
 use std::fmt::{Display, Formatter};
-use std::io;
 use std::io::{Read, Stdin, Stdout, Write};
 use std::process::ExitCode;
+use std::{fmt, io};
 
 // What the system refused, and why.
 #[derive(Drop)]
@@ -93,7 +92,13 @@ struct Filled {
 }
 
 // After an error what was not used stands at the front too.
-fn refill(input: &mut Stdin, read: &mut [u8], from: usize, have: usize, turns: u64) -> Result<Filled, Failed>
+fn refill(
+    input: &mut Stdin,
+    read: &mut [u8],
+    from: usize,
+    have: usize,
+    turns: u64,
+) -> Result<Filled, Failed>
     requires { (from ≤ have) × (have ≤ length read.old) × (have - from < length read.old) }
     ensures ok { IfOk result (λ f. Refilled read.old read.new from have turns f) }
     ensures err { OnErr result (take (have - from) read.new ≡ unused read.old from have) }
