@@ -35,7 +35,10 @@ fn without(to: &mut Stdout, words: &[u8], a: &[u8]) -> io::Result<()> {
 
 fn searched(to: &mut Stdout, words: &[u8], set: &[u8], limit: u32) -> io::Result<()> {
     say(to, words)?;
-    found(to, search::first_point(1, set, [0; 8], [1, 0, 0, 0, 0, 0, 0, 0], limit))
+    found(
+        to,
+        search::first_point(1, set, [0; 8], [1, 0, 0, 0, 0, 0, 0, 0], limit),
+    )
 }
 
 // A is 0 <= x <= 2186.
@@ -94,7 +97,10 @@ fn parts<'a>(to: &mut Stdout, a: &'a [u8], rest: &'a [u8]) -> io::Result<()> {
     say(to, b"basic set 2 of the complement of A: ")?;
     length(to, codec::basic(1, rest, 2).len())?;
     say(to, b"what holds 2187, of A and its complement: ")?;
-    length(to, query::holder(1, a, rest, [2187, 0, 0, 0, 0, 0, 0, 0]).len())
+    length(
+        to,
+        query::holder(1, a, rest, [2187, 0, 0, 0, 0, 0, 0, 0]).len(),
+    )
 }
 
 fn on_parts(to: &mut Stdout) -> io::Result<()> {

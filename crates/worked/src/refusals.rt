@@ -86,13 +86,16 @@ pub fn operations(to: &mut Stdout) -> io::Result<()> {
 
 fn searched(to: &mut Stdout, words: &[u8], low: i32, high: i32, limit: u32) -> io::Result<()> {
     say(to, words)?;
-    found(to, search::first_point(
-        1,
-        b"\x11",
-        [low, 0, 0, 0, 0, 0, 0, 0],
-        [high, 0, 0, 0, 0, 0, 0, 0],
-        limit,
-    ))
+    found(
+        to,
+        search::first_point(
+            1,
+            b"\x11",
+            [low, 0, 0, 0, 0, 0, 0, 0],
+            [high, 0, 0, 0, 0, 0, 0, 0],
+            limit,
+        ),
+    )
 }
 
 // A window that shuts before it opens is not refused (document 02, request 7).

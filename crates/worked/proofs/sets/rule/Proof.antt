@@ -27,9 +27,7 @@ slice-write-out c = search rules
 
 same_length : tie.Need-shape_of-out
 same_length c =
-    let at-put-i16 = c.before.before.before.before.before.before in let at-put-i32 = at-put-i16.before.before.before.before in let at-p13 = at-put-i32.before.before.before in
-    let st = at-p13 in
-    length-set c.before.before.put_i16-2.new.0 st.args.at st.args.kind ∙ c.before.before.put_i16-2.auto.0 ∙ at-put-i16.put-i16.auto.0 ∙ at-put-i32.put-i32.auto.0
+    length-set c.put_i16-2.new.t c.args.at c.args.kind ∙ c.put_i16-2.auto.t ∙ c.put_i16.auto.t ∙ c.put_i32.auto.t
 
 returns : tie.Need-returns
 returns c = search rules
