@@ -69,7 +69,7 @@ $tools/second <"$work/script" >"$work/theirs"
 same "200 loads of 65,535 bytes"
 
 # errors are told on standard error
-held "a directory as input" test "$($program 2>&1 </)" = "read: Is a directory"
-held "a full device as output" test "$($program 2>&1 >/dev/full <crates/pitsets/stdin)" = "write: No space left on device"
+held "a directory as input" test "$($program 2>&1 </)" = "read: Is a directory (os error 21)"
+held "a full device as output" test "$($program 2>&1 >/dev/full <crates/pitsets/stdin)" = "write: No space left on device (os error 28)"
 echo "$passed passed, $failed failed"
 [ "$failed" -eq 0 ]
