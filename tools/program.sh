@@ -4,4 +4,4 @@ cd "$(dirname "$0")/.." || exit 2
 made=target/bin/$1
 [ -e "$made" ] && [ -z "$(find crates crates.txt -name out -prune -o -type f -newer "$made" -print -quit)" ] && exit
 # rt runs what it builds
-rt run "$1" </dev/null && mkdir -p target/bin && cp "crates/$1/out/$1" "$made"
+(cd "crates/$1" && rt run </dev/null) && mkdir -p target/bin && cp "crates/$1/out/$1" "$made"

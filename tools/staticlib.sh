@@ -6,5 +6,5 @@ mkdir -p target/staticlib
 for name; do
   made=target/staticlib/lib$name.a
   [ -e "$made" ] && [ -z "$(find crates crates.txt -name out -prune -o -type f -newer "$made" -print -quit)" ] && continue
-  rt lib "$name" && cp "crates/$name/out/lib$name.a" "$made" || exit 1
+  (cd "crates/$name" && rt lib) && cp "crates/$name/out/lib$name.a" "$made" || exit 1
 done
