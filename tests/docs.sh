@@ -25,9 +25,9 @@ documents="README.md docs/REVIEW.md docs/CONTRACTS.md docs/ARCHITECTURE.md docs/
 names=$(mktemp)
 trap 'rm -f "$names"' EXIT
 # every name that is declared in a definition, a proof, code or the header
-{ grep -rhoE '^ *(abbrev |unfoldable )?(pub )?[^ ():]+ :' crates --include='*.antt' | sed -E 's/^ *(abbrev |unfoldable )?(pub )?//; s/ :$//'
-  grep -rhoE '(record|data) [A-Z][A-Za-z]*' crates --include='*.antt' | sed 's/.* //'
-  grep -rhoE '(fn|struct|enum) [A-Za-z_0-9]+|^    [A-Z][A-Za-z]*[,(]' crates --include='*.rt' | sed 's/.* //; s/[,(]$//'
+{ grep -rhoE '^ *(abbrev |unfoldable )?(pub )?[^ ():]+ :' crates --include='*.antt' --exclude-dir=out | sed -E 's/^ *(abbrev |unfoldable )?(pub )?//; s/ :$//'
+  grep -rhoE '(record|data) [A-Z][A-Za-z]*' crates --include='*.antt' --exclude-dir=out | sed 's/.* //'
+  grep -rhoE '(fn|struct|enum) [A-Za-z_0-9]+|^    [A-Z][A-Za-z]*[,(]' crates --include='*.rt' --exclude-dir=out | sed 's/.* //; s/[,(]$//'
   grep -oE '\bpitsets_[a-z_]+' include/pitsets.h
   ls crates; } | sort -u > "$names"
 

@@ -16,7 +16,8 @@ def listed():
 def named(crate, crates):
     """the crates that its code calls or its definitions and proofs import"""
     found = set()
-    for folder, _, names in os.walk(os.path.join("crates", crate)):
+    for folder, below, names in os.walk(os.path.join("crates", crate)):
+        below[:] = [it for it in below if it != "out"]
         for name in names:
             if not name.endswith((".rt", ".antt")):
                 continue

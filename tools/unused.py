@@ -14,6 +14,9 @@ DECLARED = re.compile(rf"^( *)(?:(?:abbrev|unfoldable|pub) )*({WORD})(?: \{{\w+\
 
 def texts(folder, ends):
     for d, _, names in sorted(os.walk(folder)):
+        # what rt made of a crate has copies of its texts
+        if "out" in d.split(os.sep):
+            continue
         for name in sorted(names):
             if name.endswith(ends):
                 path = os.path.join(d, name)
