@@ -1,90 +1,102 @@
 // An answer as a number: what each case is stands in specs/Numbers; a refusal is minus its number.
-ghost use Rattle.std.specs.Prelude.{◌≡◌};
+ghost use Rattle.std.specs.Prelude.{◌≡◌, pos, neg_ℤ};
+ghost use Rattle.model.specs.Refused.{number_of};
+ghost use Rattle.codec.specs.Refusing.{answer_is};
 ghost use Rattle.query.specs.Holding.{member_is};
 ghost use Rattle.results.specs.Outcome.{outcome_is};
 ghost use Rattle.fleet.specs.Looking.{fleet_is};
-ghost use Rattle.extremes.specs.Answers.{extent_is};
-ghost use Rattle.answers.specs.Numbers.{member_number, Short, length_number, outcome_number, fleet_number, range_number, said_number, extent_number};
+ghost use Rattle.extremes.specs.Answers.{extent_is, extreme_is};
+ghost use Rattle.states.specs.Calls.{word_is, said_is};
+ghost use Rattle.answers.specs.Numbers.{member_number, Short, length_number, outcome_number, fleet_number, range_number, reading_number, said_number, extreme_number, extent_number};
 
-use coverage::Range;
+use counting::Counted;
+use coverage::{Range, Reading};
 use extremes::Extent;
+use fleet::Seen;
+use model::Refusal;
 use states::Said;
 
-pub fn member_number(m: query::Membership) -> i64
-    ensures { result ≡ member_number (member_is m) }
+fn refused(refusal: Refusal) -> i64
+    ensures { result ≡ neg_ℤ (pos (number_of refusal)) }
 {
-    match m {
-        query::Membership::In => 1,
-        query::Membership::Out => 0,
-        query::Membership::Refused(k) => 0 - (k as i64),
-    }
+    -i64::from(refusal.number())
 }
 
-pub fn length_number(m: results::Outcome) -> i64
-    requires { Short (outcome_is m) }
-    ensures { result ≡ length_number (outcome_is m) }
+pub fn member_number(held: Result<bool, Refusal>) -> i64
+    ensures { result ≡ member_number (member_is held) }
 {
-    match m {
-        results::Outcome::Length(l) => l as i64,
-        results::Outcome::Refused(k) => 0 - (k as i64),
-    }
+    held.map_or_else(refused, i64::from)
 }
 
-pub fn count_number(c: counting::Counted) -> i64
-    ensures { result ≡ outcome_number c.outcome c.whole }
+pub fn length_number(length: Result<usize, Refusal>) -> i64
+    requires { Short (outcome_is length) }
+    ensures { result ≡ length_number (outcome_is length) }
 {
-    let o = c.outcome;
-    match o {
-        counting::Outcome::Done => c.whole as i64,
-        counting::Outcome::Spent => -1000,
-        counting::Outcome::Refused(k) => 0 - (k as i64),
-    }
+    length.map_or_else(refused, |length| length as i64)
 }
 
-pub fn fleet_number(r: fleet::Looked) -> i64
-    ensures { result ≡ fleet_number (fleet_is r) }
+pub fn count_number(count: Result<Counted, Refusal>) -> i64
+    ensures { result ≡ outcome_number (answer_is (λ x. x) count) }
 {
-    match r {
-        fleet::Looked::Seen(_, c) => c as i64,
-        fleet::Looked::Refused(k) => 0 - (k as i64),
-    }
+    count.map_or_else(refused, |count| count.whole.map_or(-1000, i64::from))
 }
 
-pub fn range_number(x: Range) -> i64
-    ensures { result ≡ range_number x }
+pub fn fleet_number(look: Result<Seen, Refusal>) -> i64
+    ensures { result ≡ fleet_number (fleet_is look) }
 {
-    match x {
+    look.map_or_else(refused, |seen| i64::from(seen.count))
+}
+
+fn range_told(range: Range) -> i64
+    ensures { result ≡ range_number range }
+{
+    match range {
         Range::Sure => 1,
         Range::Never => 2,
-        Range::Depends => 3,
+        Range::Depends { .. } => 3,
         Range::SpentInside => 4,
         Range::SpentOutside => 5,
-        Range::Refused(k) => 0 - (k as i64),
     }
 }
 
-pub fn said_number(x: Said) -> i64
-    ensures { result ≡ said_number x }
+pub fn range_number(reading: Result<Reading, Refusal>) -> i64
+    ensures { result ≡ reading_number (answer_is (λ x. x) reading) }
 {
-    match x {
+    reading.map_or_else(refused, |reading| range_told(reading.range))
+}
+
+fn word(said: Said) -> i64
+    ensures { result ≡ said_number (word_is said) }
+{
+    match said {
         Said::Misused => 0,
         Said::Point => 1,
         Said::Empty => 2,
         Said::Wide => 3,
         Said::Long => 4,
-        Said::Refused(k) => 0 - (k as i64),
     }
 }
 
-pub fn extent_number(x: Extent) -> i64
-    ensures { result ≡ extent_number (extent_is x) }
+pub fn said_number(said: Result<Said, Refusal>) -> i64
+    ensures { result ≡ said_number (said_is said) }
 {
-    match x {
-        Extent::Refused(k) => 0 - (k as i64),
+    said.map_or_else(refused, word)
+}
+
+fn extent_told(extent: Extent) -> i64
+    ensures { result ≡ extreme_number (extreme_is extent) }
+{
+    match extent {
         Extent::Value(_) => 1,
         Extent::Empty => 2,
         Extent::Unbounded => 3,
         Extent::TooWide => 4,
         Extent::TooLong => 5,
     }
+}
+
+pub fn extent_number(extent: Result<Extent, Refusal>) -> i64
+    ensures { result ≡ extent_number (extent_is extent) }
+{
+    extent.map_or_else(refused, extent_told)
 }

@@ -81,9 +81,6 @@ pub positive : {z : ℤ} → pos 0 ≤ℤ z → non_neg z ≡ true
 positive {z = pos n} h = refl
 positive {z = negsuc n} h = absurd h.le
 
-pub ends-back : {u v : List ℤ} {n : ℕ} → Ends u v n → Ends v u n
-ends-back {u} {v} e = let f = e.few in let s = e.same in record { few = omega arith; same = sym s; lows = e.highs; highs = e.lows }
-
 pub ends-mono : {u v : List ℤ} {m n : ℕ} → m ≤ n → Ends u v m → Ends u v n
 ends-mono h e = record { few = e.few; same = e.same; lows = all-mono h e.lows; highs = all-mono h e.highs }
 

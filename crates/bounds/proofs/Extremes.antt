@@ -34,6 +34,14 @@ term-within {B} {a} w h k = within-mul w (pick-within a h k)
 pub product-fits : {a u : ℤ} → Within 32768 a → Within 2199023255552 u → SFits w64 (a *ℤ u)
 product-fits h k = within-fits (omega arith) (within-mul h k)
 
+pub term-plain : {a u v : ℤ} → Within 32768 a → Within 2199023255552 u → Within 2199023255552 v
+    → to_z w64 (of_z w64 a) *ℤ cond (non_neg (to_z w64 (of_z w64 a))) (to_z w64 (of_z w64 u)) (to_z w64 (of_z w64 v)) ≡ a *ℤ cond (non_neg a) u v
+term-plain {a} {u} {v} ha hu hv =
+    let ea : to_z w64 (of_z w64 a) ≡ a = to_z_of_z {w = w64} {z = a} (within-fits (omega arith) ha) in
+    let eu : to_z w64 (of_z w64 u) ≡ u = to_z_of_z {w = w64} {z = u} (within-fits (omega arith) hu) in
+    let ev : to_z w64 (of_z w64 v) ≡ v = to_z_of_z {w = w64} {z = v} (within-fits (omega arith) hv) in
+    rw (ea, eu, ev) refl
+
 -- ---- the loop over the sides
 best-nil : (cs vs : List ℤ) → best cs [] vs ≡ pos 0
 best-nil [] vs = refl
@@ -53,43 +61,38 @@ best-more t u v q i h e l =
     ∙ ap₂ (λ (x y : List ℤ). best (signed_list (suc (8 - (i + 1))) (drop q t)) x y) du dv
     ∙ ap (λ (r : List ℕ). a *ℤ cond (non_neg a) (get_or u i (pos 0)) (get_or v i (pos 0)) +ℤ best (signed_list (8 - (i + 1)) r) (drop (i + 1) u) (drop (i + 1) v)) (drop-drop 2 q t)
 
-pub record Summing (t : List ℕ) (p : ℕ) (u v : List ℤ) (from : ℤ) (s i q : ℕ) : Type 0 where
-  pub inside : i ≤ length u
-  pub place : q ≡ p + 2 * i
-  pub size : (F B : ℕ) → Within F from → AllWithin B u → AllWithin B v → Within (F + i * (32768 * B)) (to_z w64 s)
-  pub same : to_z w64 s +ℤ rest t u v q i ≡ from +ℤ best (signed_list 8 (drop p t)) u v
+pub record Summing (t : List ℕ) (p : ℕ) (u v : List ℤ) (from sum : ℤ) (i : ℕ) : Type 0 where
+  pub size : (F B : ℕ) → Within F from → AllWithin B u → AllWithin B v → Within (F + i * (32768 * B)) sum
+  pub same : sum +ℤ rest t u v (p + 2 * i) i ≡ from +ℤ best (signed_list 8 (drop p t)) u v
 
-pub summing_start : (t : List ℕ) (p : ℕ) (u v : List ℤ) (from : ℤ) (s : ℕ) → to_z w64 s ≡ from → Summing t p u v from s 0 p
-summing_start t p u v from s e =
-    record { inside = omega arith; place = omega arith; size = λ F B f hu hv. subst (Within (F + 0 * (32768 * B))) (sym e) (within-mono (omega arith) f); same = ap (λ (z : ℤ). z +ℤ rest t u v p 0) e }
+pub summing_start : (t : List ℕ) (p : ℕ) (u v : List ℤ) (from sum : ℤ) → sum ≡ from → Summing t p u v from sum 0
+summing_start t p u v from sum e =
+    let q : p + 2 * 0 ≡ p = omega arith in
+    record { size = λ F B f hu hv. subst (Within (F + 0 * (32768 * B))) (sym e) (within-mono (omega arith) f); same = rw q (ap (λ (z : ℤ). z +ℤ rest t u v p 0) e) }
 
-module _ (t : List ℕ) (p : ℕ) (u v : List ℤ) (from : ℤ) (s i q : ℕ) (m : Summing t p u v from s i q) where
-  pub summing-fits : length u ≤ 8 → (F : ℕ) → F ≤ 2199023255552 → Within F from → AllWithin 2199023255552 u → AllWithin 2199023255552 v → (z : ℤ) → Within (32768 * 2199023255552) z → SFits w64 (to_z w64 s +ℤ z)
-  summing-fits l F f w hu hv z hz =
-      let k = m.inside in let j : i ≤ 8 = omega arith in
-      within-fits (omega arith) (within-add (m.size F 2199023255552 w hu hv) hz)
+module _ (t : List ℕ) (p : ℕ) (u v : List ℤ) (from sum : ℤ) (i : ℕ) (m : Summing t p u v from sum i) where
+  pub summing-fits : i ≤ 8 → (F : ℕ) → F ≤ 2199023255552 → Within F from → AllWithin 2199023255552 u → AllWithin 2199023255552 v → (z : ℤ) → Within (32768 * 2199023255552) z → SFits w64 (sum +ℤ z)
+  summing-fits l F f w hu hv z hz = within-fits (omega arith) (within-add (m.size F 2199023255552 w hu hv) hz)
 
-  pub summing-next : i < length u → length v ≡ length u → length u ≤ 8 → (s' : ℕ) (a z : ℤ) → a ≡ signed 2 (value_of (take 2 (drop q t))) → Within 32768 a → z ≡ a *ℤ cond (non_neg a) (get_or u i (pos 0)) (get_or v i (pos 0))
-      → to_z w64 s' ≡ to_z w64 s +ℤ z → Summing t p u v from s' (i + 1) (q + 2)
-  summing-next h e l s' a z ea wa ez es =
-      let k = m.inside in let w = m.place in
+  pub summing-next : i < length u → length v ≡ length u → length u ≤ 8 → (sum' a z : ℤ) → a ≡ signed 2 (value_of (take 2 (drop (p + 2 * i) t))) → Within 32768 a → z ≡ a *ℤ cond (non_neg a) (get_or u i (pos 0)) (get_or v i (pos 0))
+      → sum' ≡ sum +ℤ z → Summing t p u v from sum' (i + 1)
+  summing-next h e l sum' a z ea wa ez es =
+      let q : p + 2 * (i + 1) ≡ p + 2 * i + 2 = omega arith in
       record {
-        inside = omega arith;
-        place = omega arith;
         size = λ F B f hu hv. subst (Within (F + (i + 1) * (32768 * B))) (sym es) (within-mono (omega arith) (within-add (m.size F B f hu hv) (subst (Within (32768 * B)) (sym ez) (term-within wa (hu.at i) (hv.at i)))));
         same =
-            ap (λ (y : ℤ). y +ℤ rest t u v (q + 2) (i + 1)) es ∙ +ℤ_assoc (to_z w64 s) z (rest t u v (q + 2) (i + 1))
-            ∙ ap (λ (y : ℤ). to_z w64 s +ℤ y) (ap (λ (y : ℤ). y +ℤ rest t u v (q + 2) (i + 1)) (ez ∙ ap (λ (b : ℤ). b *ℤ cond (non_neg b) (get_or u i (pos 0)) (get_or v i (pos 0))) ea) ∙ sym (best-more t u v q i h e l)) ∙ m.same;
+            ap₂ (λ (y : ℤ) (j : ℕ). y +ℤ rest t u v j (i + 1)) es q
+            ∙ +ℤ_assoc sum z (rest t u v (p + 2 * i + 2) (i + 1))
+            ∙ ap (λ (y : ℤ). sum +ℤ y) (ap (λ (y : ℤ). y +ℤ rest t u v (p + 2 * i + 2) (i + 1)) (ez ∙ ap (λ (b : ℤ). b *ℤ cond (non_neg b) (get_or u i (pos 0)) (get_or v i (pos 0))) ea) ∙ sym (best-more t u v (p + 2 * i) i h e l)) ∙ m.same;
       }
 
-  pub summing-end : length u ≤ i → to_z w64 s ≡ from +ℤ best (signed_list 8 (drop p t)) u v
+  pub summing-end : length u ≤ i → sum ≡ from +ℤ best (signed_list 8 (drop p t)) u v
   summing-end h =
-      sym (ap (λ (z : ℤ). to_z w64 s +ℤ z) (ap (λ (x : List ℤ). best (signed_list (8 - i) (drop q t)) x (drop i v)) (drop_of_length-le u h) ∙ best-nil (signed_list (8 - i) (drop q t)) (drop i v)) ∙ +ℤ_idr (to_z w64 s)) ∙ m.same
+      let q : ℕ = p + 2 * i in
+      sym (ap (λ (z : ℤ). sum +ℤ z) (ap (λ (x : List ℤ). best (signed_list (8 - i) (drop q t)) x (drop i v)) (drop_of_length-le u h) ∙ best-nil (signed_list (8 - i) (drop q t)) (drop i v)) ∙ +ℤ_idr sum) ∙ m.same
 
-  pub summing-size : length u ≤ 8 → (F B : ℕ) → Within F from → AllWithin B u → AllWithin B v → Within (F + 8 * (32768 * B)) (to_z w64 s)
-  summing-size l F B f hu hv =
-      let k = m.inside in let j : i ≤ 8 = omega arith in let o : i * (32768 * B) ≤ 8 * (32768 * B) = mul-le-mul j (le_refl (32768 * B)) in
-      within-mono (omega arith) (m.size F B f hu hv)
+  pub summing-size : i ≤ 8 → (F B : ℕ) → Within F from → AllWithin B u → AllWithin B v → Within (F + 8 * (32768 * B)) sum
+  summing-size j F B f hu hv = let o : i * (32768 * B) ≤ 8 * (32768 * B) = mul-le-mul j (le_refl (32768 * B)) in within-mono (omega arith) (m.size F B f hu hv)
 
 -- ---- the two ends at once
 pub box-ends : (cs u v : List ℤ) → dot_sides cs (box_of u v) ≡ side (best cs u v) (best cs v u)

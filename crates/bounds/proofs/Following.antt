@@ -1,25 +1,18 @@
 -- A row follows a box: one side, and all sides but one.
 use mathlib.Core.Path.{◌≡◌, refl, sym, ap, ◌∙◌, subst}
-use mathlib.Core.Bool.{Bool}
 use mathlib.Core.List.{List, [], ◌∷◌}
 use Prim.Native.Nat.{ℕ, ◌+◌, ◌≤◌, ◌<◌}
 use native.Mathlib.Omega.{arith}
-use lib.Dec.{ltb}
-use lib.IntN.{ℤ, pos, nat_abs, ◌-ℤ◌}
+use lib.IntN.{ℤ, pos, ◌-ℤ◌}
 use lib.ListN.{length, get_or, set, length-set}
 use lib.Seq.{get_or-set_same, get_or-set_other}
-use borrow.Author.Tests.{ltb-true, ltb-false}
 use Rattle.integers.specs.Z.{Within}
 use Rattle.integers.specs.Lin.{eq, lin, lia-eq}
 use Rattle.bounds.specs.Ends.{Ends}
-use Rattle.bounds.specs.Rows.{start_of, row_forms, Row, Shifted, Followed, Settled}
-use Rattle.bounds.proofs.Reading.{by}
+use Rattle.bounds.specs.Rows.{row_forms, Row, Shifted, Followed}
 use Rattle.bounds.proofs.Shifting.{row_moved}
 
 module _ (s : List ℕ) (j k : ℕ) (low high r : List ℤ) (g : Row s (length low) r) where
-  pub followed-not : j ≡ k → Followed s j k low high r r
-  followed-not e = record { row = g; place = refl; low_side = λ n. absurd (n e); high_side = λ n. absurd (n e); lows = λ i h n. refl; highs = λ i h n. refl }
-
   pub followed-still : get_or low j (pos 0) -ℤ get_or r (56 + j) (pos 0) ≡ pos 0 → get_or high j (pos 0) -ℤ get_or r (120 + j) (pos 0) ≡ pos 0 → Followed s j k low high r r
   followed-still a b =
       record {
@@ -85,27 +78,3 @@ pub record Settling (s : List ℕ) (k : ℕ) (low high r₀ r : List ℤ) (j : �
   pub place : get_or r 128 (pos 0) ≡ get_or r₀ 128 (pos 0)
   pub lows : (i : ℕ) → i < j → (i ≡ k → ⊥) → get_or r (56 + i) (pos 0) ≡ get_or low i (pos 0)
   pub highs : (i : ℕ) → i < j → (i ≡ k → ⊥) → get_or r (120 + i) (pos 0) ≡ get_or high i (pos 0)
-
-pub settling-start : (s : List ℕ) (k : ℕ) (low high r : List ℤ) → Row s (length low) r → Settling s k low high r r 0
-settling-start s k low high r g = record { row = g; most = omega arith; place = refl; lows = λ i h n. absurd (omega arith); highs = λ i h n. absurd (omega arith) }
-
-module _ (s : List ℕ) (k : ℕ) (low high r₀ r : List ℤ) (j : ℕ) (g : Settling s k low high r₀ r j) where
-  pub settling-next : length low ≤ 8 → j < length low → (r' : List ℤ) → Followed s j k low high r r' → Settling s k low high r₀ r' (j + 1)
-  settling-next o h r' f =
-      record {
-        row = f.row;
-        most = omega arith;
-        place = f.place ∙ g.place;
-        lows = λ i l n. by (λ (b : Bool). get_or r' (56 + i) (pos 0) ≡ get_or low i (pos 0)) (ltb i j)
-            (λ q. let a = ltb-true i j q in f.lows i (omega arith) (λ z. omega arith) ∙ g.lows i a n)
-            (λ q. let a = ltb-false i j q in let z : i ≡ j = omega arith in ap (λ (x : ℕ). get_or r' (56 + x) (pos 0)) z ∙ f.low_side (λ y. n (z ∙ y)) ∙ ap (λ (x : ℕ). get_or low x (pos 0)) (sym z));
-        highs = λ i l n. by (λ (b : Bool). get_or r' (120 + i) (pos 0) ≡ get_or high i (pos 0)) (ltb i j)
-            (λ q. let a = ltb-true i j q in f.highs i (omega arith) (λ z. omega arith) ∙ g.highs i a n)
-            (λ q. let a = ltb-false i j q in let z : i ≡ j = omega arith in ap (λ (x : ℕ). get_or r' (120 + x) (pos 0)) z ∙ f.high_side (λ y. n (z ∙ y)) ∙ ap (λ (x : ℕ). get_or high x (pos 0)) (sym z));
-      }
-
-  pub settling-end : k < length low → length low ≤ j → Settled s k low high r
-  settling-end a h = record { row = g.row; axis = a; lows = λ i l n. g.lows i (omega arith) n; highs = λ i l n. g.highs i (omega arith) n }
-
-  pub settling-place : start_of r ≡ start_of r₀
-  settling-place = ap nat_abs g.place

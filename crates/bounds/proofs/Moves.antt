@@ -13,6 +13,7 @@ use Rattle.integers.specs.Z.{Within}
 use Rattle.integers.specs.Mach.{to_z_of_z}
 use Rattle.integers.specs.Ring.{ring, quote}
 use Rattle.integers.specs.Size.{within-mono, within-add}
+use Rattle.model.specs.Sets.{Constraint}
 use Rattle.bounds.specs.Ends.{AllWithin, best, gain}
 use Rattle.bounds.proofs.Extremes.{term-within}
 
@@ -58,3 +59,10 @@ best-move (suc k) (a ∷ cs) (x ∷ u) (y ∷ v) f t h l =
 -- as a machine reads back what a call is given
 pub gain-back : {z f t : ℤ} (k : ℕ) (cs : List ℤ) → SFits w64 z → SFits w64 f → SFits w64 t → to_z w64 (of_z w64 z) +ℤ gain k (to_z w64 (of_z w64 f)) (to_z w64 (of_z w64 t)) cs ≡ z +ℤ gain k f t cs
 gain-back k cs hz hf ht = rw (to_z_of_z hz, to_z_of_z hf, to_z_of_z ht)
+
+-- an end x of a constraint r: g is its axes' part with the constant, moved from z, and the sides of the divisions go from v to u
+pub end_is : (k : ℕ) (r : Constraint) (x g z f t : ℤ) (u v : List ℤ) → SFits w64 z → SFits w64 f → SFits w64 t → SFits w64 g
+    → g ≡ r.constant +ℤ (to_z w64 (of_z w64 z) +ℤ gain k (to_z w64 (of_z w64 f)) (to_z w64 (of_z w64 t)) r.axes) → x ≡ to_z w64 (of_z w64 g) +ℤ best r.divisions u v
+    → x ≡ r.constant +ℤ (z +ℤ gain k f t r.axes) +ℤ best r.divisions u v
+end_is k r x g z f t u v hz hf ht hg eg ex =
+    ex ∙ ap (λ (y : ℤ). y +ℤ best r.divisions u v) (to_z_of_z hg ∙ eg ∙ ap (λ (y : ℤ). r.constant +ℤ y) (gain-back k r.axes hz hf ht))

@@ -23,10 +23,7 @@ fn term(a: i64, u: i64, v: i64) -> i64
     requires { Within 32768 a × Within 2199023255552 u × Within 2199023255552 v }
     ensures { result ≡ a *ℤ cond (non_neg a) u v }
 {
-    if 0 <= a {
-        return a * u;
-    }
-    a * v
+    if 0 <= a { a * u } else { a * v }
 }
 
 // A number, and the greatest sum of the coefficients from p on times the sides from v to u.
@@ -35,15 +32,11 @@ pub fn extreme(t: &[u8], p: usize, u: &[i64], v: &[i64], from: i64) -> i64
     ensures is { result ≡ from +ℤ best (signed_list coefficient_places (drop p t.now)) u.now v.now }
     ensures size { (F B : ℕ) → Within F from → AllWithin B u.now → AllWithin B v.now → Within (F + coefficient_places * (32768 * B)) result }
 {
-    let mut s = from;
-    let mut i = 0;
-    let mut q = p;
-    while i < u.len() {
-        s += term(s16_at(t, q), u[i], v[i]);
-        q += 2;
-        i += 1;
+    let mut sum = from;
+    for i in 0..u.len() {
+        sum += term(s16_at(t, p + 2 * i), u[i], v[i]);
     }
-    s
+    sum
 }
 
 // The greatest sum z of the axes' coefficients of a body t times sides, once the side of axis k has moved by to and
@@ -97,9 +90,9 @@ pub fn can_meet(
     if extreme(t, DIVISIONS_PLACE, qh, ql, g) < 0 {
         return false;
     }
-    if is_equality(b) {
-        let f = end_at(t, k, from, to, l);
-        return extreme(t, DIVISIONS_PLACE, ql, qh, f) <= 0;
+    if !is_equality(b) {
+        return true;
     }
-    true
+    let f = end_at(t, k, from, to, l);
+    extreme(t, DIVISIONS_PLACE, ql, qh, f) <= 0
 }

@@ -25,8 +25,7 @@ pub fn place(r: &[i64; 129]) -> usize
     requires { get_or r.now 128 (pos 0) ≡ pos (start_of r.now) }
     ensures { result ≡ start_of r.now }
 {
-    let p = r[128];
-    p as usize
+    r[128] as usize
 }
 
 // How far an end of axis k has to move, from that at place p + k of the row.
@@ -56,15 +55,6 @@ fn shift(s: &[u8], j: usize, from: i64, to: i64, r: &mut [i64; 129])
     }
 }
 
-fn unmoved(from: i64, to: i64) -> bool
-    ensures { result ≡ true → (from ≡ pos 0) × (to ≡ pos 0) }
-{
-    if from == 0 {
-        return to == 0;
-    }
-    false
-}
-
 // The side of axis j follows the box, unless j is k.
 fn follow(s: &[u8], j: usize, k: usize, low: &[i64], high: &[i64], r: &mut [i64; 129])
     requires { Row s.now (length low.now) r.old × Ends low.now high.now most_coordinate × (j < length low.now) }
@@ -75,7 +65,7 @@ fn follow(s: &[u8], j: usize, k: usize, low: &[i64], high: &[i64], r: &mut [i64;
     }
     let from = gap(low, j, r, 56);
     let to = gap(high, j, r, 120);
-    if unmoved(from, to) {
+    if from == 0 && to == 0 {
         return;
     }
     shift(s, j, from, to, r);
@@ -89,9 +79,7 @@ pub fn settle(s: &[u8], k: usize, low: &[i64], high: &[i64], r: &mut [i64; 129])
     ensures is { Settled s.now k low.now high.now r.new }
     ensures place { start_of r.new ≡ start_of r.old }
 {
-    let mut j = 0;
-    while j < low.len() {
+    for j in 0..low.len() {
         follow(s, j, k, low, high, r);
-        j += 1;
     }
 }

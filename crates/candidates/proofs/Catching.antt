@@ -118,7 +118,7 @@ module _ {w : Stored} (valid : Counted w) where
   cons-long : length (basic_set_of w).constraints ≡ w.cons
   cons-long = let h = hc in let l = lc in length-map (take w.cons w.constraints) constraint_of ∙ length-take-le w.cons w.constraints (omega arith)
 
-  bounds-are : length (bounds 0 (basic_set_of w).divisions) ≡ 2 * w.divs
+  pub bounds-are : length (bounds 0 (basic_set_of w).divisions) ≡ 2 * w.divs
   bounds-are = bounds-long 0 (basic_set_of w).divisions ∙ ap (λ i. 2 * i) divs-long
 
   conditions-long : length (conditions (basic_set_of w)) ≡ 2 * w.divs + w.cons

@@ -1,5 +1,5 @@
 -- What the functions of candidates ask and give.
-use Rattle.std.specs.Prelude.{◌≡◌, Bool, true, false, ◌&&◌, cond, List, [], ◌∷◌, ◌++◌, ℕ, ◌+◌, ◌*◌, ◌≤◌, ◌<◌, eqb, ℤ, pos, length, take}
+use Rattle.std.specs.Prelude.{◌≡◌, Bool, true, false, ◌&&◌, cond, List, [], ◌∷◌, ◌++◌, ℕ, ◌+◌, ◌*◌, ◌≤◌, ◌<◌, eqb, ℤ, pos, length, take, Option, IfSome}
 use Rattle.model.specs.Limits.{most_divisions, most_constraints}
 use Rattle.model.specs.Sets.{Kind, equality, inequality, Constraint, BasicSet, conditions}
 use Rattle.model.specs.Values.{constraint_of, basic_set_of}
@@ -59,8 +59,8 @@ pub record Holds (k : ℕ) (b : BasicSet) (h : Standing) (rows : List (List ℤ)
   pub stands : Stands k (conditions b) h rows place kinds past columns
 
 -- the shared tests judge unless one of them is wide
-pub record KeptOf (k : ℕ) (r : StoredConstraint) (h : Standing) (rows : List (List ℤ)) (place kinds : List ℕ) (past : List (List ℤ)) (columns : List ℕ) (x : Survivors) : Type 0 where
-  pub is : (b : BasicSet) → Holds k b h rows place kinds past columns → x.far ≡ false → Keeping b (constraint_of r) x
+pub record KeptOf (k : ℕ) (r : StoredConstraint) (h : Standing) (rows : List (List ℤ)) (place kinds : List ℕ) (past : List (List ℤ)) (columns : List ℕ) (x : Option Survivors) : Type 0 where
+  pub is : (b : BasicSet) → Holds k b h rows place kinds past columns → IfSome x (Keeping b (constraint_of r))
 
 -- the tables hold the test of the first constraints of w
 pub record Behind (w : Stored) (h : Standing) (rows : List (List ℤ)) (place kinds : List ℕ) (past : List (List ℤ)) (columns : List ℕ) : Type 0 where

@@ -15,12 +15,7 @@ use simplex::Verdict;
 pub fn is_kept(v: Verdict) -> bool
     ensures { result ≡ C.is_kept (verdict_of v) }
 {
-    match v {
-        Verdict::Point => true,
-        Verdict::Dropped => false,
-        Verdict::Long => true,
-        Verdict::Wide => true,
-    }
+    !matches!(v, Verdict::Dropped)
 }
 
 // Whether the test for fractions keeps a candidate.
@@ -28,9 +23,7 @@ pub fn keeps(b: BasicSet, rows: &mut [[i64; 18]], place: &mut [usize], kinds: &m
     requires { Sound b × Tables rows.old place.old kinds.old }
     ensures { result ≡ C.keeps (basic_set_of b) }
 {
-    let e = test_basic(b, rows, place, kinds);
-    let v = e.verdict;
-    is_kept(v)
+    is_kept(test_basic(b, rows, place, kinds).verdict)
 }
 
 // The first `at` constraints of w, then r.
@@ -49,11 +42,8 @@ pub fn anew(w: BasicSet, o: Constraint, spare: &mut [[i64; 18]]) -> bool
     requires { Roomy w × (length spare.old ≡ 64) }
     ensures { result ≡ C.keeps (candidate (basic_set_of w) (constraint_of o)) }
 {
-    let at = w.cons;
-    let q = put(w, at, o);
+    let q = put(w, w.cons, o);
     let mut place = [0usize; 80];
     let mut kinds = [0u8; 80];
-    let e = test_basic(q, spare, &mut place, &mut kinds);
-    let v = e.verdict;
-    is_kept(v)
+    is_kept(test_basic(q, spare, &mut place, &mut kinds).verdict)
 }

@@ -1,24 +1,37 @@
 // The candidates of a cut: their tests share the pivots of the working constraints' test.
-ghost use Rattle.std.specs.Prelude.{◌≡◌, length};
+ghost use Rattle.std.specs.Prelude.{◌≡◌, false, length, IfSome};
 ghost use Rattle.model.specs.Values.{constraint_of, basic_set_of};
+ghost use Rattle.algebra.specs.Cut as C;
+ghost use Rattle.simplex.specs.Answers.{verdict_of};
+ghost use Rattle.carrying.specs.Carried.{is_wide};
 ghost use Rattle.simplex.specs.Table.{Valid};
 ghost use Rattle.sharing.specs.Working.{Beginning, Growing};
 ghost use Rattle.candidates.specs.Candidates.{Roomy, Opposed, Keeping, KeptOf, Caught, Followed};
 
 use crate::alone::{anew, is_kept};
-use carrying::both::is_wide;
 use joining::{opposite_above, opposite_below, void};
 use model::{BasicSet, Constraint};
 use sharing::{Standing, begin, candidate, grow};
+use simplex::Verdict;
 
-// Which opposites of a constraint give a kept candidate; where `far`, a shared test was wide and they are still to be tested alone.
+// Which opposites of a constraint give a kept candidate.
 #[derive(Clone, Copy)]
 pub struct Survivors {
     pub above: bool,
     pub below: bool,
-    pub far: bool,
 }
 
+// Whether a shared test keeps a candidate; nothing where it is wide: the candidate is still to be tested alone.
+fn judged(v: Verdict) -> Option<bool>
+    ensures { IfSome result (λ kept. (kept ≡ C.is_kept (verdict_of v)) × (is_wide v ≡ false)) }
+{
+    if matches!(v, Verdict::Wide) {
+        return None;
+    }
+    Some(is_kept(v))
+}
+
+// Nothing: a shared test was wide, and the candidates are still to be tested alone.
 pub fn kept(
     h: Standing,
     k: usize,
@@ -29,31 +42,25 @@ pub fn kept(
     past: &[[i64; 18]],
     columns: &[usize],
     spare: &mut [[i64; 18]],
-) -> Survivors
+) -> Option<Survivors>
     requires growing { Growing k h rows.now place.now kinds.now past.now columns.now }
     requires opposed { Opposed r × (length spare.old ≡ 64) }
     ensures { KeptOf k r h rows.now place.now kinds.now past.now columns.now result }
 {
-    let equality = r.equality;
     let undivided = void(r);
-    let o = opposite_below(r, undivided);
-    let v = candidate(h, o, k, rows, place, kinds, past, columns, spare);
-    let below = is_kept(v);
-    let far = is_wide(v);
-    if equality {
-        let p = opposite_above(r, undivided);
-        let u = candidate(h, p, k, rows, place, kinds, past, columns, spare);
-        return Survivors {
-            above: is_kept(u),
+    let lower = opposite_below(r, undivided);
+    let tested = candidate(h, lower, k, rows, place, kinds, past, columns, spare);
+    let below = judged(tested)?;
+    if !r.equality {
+        return Some(Survivors {
+            above: false,
             below,
-            far: far | is_wide(u),
-        };
+        });
     }
-    Survivors {
-        above: false,
-        below,
-        far,
-    }
+    let upper = opposite_above(r, undivided);
+    let tested = candidate(h, upper, k, rows, place, kinds, past, columns, spare);
+    let above = judged(tested)?;
+    Some(Survivors { above, below })
 }
 
 // The same by tests of the candidates alone.
@@ -61,24 +68,16 @@ pub fn kept_alone(w: BasicSet, r: Constraint, spare: &mut [[i64; 18]]) -> Surviv
     requires { Roomy w × Opposed r × (length spare.old ≡ 64) }
     ensures { Keeping (basic_set_of w) (constraint_of r) result }
 {
-    let equality = r.equality;
     let undivided = void(r);
-    let o = opposite_below(r, undivided);
-    let below = anew(w, o, spare);
-    if equality {
-        let p = opposite_above(r, undivided);
-        let above = anew(w, p, spare);
+    let below = anew(w, opposite_below(r, undivided), spare);
+    if !r.equality {
         return Survivors {
-            above,
+            above: false,
             below,
-            far: false,
         };
     }
-    Survivors {
-        above: false,
-        below,
-        far: false,
-    }
+    let above = anew(w, opposite_above(r, undivided), spare);
+    Survivors { above, below }
 }
 
 // The test of the working constraints.
@@ -94,12 +93,9 @@ pub fn start(
     requires beginning { Beginning rows.old place.old kinds.old past.old columns.old }
     ensures { Caught w result rows.new place.new kinds.new past.new columns.new }
 {
-    let divs = w.divs;
-    let m = 2 * divs + w.cons;
     let mut x = begin(w, rows, place, kinds, past, columns);
-    while x.rows < m {
-        let c = w.constraints[x.rows - 2 * divs];
-        x = grow(x, c, divs, rows, place, kinds, past, columns);
+    for c in &w.constraints[..w.cons] {
+        x = grow(x, *c, w.divs, rows, place, kinds, past, columns);
     }
     x
 }
@@ -120,10 +116,7 @@ pub fn follow(
     requires { Growing k h rows.old place.old kinds.old past.old columns.old }
     ensures { Followed k r joins left h rows.old place.old kinds.old past.old columns.old result rows.new place.new kinds.new past.new columns.new }
 {
-    if !joins {
-        return h;
-    }
-    if left == 0 {
+    if !joins || left == 0 {
         return h;
     }
     grow(h, r, k, rows, place, kinds, past, columns)

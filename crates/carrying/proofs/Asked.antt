@@ -14,16 +14,15 @@ use Rattle.codec.specs.Parts.{Started}
 use Rattle.feasibility.specs.Tableau.{rows_built}
 use Rattle.codec.proofs.Boundaries.{decode_is, boundary_end, boundary-opened, turn}
 use Rattle.simplex.specs.declared.Ended.{Ended}
-use Rattle.carrying.specs.declared.Tested.TheVariants.{Refused, NoSuchSet, Answers}
+use Rattle.std.proofs.Common.{Ok, Err, Some, None}
+use Rattle.model.specs.declared.refusal.Refusal.{Refusal}
+use Rattle.model.specs.Refused.{number_of}
+use Rattle.codec.proofs.Refusing.{refused-by}
 use Rattle.carrying.specs.Answers.{Tests, foremost, numbered, tested, test_in, test_bytes, tested_of, built_of, built_for, built_bytes}
 
-pub asked-refused : (n : ℕ) (s : List ℕ) (k r : ℕ) → r ≡ number (decode n s) → (r ≡ 0 → ⊥) → tested_of (Refused r) ≡ test_bytes n s k
+pub asked-refused : (n : ℕ) (s : List ℕ) (k : ℕ) (r : Refusal) → number_of r ≡ number (decode n s) → tested_of (Err r) ≡ test_bytes n s k
 unfolding test_bytes
-asked-refused n s k r e z = at (decode n s) e
-  where
-    at : (a : Answer Set) → r ≡ number a → refused r ≡ test_in a k
-    at (refused m) q = ap refused q
-    at (gives a) q = absurd (z q)
+asked-refused n s k r e = sym (ap (λ a. test_in a k) (refused-by r (decode n s) e))
 
 -- and the rows built for it, with each of these laws
 pub built-refused : (n : ℕ) (s : List ℕ) (k : ℕ) → (number (decode n s) ≡ 0 → ⊥) → 0 ≡ built_bytes n s k
@@ -49,7 +48,7 @@ module _ (n : ℕ) (s : List ℕ) (z : number (decode n s) ≡ 0) where
   pub built-zero : 0 ≡ built_bytes n s 0
   built-zero = sym (built_is 0)
 
-  pub asked-zero : tested_of NoSuchSet ≡ test_bytes n s 0
+  pub asked-zero : tested_of (Ok None) ≡ test_bytes n s 0
   asked-zero = sym (asked_is 0)
 
   positive : (k : ℕ) → (k ≡ 0 → ⊥) → k ≡ suc (k - 1)
@@ -64,7 +63,7 @@ module _ (n : ℕ) (s : List ℕ) (z : number (decode n s) ≡ 0) where
     pub numbered-none : length s ≤ at → numbered (set_from s 0) k ≡ none
     numbered-none l = numbered_is ∙ ap foremost (boundary_end s at l)
 
-    pub asked-none : length s ≤ at → tested_of NoSuchSet ≡ test_bytes n s k
+    pub asked-none : length s ≤ at → tested_of (Ok None) ≡ test_bytes n s k
     asked-none l = sym (asked_is k ∙ ap (λ o. gives (tested o)) (numbered-none l))
 
     pub built-none : length s ≤ at → 0 ≡ built_bytes n s k
@@ -77,7 +76,7 @@ module _ (n : ℕ) (s : List ℕ) (z : number (decode n s) ≡ 0) where
       pub numbered-some : (b : BasicSet) → Decoded s (at + 1) b → numbered (set_from s 0) k ≡ some (basic_set_of b)
       numbered-some b d = numbered_is ∙ ap foremost (turn st.n s at st.there l b d).set
 
-      pub asked-some : (b : BasicSet) → Decoded s (at + 1) b → (x : Ended) → Tests (basic_set_of b) x → tested_of (Answers x) ≡ test_bytes n s k
+      pub asked-some : (b : BasicSet) → Decoded s (at + 1) b → (x : Ended) → Tests (basic_set_of b) x → tested_of (Ok (Some x)) ≡ test_bytes n s k
       asked-some b d x t = ap₂ (λ v m. gives (some (v, m))) t.verdict_is t.pivots_are ∙ sym (asked_is k ∙ ap (λ o. gives (tested o)) (numbered-some b d))
 
       pub built-some : (b : BasicSet) → Decoded s (at + 1) b → rows_built (basic_set_of b) ≡ built_bytes n s k

@@ -1,13 +1,14 @@
 -- What the answers of a test mean.
-use Rattle.std.specs.Prelude.{◌≡◌, List, [], ◌∷◌, ℕ, zero, suc, drop}
+use Rattle.std.specs.Prelude as C
+use Rattle.std.specs.Prelude.{◌≡◌, List, [], ◌∷◌, ℕ, zero, suc, drop, Result, Some, None}
 use Rattle.std.proofs.Math.Option.{Option, none, some}
 use Rattle.model.specs.Sets.{BasicSet, Set}
+use Rattle.model.specs.declared.refusal.Refusal.{Refusal}
 use Rattle.codec.specs.Bytes.{Answer, refused, gives, decode}
+use Rattle.codec.specs.Refusing.{answer_is}
 use Rattle.feasibility.specs.Tableau as T
 use Rattle.simplex.specs.declared.Ended.{Ended}
 use Rattle.simplex.specs.Answers.{verdict_of}
-use Rattle.carrying.specs.declared.Tested.{Tested}
-use Rattle.carrying.specs.declared.Tested.TheVariants.{Refused, NoSuchSet, Answers}
 
 -- the test's answer for a basic set, after so many pivots of both levels together
 pub record Tests (b : BasicSet) (r : Ended) : Type 0 where
@@ -50,7 +51,9 @@ unfoldable pub built_bytes : ℕ → List ℕ → ℕ → ℕ
 built_bytes n s k = built_for (decode n s) k
 
 -- each case of the code's answer: a refusal's number, no basic set of that number, or the answer and the pivots
-abbrev pub tested_of : Tested → Answer (Option (T.Verdict × ℕ))
-tested_of (Refused m) = refused m
-tested_of NoSuchSet = gives none
-tested_of (Answers x) = gives (some (verdict_of x.verdict, x.pivots))
+abbrev pub ended_of : C.Option Ended → Option (T.Verdict × ℕ)
+ended_of None = none
+ended_of (Some x) = some (verdict_of x.verdict, x.pivots)
+
+abbrev pub tested_of : Result (C.Option Ended) Refusal → Answer (Option (T.Verdict × ℕ))
+tested_of r = answer_is ended_of r

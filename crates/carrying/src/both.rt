@@ -10,12 +10,7 @@ use simplex::{Counted, Verdict};
 pub fn is_wide(v: Verdict) -> bool
     ensures { result ≡ is_wide v }
 {
-    match v {
-        Verdict::Point => false,
-        Verdict::Dropped => false,
-        Verdict::Long => false,
-        Verdict::Wide => true,
-    }
+    matches!(v, Verdict::Wide)
 }
 
 // The tableau as it is, in a table of two-word numbers, with so many pivots left.

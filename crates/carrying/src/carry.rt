@@ -6,9 +6,7 @@ pub fn carry(rows: &[[i64; 18]], out: &mut [[u64; 36]])
     requires { (length out.old ≡ length rows.now) × ((k : ℕ) → k < length rows.now → length (get_or rows.now k []) ≡ 18) }
     ensures { Turns out.new rows.now }
 {
-    let mut k: usize = 0;
-    while k < rows.len() {
+    for k in 0..rows.len() {
         wide_tableau::row::carry_row(&rows[k], &mut out[k]);
-        k += 1;
     }
 }

@@ -5,9 +5,8 @@ ghost use Rattle.feasibility.specs.Tableau.{rows_built};
 ghost use Rattle.simplex.specs.Table.{Valid};
 ghost use Rattle.carrying.specs.Answers.{Tests, test_bytes, tested_of};
 
-use crate::Tested;
 use crate::both::run_both;
-use model::{BasicSet, limit};
+use model::{BasicSet, Refusal, limit};
 use simplex::fill::fill;
 use simplex::{Counted, Ended};
 
@@ -46,9 +45,7 @@ pub fn test_basic(
     requires in_bounds_3 { 80 ≤ length kinds.old }
     ensures { Tests (basic_set_of b) result }
 {
-    let c = test_counted(b, rows, place, kinds);
-    let e = c.ended;
-    e
+    test_counted(b, rows, place, kinds).ended
 }
 
 // The same in tables of its own.
@@ -62,21 +59,19 @@ fn test_alone(b: BasicSet) -> Ended
     test_basic(b, &mut rows, &mut place, &mut kinds)
 }
 
-// The test for fractions of basic set number k, from 1, of a set's bytes.
-pub fn test(n: usize, set: &[u8], k: usize) -> Tested
+// The test for fractions of basic set number k, from 1, of a set's bytes; `tested_of` says what each answer means, None that there is
+// no such basic set.
+pub fn test(n: usize, set: &[u8], k: usize) -> Result<Option<Ended>, Refusal>
     ensures { tested_of result ≡ test_bytes n set.now k }
 {
-    let r = codec::check(n, set);
-    if r != 0 {
-        return Tested::Refused(r);
-    }
+    codec::check(n, set)?;
     if k == 0 {
-        return Tested::NoSuchSet;
+        return Ok(None);
     }
     let at = codec::start_of(set, k - 1);
     if set.len() <= at {
-        return Tested::NoSuchSet;
+        return Ok(None);
     }
-    let b = records::decode_basic(set, at + 1);
-    Tested::Answers(test_alone(b))
+    let basic = records::decode_basic(set, at + 1);
+    Ok(Some(test_alone(basic)))
 }

@@ -7,16 +7,15 @@ use Prim.Native.Nat.{ℕ, zero, suc, ◌+◌, ◌-◌, ◌*◌, ◌≤◌, ◌<�
 use native.Mathlib.Omega.{arith}
 use lib.IntN.{ℤ}
 use lib.ListN.{take, drop, get_or}
+use lib.Dec.{leb}
 use Rattle.integers.specs.Part.{lt-or-le}
 use Rattle.model.specs.Lists.{all}
 use Rattle.model.specs.Sets.{is_zero}
 use Rattle.codec.specs.Bytes.{value_of, signed, signed_list}
 use Rattle.codec.specs.Checking.{bits_allowed}
-use Rattle.codec.proofs.Parsing.{all_more, zero-yes, zero-not}
-
-and_no : (b : Bool) → (b && false) ≡ false
-and_no true = refl
-and_no false = refl
+use Rattle.model.proofs.Count.{and-true}
+use borrow.Author.Tests.{le-leb}
+use Rattle.codec.proofs.Parsing.{all_more, zero-is}
 
 module _ (f : ℤ → Bool) (s : List ℕ) (p : ℕ) where
   -- the numbers from place i of the eight on
@@ -40,8 +39,10 @@ module _ (f : ℤ → Bool) (s : List ℕ) (p : ℕ) where
     pub passed : (ok : Bool) → f (signed 2 v) ≡ true → (ok && from i) ≡ (ok && from (i + 1))
     passed ok y = ap (λ (t : Bool). ok && t) (one ∙ ap (λ (t : Bool). t && from (i + 1)) y)
 
-    pub failed : (ok : Bool) → f (signed 2 v) ≡ false → (ok && from i) ≡ false
-    failed ok y = ap (λ (t : Bool). ok && t) (one ∙ ap (λ (t : Bool). t && from (i + 1)) y) ∙ and_no ok
+    -- the flag with number i looked at, and those behind it
+    pub looked : (ok b : Bool) → b ≡ f (signed 2 v) → ((ok && b) && from (i + 1)) ≡ (ok && from i)
+    looked true b y = ap (λ (t : Bool). t && from (i + 1)) y ∙ sym one
+    looked false b y = refl
 
 -- ---- absent places
 
@@ -81,15 +82,11 @@ module _ (s : List ℕ) (p n i v : ℕ) (m : n ≤ 8) (h : i < 8) (e : v ≡ val
   place-absent : n ≤ i → get_or bits_allowed (8 - n + i) 0 ≡ 0
   place-absent l = let e : 8 - n + i ≡ 8 + (i - n) = omega arith in ap (λ (k : ℕ). get_or bits_allowed k 0) e ∙ none (i - n) (omega arith)
 
-  -- by whether place i is there
-  pub within-allowed : (ok : Bool) → v ≤ get_or bits_allowed (8 - n + i) 0 → (ok && from is_zero s p (later n i)) ≡ (ok && from is_zero s p (later n (i + 1)))
-  within-allowed ok l =
-      ⊎_elim (λ a. step (later n i) (later n (i + 1)) ok (omega arith))
-      (λ b. let z = place-absent b in step (later n i) i ok (omega arith) ∙ passed is_zero s p i v h e ok (zero-yes v (omega arith)) ∙ step (i + 1) (later n (i + 1)) ok (omega arith))
-      (lt-or-le i n)
-
-  pub over-allowed : (ok : Bool) → get_or bits_allowed (8 - n + i) 0 < v → (ok && from is_zero s p (later n i)) ≡ false
-  over-allowed ok l =
-      ⊎_elim (λ a. let z = place-there a in absurd (omega arith))
-      (λ b. step (later n i) i ok (omega arith) ∙ failed is_zero s p i v h e ok (zero-not v small (λ y. omega arith)))
+  -- an absent place is looked at as 0 or not, any other not at all
+  pub looked-absent : (ok : Bool) → ((ok && leb v (get_or bits_allowed (8 - n + i) 0)) && from is_zero s p (later n (i + 1))) ≡ (ok && from is_zero s p (later n i))
+  looked-absent ok =
+      ⊎_elim (λ a. let z = place-there a in
+      ap (λ (b : Bool). (ok && b) && from is_zero s p (later n (i + 1))) (le-leb v _ (omega arith)) ∙ ap (λ (b : Bool). b && from is_zero s p (later n (i + 1))) (and-true ok) ∙ step (later n (i + 1)) (later n i) ok (omega arith))
+      (λ b. step (later n (i + 1)) (i + 1) _ (omega arith)
+      ∙ looked is_zero s p i v h e ok _ (ap (leb v) (place-absent b) ∙ zero-is v small) ∙ step i (later n i) ok (omega arith))
       (lt-or-le i n)

@@ -1,68 +1,27 @@
 -- From place to place of bytes that are accepted by the way: what one command that is not refused adds.
 use mathlib.Core.Path.{◌≡◌, refl, sym, ap, ap₂, ◌∙◌, subst}
-use mathlib.Core.Bool.{Bool, true, false, not, ◌&&◌}
+use mathlib.Core.Bool.{Bool, true}
 use mathlib.Core.List.{List, ◌∷◌}
-use mathlib.Core.Logic.{⊎_elim}
 use Prim.Native.Nat.{ℕ, suc, ◌+◌, ◌-◌, ◌≤◌, ◌<◌}
 use native.Mathlib.Numerals.{add-one}
 use native.Mathlib.Nat.{le_refl}
 use native.Mathlib.Omega.{arith}
 use borrow.Author.Tests.{lt-ltb}
-use lib.Dec.{T, ltb, leb, eqb, lt→ltb, le→leb}
-use lib.IntN.{ℤ, pos, negsuc}
-use lib.Signed.{◌≤ℤ◌}
-use lib.ListN.{length, take, drop, get_or, drop_of_length-le, length-drop}
+use lib.Dec.{T, leb, lt→ltb, le→leb}
+use lib.IntN.{ℤ}
+use lib.ListN.{length, drop, get_or, drop_of_length-le, length-drop}
 use lib.Seq.{drop-cons, drop-drop}
-use Rattle.integers.specs.Mach.{clash}
+use Rattle.std.specs.Prelude.{Some}
 use Rattle.model.specs.Lists.{all}
-use Rattle.model.specs.Sets.{absent, equality}
-use Rattle.codec.specs.Bytes.{value_of, signed, signed_list, coefficient, within, constant_fits, Command, opens, misnumbered, division, constraint, is_division, is_constraint, body_of, head_of, body_in, constant_in, Counts, refusal, counted, width_of, kind_of, is_misnumbered, read_command, Built, parse, number}
+use Rattle.model.specs.Sets.{absent}
+use Rattle.codec.specs.Bytes.{signed_list, coefficient, constant_fits, Command, opens, misnumbered, division, constraint, is_division, body_of, constant_in, Counts, refusal, counted, width_of, kind_of, read_command, Built, parse, number}
 use Rattle.codec.specs.Places.{commands_of, built, set_from, body_at, division_at, constraint_at, Checked, opened}
-use Rattle.codec.specs.Accepting.{Over, Upto, InRange, DivisionThere, CommandThere, ConstraintThere, Leads, in_basic, Under, DivisionsTo, Joined, Further, ConstraintsTo, Ends, Accepts}
+use Rattle.codec.specs.Accepting.{Over, Upto, InRange, DivisionThere, ConstraintThere, Leads, in_basic, Under, DivisionsTo, Joined, Further, ConstraintsTo, Ends, Accepts}
 use Rattle.codec.specs.declared.accepting.ConstraintRun.{ConstraintRun}
-use Rattle.codec.specs.declared.accepting.Quick.{Quick}
-use Rattle.codec.proofs.Parsing.{start, both, pos-ltb, equality-test, divisor-in, body-behind, body-drop, constraint-code, width-constraint, read-opens, read-division, read-constraint, parse-nil, axes-in, decode-good}
+use Rattle.codec.proofs.Parsing.{start, both, pos-ltb, body-behind, body-drop, constraint-code, width-constraint, read-opens, read-division, read-constraint, parse-nil, axes-in, decode-good}
 use Rattle.codec.proofs.Decoded.{Parsed, next}
 use Rattle.codec.proofs.Walking.{added, built-more, built-end, accepted-parsed, parsed-accepted}
-use Rattle.codec.proofs.Ranges.{le-true, coefficients-in, absents-in, under_same, under_more, range-more}
-
--- ---- divisors and constants in range
-pub equality-constant : (s : List ℕ) (p q v : ℕ) → p ≡ q → v ≡ value_of (take 4 (drop p s)) → v < 4294967296 → not (eqb v 2147483648) ≡ true → constant_fits equality (constant_in (drop q s)) ≡ true
-equality-constant s p q v i e h z =
-    ap (λ (j : ℕ). constant_fits equality (signed 4 (value_of (take 4 (drop j s))))) (sym i)
-    ∙ ap (λ (w : ℕ). constant_fits equality (signed 4 w)) (sym e) ∙ equality-test v h ∙ z
-
-module _ (at : ℕ) (s : List ℕ) (c : get_or s at 0 ≡ 0x12) where
-  pub division-divisor : (d : ℕ) → d ≡ value_of (take 2 (drop (at + 1) s)) → (d ≡ 0 → ⊥) → d ≤ 32767 → (ltb 0 (division_at s at).divisor && leb (division_at s at).divisor 32767) ≡ true
-  division-divisor d e n h =
-      ap (λ (b : ℕ). ltb 0 (head_of b (drop (at + 1) s)) && leb (head_of b (drop (at + 1) s)) 32767) c ∙ divisor-in d (value_of (take 2 (drop (at + 1) s))) e n h
-
-  pub division-constant : (z : ℤ) → z ≡ signed 4 (value_of (take 4 (drop (at + 3) s))) → negsuc 999999999 ≤ℤ z → z ≤ℤ pos 1000000000
-      → within (negsuc 999999999) (pos 1000000000) (division_at s at).constant ≡ true
-  division-constant z e l h =
-      let i : at + 1 + 2 ≡ at + 3 = omega arith in
-      ap (λ (b : ℕ). within (negsuc 999999999) (pos 1000000000) (signed 4 (value_of (take 4 (body_in b (drop (at + 1) s)))))) c
-      ∙ ap (λ (t : List ℕ). within (negsuc 999999999) (pos 1000000000) (signed 4 (value_of (take 4 t)))) (drop-drop 2 (at + 1) s ∙ ap (λ (j : ℕ). drop j s) i)
-      ∙ ap (within (negsuc 999999999) (pos 1000000000)) (sym e) ∙ both (le-true (negsuc 999999999) z l) (le-true z (pos 1000000000) h)
-
--- ---- a constraint, by its command
-module _ (s : List ℕ) (at : ℕ) where
-  there-at : (b p : ℕ) → get_or s at 0 ≡ b → is_constraint b ≡ true → p ≡ at + body_of b → p + 36 ≤ length s → is_misnumbered b (head_of b (drop (at + 1) s)) ≡ false
-      → constant_fits (kind_of b) (constant_in (drop p s)) ≡ true → ConstraintThere s at p
-  there-at b p e c q i m z =
-      record {
-        command = ap is_constraint e ∙ c;
-        body = q ∙ ap (λ (x : ℕ). at + body_of x) (sym e);
-        inside = i;
-        named = ap (λ (x : ℕ). is_misnumbered x (head_of x (drop (at + 1) s))) e ∙ m;
-        constant = ap (λ (x : ℕ). constant_fits (kind_of x) (constant_in (drop p s))) e ∙ z;
-      }
-
-  pub bare-command : CommandThere s at 1 0x13 0x14 → ConstraintThere s at (at + 1)
-  bare-command t = ⊎_elim (λ e. there-at 0x14 (at + 1) e refl refl t.inside refl refl) (λ e. there-at 0x13 (at + 1) e.0 refl refl t.inside refl e.1) t.command
-
-  pub numbered-command : CommandThere s at 3 0x16 0x17 → eqb (value_of (take 2 (drop (at + 1) s))) 0 ≡ false → ConstraintThere s at (at + 3)
-  numbered-command t m = ⊎_elim (λ e. there-at 0x17 (at + 3) e refl refl t.inside m refl) (λ e. there-at 0x16 (at + 3) e.0 refl refl t.inside m e.1) t.command
+use Rattle.codec.proofs.Ranges.{coefficients-in, absents-in, under_more, range-more}
 
 -- ---- from place to place
 module _ (n : ℕ) (s : List ℕ) where
@@ -151,9 +110,6 @@ module _ (n : ℕ) (s : List ℕ) where
 
 -- ---- a run of divisions, and of constraints
 module _ (s : List ℕ) (start : ℕ) where
-  pub divisions-none : start ≤ length s → (low high : List ℤ) → DivisionsTo s start start 0 low high
-  divisions-none h low high = record { place = omega arith; inside = h; leads = λ n b m g f r. leads-none n s start (opened b) }
-
   module _ (at : ℕ) (low high low' high' : List ℤ) (u : Under low' low) (v : Under high high') where
     pub divisions-next : (count : ℕ) → DivisionsTo s start at count low high → DivisionThere s at → Over low' s (at + 7) → Upto high' s (at + 7) → DivisionsTo s start (at + 23) (count + 1) low' high'
     divisions-next count x y o p =
@@ -168,20 +124,6 @@ module _ (s : List ℕ) (start : ℕ) where
         }
 
 module _ (s : List ℕ) where
-  pub further-none : (c : ConstraintRun) → c.at ≤ length s → Further s c c
-  further-none c h =
-      record {
-        inside = h;
-        past = le_refl c.at;
-        counted = le_refl (c.at + c.count);
-        more = le_refl c.count;
-        low = under_same c.low;
-        high = under_same c.high;
-        below = under_same c.below;
-        above = under_same c.above;
-        leads = λ n d b m k g f r a. leads-none n s c.at (in_basic b d c.count);
-      }
-
   pub further_then : (a b c : ConstraintRun) → Further s a b → Further s b c → Further s a c
   further_then a b c x y =
       let i = x.past in let j = y.past in let p = x.counted in let q = y.counted in let u = x.more in let v = y.more in
@@ -190,18 +132,15 @@ module _ (s : List ℕ) where
         past = omega arith;
         counted = omega arith;
         more = omega arith;
-        low = under_more c.low b.low a.low y.low x.low;
-        high = under_more a.high b.high c.high x.high y.high;
-        below = under_more c.below b.below a.below y.below x.below;
-        above = under_more a.above b.above c.above x.above y.above;
+        low = under_more c.axes.low b.axes.low a.axes.low y.low x.low;
+        high = under_more a.axes.high b.axes.high c.axes.high x.high y.high;
+        below = under_more c.divisions.low b.divisions.low a.divisions.low y.below x.below;
+        above = under_more a.divisions.high b.divisions.high c.divisions.high x.above y.above;
         leads = λ n d e m k g f r t.
             leads-then n s a.at b.at c.at (in_basic e d a.count) (in_basic e d b.count) (in_basic e d c.count)
-            (x.leads n d e m k g (omega arith) (range-more n b.low b.high c.low c.high r y.low y.high) (range-more d b.below b.above c.below c.above t y.below y.above))
+            (x.leads n d e m k g (omega arith) (range-more n b.axes.low b.axes.high c.axes.low c.axes.high r y.low y.high) (range-more d b.divisions.low b.divisions.high c.divisions.low c.divisions.high t y.below y.above))
             (y.leads n d e m k g f r t);
       }
-
-  pub further-few : (c r : ConstraintRun) → Further s c r → c.count ≤ c.at → r.count ≤ r.at
-  further-few c r x h = let q = x.counted in omega arith
 
   -- one more
   pub further-next : (c r : ConstraintRun) (p : ℕ) → ConstraintThere s c.at p → Joined s c p r → Further s c r
@@ -219,30 +158,12 @@ module _ (s : List ℕ) where
         leads = λ n d b m q g f u a.
             subst (λ (x : ℕ). Leads n s c.at (in_basic b d c.count) r.at (in_basic b d x)) (sym j.count)
             (subst (λ (x : ℕ). Leads n s c.at (in_basic b d c.count) x (in_basic b d (c.count + 1))) (sym j.at)
-            (leads-constraint n s c.at b d m g r.low r.high u c.count p r.below r.above q a t (omega arith) j.low.1 j.high.1 j.below.1 j.above.1));
+            (leads-constraint n s c.at b d m g r.axes.low r.axes.high u c.count p r.divisions.low r.divisions.high q a t (omega arith) j.low.1 j.high.1 j.below.1 j.above.1));
       }
-
-  -- a loop that goes on behind c: at the place `at`, with the run r
-  pub record Going (c r : ConstraintRun) (at : ℕ) : Type 0 where
-    pub run : Further s c r
-    pub here : at ≡ r.at
-
-  pub going-none : (c : ConstraintRun) → c.at ≤ length s → Going c c c.at
-  going-none c h = record { run = further-none c h; here = refl }
-
-  module _ (c r : ConstraintRun) (at p : ℕ) (g : Going c r at) (t : ConstraintThere s at p) where
-    pub going-few : c.count ≤ c.at → r.count < length s
-    going-few h = let q = further-few c r g.run h in let e = g.here in let i = t.inside in let b = t.body in omega arith
-
-    pub going_next : (d : ConstraintRun) → Joined s r p d → Going c d d.at
-    going_next d j = record { run = further_then c r d g.run (further-next r d p (subst (λ (x : ℕ). ConstraintThere s x p) g.here t) j); here = refl }
-
-    pub going_less : (d : ConstraintRun) → Joined s r p d → length s - d.at < length s - at
-    going_less d j = let e = j.at in let i = t.inside in let b = t.body in omega arith
 
 -- a basic set: its divisions, and then its constraints
 pub ends_of : (n : ℕ) (s : List ℕ) (start p d : ℕ) (low high : List ℤ) (c : ConstraintRun) → n ≤ 8 → DivisionsTo s start p d low high → d ≤ 8
-    → ConstraintsTo s p low high c → c.count ≤ 48 → InRange n c.low c.high → InRange d c.below c.above → Ends n s start c.at
+    → ConstraintsTo s p low high c → c.count ≤ 48 → InRange n c.axes.low c.axes.high → InRange d c.divisions.low c.divisions.high → Ends n s start c.at
 ends_of n s start p d low high c m x f y g r a =
     let i = x.place in let e = y.at in let o = y.run.past in let z = y.run.counted in
     record {
@@ -252,8 +173,8 @@ ends_of n s start p d low high c m x f y g r a =
       inside = y.run.inside;
       leads = λ b k.
           leads-then n s start p c.at (opened b) (in_basic b d 0) (in_basic b d c.count)
-          (x.leads n b m k f (range-more n low high c.low c.high r
-          (subst (Under c.low) y.low y.run.low) (subst (λ (l : List ℤ). Under l c.high) y.high y.run.high)))
+          (x.leads n b m k f (range-more n low high c.axes.low c.axes.high r
+          (subst (Under c.axes.low) y.low y.run.low) (subst (λ (l : List ℤ). Under l c.axes.high) y.high y.run.high)))
           (subst (λ (j : ℕ). Leads n s p (in_basic b d j) c.at (in_basic b d c.count)) y.count
           (subst (λ (j : ℕ). Leads n s j (in_basic b d y.none.count) c.at (in_basic b d c.count)) y.at (y.run.leads n d b m f k g r a)));
     }
@@ -288,12 +209,9 @@ module _ (n : ℕ) (s : List ℕ) (at basics : ℕ) (w : Walked n s at basics) (
   ended : Checked n s at w.k
   ended = record { inside = w.inside; accepted = ap (λ (t : List ℕ). number (parse n (length t) w.k t)) (drop_of_length-le s h) ∙ ap number (parse-nil n 0 w.k) }
 
-  pub walked_all : (n ≡ 0 → ⊥) → n ≤ 8 → Accepts n s (record { accepted = true; basics = basics })
+  pub walked_all : (n ≡ 0 → ⊥) → n ≤ 8 → Accepts n s (Some basics)
   walked_all p q =
       record {
-        none = λ t. decode-good n s (axes-in n p q) ∙ (w.leads.accepts ended).accepted;
-        basics = λ t. let e = w.leads.counts in let f : length (set_from s at) ≡ 0 = ap (λ (b : Built). length b.rest) (built-end s at h) in let g = w.is in omega arith;
+        none = decode-good n s (axes-in n p q) ∙ (w.leads.accepts ended).accepted;
+        basics = let e = w.leads.counts in let f : length (set_from s at) ≡ 0 = ap (λ (b : Built). length b.rest) (built-end s at h) in let g = w.is in omega arith;
       }
-
-pub undecided-is : (n : ℕ) (s : List ℕ) (q : Quick) → q.accepted ≡ false → Accepts n s q
-undecided-is n s q e = record { none = λ t. clash t e; basics = λ t. clash t e }

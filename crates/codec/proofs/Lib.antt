@@ -12,3 +12,4 @@ pub mod RoundTrips
 pub mod Located
 mod Ranges
 mod Leading
+pub mod Refusing

@@ -2,6 +2,8 @@
 use mathlib.Core.Path.{◌≡◌, refl, sym, ap, ap₂, ◌∙◌, subst}
 use mathlib.Core.Bool.{Bool, true, false, not, ◌&&◌, ◌||◌, cond}
 use mathlib.Core.List.{List, [], ◌∷◌}
+use mathlib.Core.Logic.{⊎_elim}
+use Rattle.std.proofs.lemmas.Bool.Decides.{eqb_tells}
 use Prim.Native.Nat.{ℕ, zero, suc, ◌+◌, ◌-◌, ◌*◌, ◌≤◌, ◌<◌}
 use native.Mathlib.Numerals.{add-one}
 use native.Mathlib.Omega.{arith}
@@ -51,28 +53,21 @@ coefficient-yes v h n = signed-ind 2 (λ (z : ℤ). coefficient z ≡ true) v
     (λ l. let k : v ≤ 32767 = omega arith in le-leb v 32767 k)
     (λ l. let k : 65536 - suc v ≤ 32766 = omega arith in same-and-true _ ∙ le-leb (65536 - suc v) 32766 k)
 
+-- the bits of a number in range, and of 0
+pub coefficient-is : (v : ℕ) → v < 65536 → not (eqb v 32768) ≡ coefficient (signed 2 v)
+coefficient-is v h = ⊎_elim (λ e. ap not e.0 ∙ sym (coefficient-not v e.1)) (λ e. ap not e.0 ∙ sym (coefficient-yes v h e.1)) (eqb_tells v 32768)
+
 pub zero-yes : (v : ℕ) → v ≡ 0 → is_zero (signed 2 v) ≡ true
 zero-yes v e = ap (λ (w : ℕ). is_zero (signed 2 w)) e
 
 pub zero-not : (v : ℕ) → v < 65536 → (v ≡ 0 → ⊥) → is_zero (signed 2 v) ≡ false
 zero-not v h n = signed-ind 2 (λ (z : ℤ). is_zero z ≡ false) v (λ l. ne_eqb v 0 n) (λ l. refl)
 
-pub constant-low : (v : ℕ) → v < 2147483648 → within (negsuc 999999999) (pos 1000000000) (signed 4 v) ≡ leb v 1000000000
-constant-low v h = signed-ind 4 (λ (z : ℤ). within (negsuc 999999999) (pos 1000000000) z ≡ leb v 1000000000) v (λ l. refl) (λ l. absurd (omega arith))
-
-pub constant-high : (v : ℕ) → v < 4294967296 → 2147483648 ≤ v → within (negsuc 999999999) (pos 1000000000) (signed 4 v) ≡ leb 3294967296 v
-constant-high v k h = signed-ind 4 (λ (z : ℤ). within (negsuc 999999999) (pos 1000000000) z ≡ leb 3294967296 v) v (λ l. absurd (omega arith)) (λ l. same-and-true _ ∙ same)
-  where
-    same : leb (4294967296 - suc v) 999999999 ≡ leb 3294967296 v
-    same = by (λ (b : Bool). leb (4294967296 - suc v) 999999999 ≡ b) (leb 3294967296 v)
-        (λ e. let l = leb-true 3294967296 v e in let m : 4294967296 - suc v ≤ 999999999 = omega arith in le-leb _ _ m)
-        (λ e. let l = borrow.Author.Tests.leb-false 3294967296 v e in let m : 999999999 < 4294967296 - suc v = omega arith in lt-leb _ _ m)
+pub zero-is : (v : ℕ) → v < 65536 → leb v 0 ≡ is_zero (signed 2 v)
+zero-is v h = ⊎_elim (λ e. le-leb v 0 (omega (arith, e.1)) ∙ sym (zero-yes v e.1)) (λ e. lt-leb v 0 (omega (arith, e.1)) ∙ sym (zero-not v h e.1)) (eqb_tells v 0)
 
 pub equality-yes : (v : ℕ) → v < 4294967296 → (v ≡ 2147483648 → ⊥) → constant_fits equality (signed 4 v) ≡ true
 equality-yes v k h = signed-ind 4 (λ (z : ℤ). le_z (negsuc 2147483646) z ≡ true) v (λ l. refl) (λ l. le-leb (4294967296 - suc v) 2147483646 (omega arith))
-
-pub equality-test : (v : ℕ) → v < 4294967296 → constant_fits equality (signed 4 v) ≡ not (eqb v 2147483648)
-equality-test v k = by (λ (b : Bool). constant_fits equality (signed 4 v) ≡ not b) (eqb v 2147483648) (λ e. let q : v ≡ 2147483648 = eqb-true v 2147483648 e in ap (λ (w : ℕ). constant_fits equality (signed 4 w)) q) (λ e. equality-yes v k (borrow.Author.Tests.eqb-false v 2147483648 e))
 
 -- ---- tests in a row
 pub pos-ltb : (b : ℕ) → (b ≡ 0 → ⊥) → ltb 0 b ≡ true
@@ -206,14 +201,6 @@ module _ (b : ℕ) (s : List ℕ) (p : b ≡ 0x11 → ⊥) (f : is_division b �
   pub read-constraint : is_misnumbered b (head_of b s) ≡ false → read_command b s ≡ constraint numbered-rule
   read-constraint g = read-rule ∙ ap (λ (x : Bool). cond x misnumbered (constraint numbered-rule)) g
 
-  -- both count as a rule
-  pub counted-rule : (k : Counts) → counted k (read_command b s) ≡ record { basics = k.basics; divisions = k.divisions; constraints = k.constraints + 1 }
-  counted-rule k = ap (counted k) read-rule ∙ either (is_misnumbered b (head_of b s))
-    where
-      either : (x : Bool) → counted k (cond x misnumbered (constraint numbered-rule)) ≡ record { basics = k.basics; divisions = k.divisions; constraints = k.constraints + 1 }
-      either true = refl
-      either false = refl
-
 pub width-division : (b : ℕ) → is_division b ≡ true → width_of b ≡ body_of b + division_body
 width-division b e = let q : b ≡ 0x12 = eqb-true b 0x12 e in rw q
 
@@ -299,18 +286,8 @@ kind-equality b e = ap (λ (x : Bool). cond x equality inequality) e
 pub kind-inequality : (b : ℕ) → is_equality b ≡ false → kind_of b ≡ inequality
 kind-inequality b e = ap (λ (x : Bool). cond x equality inequality) e
 
--- what stands before the body: of a division, and of a rule with its number
-pub headed-division : (b : ℕ) → is_division b ≡ true → has_head b ≡ true
-headed-division b e = ap (λ (x : Bool). x || is_numbered b) e
-
-pub headed-numbered : (b : ℕ) → is_numbered b ≡ true → has_head b ≡ true
-headed-numbered b e = one_of (λ (c : ℕ). has_head c ≡ true) b 0x16 0x17 e refl refl
-
 pub headed-none : (b : ℕ) → is_division b ≡ false → is_numbered b ≡ false → has_head b ≡ false
 headed-none b e f = ap₂ (λ (x y : Bool). x || y) e f
-
-pub head-two : (b : ℕ) (s : List ℕ) → has_head b ≡ true → head_of b s ≡ value_of (take 2 s)
-head-two b s e = ap (λ (x : Bool). value_of (take (cond x 3 1 - 1) s)) e
 
 pub head-none : (b : ℕ) (s : List ℕ) → has_head b ≡ false → head_of b s ≡ 0
 head-none b s e = ap (λ (x : Bool). value_of (take (cond x 3 1 - 1) s)) e
@@ -318,26 +295,6 @@ head-none b s e = ap (λ (x : Bool). value_of (take (cond x 3 1 - 1) s)) e
 -- the body of a command is behind its first byte, and as long as the command says
 pub body-behind : (b : ℕ) → 0 < body_of b
 body-behind b = by (λ (x : Bool). 0 < cond x 3 1) (has_head b) (λ q. omega arith) (λ q. omega arith)
-
-pub body-three : (b : ℕ) → has_head b ≡ true → body_of b ≡ 3
-body-three b e = ap (λ (x : Bool). cond x 3 1) e
-
-pub body-one : (b : ℕ) → has_head b ≡ false → body_of b ≡ 1
-body-one b e = ap (λ (x : Bool). cond x 3 1) e
-
-pub body-in : (b : ℕ) → 0 < width_of b → body_of b ≤ width_of b
-body-in b h =
-    go (eqb b 0x11) (is_division b) (is_constraint b) (is_numbered b)
-    (λ e. let q : b ≡ 0x11 = eqb-true b 0x11 e in (ap is_division q, ap is_numbered q)) h
-  where
-    go : (x y z m : Bool) → (x ≡ true → (y ≡ false) × (m ≡ false)) → 0 < width_by x y z m → cond (y || m) 3 1 ≤ width_by x y z m
-    go true true z m d h = absurd (subst T (d refl).0 tt)
-    go true false z true d h = absurd (subst T (d refl).1 tt)
-    go true false z false d h = omega arith
-    go false true z m d h = omega arith
-    go false false true true d h = omega arith
-    go false false true false d h = omega arith
-    go false false false m d h = absurd (omega arith)
 
 pub body-drop : (b : ℕ) (s : List ℕ) (at : ℕ) → drop (at + body_of b) s ≡ body_in b (drop (at + 1) s)
 body-drop b s at =

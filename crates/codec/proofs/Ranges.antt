@@ -10,7 +10,7 @@ use borrow.Author.Tests.{eqb-true, eqb-false}
 use lib.Dec.{eqb}
 use lib.IntN.{ℤ, pos, negsuc}
 use lib.Signed.{◌≤ℤ◌, le_z, ≤ℤ_refl}
-use lib.ListN.{length, take, drop, get_or, set, length-set, replicate, get_or-replicate, get_or-append}
+use lib.ListN.{length, take, drop, get_or, set, replicate, get_or-replicate, get_or-append}
 use lib.Seq.{get_or-set_same, get_or-set_other}
 use Rattle.integers.specs.Order.{≤ℤ-trans, ≤ℤ-antisymm}
 use Rattle.integers.specs.Part.{lt-or-le}
@@ -60,9 +60,6 @@ module _ (R : ℤ → ℤ → Type 0) (more : (a b c : ℤ) → R a b → R b c 
 
   pub written-there : ((j : ℕ) → j < i → R (get_or r j (pos 0)) (g j)) → (j : ℕ) → j < i + 1 → R (get_or (set r i v) j (pos 0)) (g j)
   written-there u j b = at_place (λ (k : ℕ) (z : ℤ). R z (g k)) p j (λ k. u j (omega arith))
-
-  pub written-length : length (set r i v) ≡ 8
-  written-length = length-set r i v ∙ l
 
 -- ---- the table
 right : (l m : List ℤ) (k : ℕ) → get_or (l ++ m) (length l + k) (pos 0) ≡ get_or m k (pos 0)

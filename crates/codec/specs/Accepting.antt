@@ -1,11 +1,10 @@
 -- Bytes accepted by the least and the greatest coefficient at each place of a basic set.
-use Rattle.std.specs.Prelude.{◌≡◌, true, false, ◌&&◌, ◌⊎◌, List, ◌++◌, ℕ, ◌+◌, ◌-◌, ◌*◌, ◌≤◌, ◌<◌, ℤ, pos, negsuc, ltb, leb, ◌≤ℤ◌, length, take, drop, get_or, replicate}
+use Rattle.std.specs.Prelude.{◌≡◌, true, false, ◌&&◌, ◌⊎◌, List, ◌++◌, ℕ, ◌+◌, ◌-◌, ◌*◌, ◌≤◌, ◌<◌, ℤ, pos, negsuc, ltb, leb, ◌≤ℤ◌, Option, IfSome, length, take, drop, get_or, replicate}
 use Rattle.model.specs.Limits.{most_axes, most_divisions, most_constraints, coefficient_places, most_coefficient, most_divisor}
 use Rattle.model.specs.Sets as S
 use Rattle.codec.specs.Bytes.{division_byte, is_constraint, body_of, constraint_body, axes_place, divisions_place, constant_in, value_of, signed, division_constant, constant_fits, kind_of, is_misnumbered, Counts, decode, number}
 use Rattle.codec.specs.Places.{set_from, longest_division, head_at, division_at, Checked, opened}
 use Rattle.codec.specs.declared.accepting.ConstraintRun.{ConstraintRun}
-use Rattle.codec.specs.declared.accepting.Quick.{Quick}
 
 -- number i of those of 2 bytes from p on
 abbrev pub number_at : List ℕ → ℕ → ℕ → ℤ
@@ -72,10 +71,10 @@ pub record DivisionsTo (s : List ℕ) (start at count : ℕ) (low high : List �
 pub record Joined (s : List ℕ) (c : ConstraintRun) (p : ℕ) (r : ConstraintRun) : Type 0 where
   pub at : r.at ≡ p + constraint_body
   pub count : r.count ≡ c.count + 1
-  pub low : Under r.low c.low × Over r.low s (p + axes_place)
-  pub high : Under c.high r.high × Upto r.high s (p + axes_place)
-  pub below : Under r.below c.below × Over r.below s (p + divisions_place)
-  pub above : Under c.above r.above × Upto r.above s (p + divisions_place)
+  pub low : Under r.axes.low c.axes.low × Over r.axes.low s (p + axes_place)
+  pub high : Under c.axes.high r.axes.high × Upto r.axes.high s (p + axes_place)
+  pub below : Under r.divisions.low c.divisions.low × Over r.divisions.low s (p + divisions_place)
+  pub above : Under c.divisions.high r.divisions.high × Upto r.divisions.high s (p + divisions_place)
 
 -- c, and constraints that follow, accepted where the coefficients of all are in range
 pub record Further (s : List ℕ) (c r : ConstraintRun) : Type 0 where
@@ -83,19 +82,19 @@ pub record Further (s : List ℕ) (c r : ConstraintRun) : Type 0 where
   pub past : c.at ≤ r.at
   pub counted : c.at + r.count ≤ r.at + c.count
   pub more : c.count ≤ r.count
-  pub low : Under r.low c.low
-  pub high : Under c.high r.high
-  pub below : Under r.below c.below
-  pub above : Under c.above r.above
-  pub leads : (n d b : ℕ) → n ≤ most_axes → d ≤ most_divisions → 0 < b → r.count ≤ most_constraints → InRange n r.low r.high → InRange d r.below r.above → Leads n s c.at (in_basic b d c.count) r.at (in_basic b d r.count)
+  pub low : Under r.axes.low c.axes.low
+  pub high : Under c.axes.high r.axes.high
+  pub below : Under r.divisions.low c.divisions.low
+  pub above : Under c.divisions.high r.divisions.high
+  pub leads : (n d b : ℕ) → n ≤ most_axes → d ≤ most_divisions → 0 < b → r.count ≤ most_constraints → InRange n r.axes.low r.axes.high → InRange d r.divisions.low r.divisions.high → Leads n s c.at (in_basic b d c.count) r.at (in_basic b d r.count)
 
 -- constraints from a place on, after divisions whose coefficients go from `least` to `greatest`
 pub record ConstraintsTo (s : List ℕ) (start : ℕ) (least greatest : List ℤ) (r : ConstraintRun) : Type 0 where
   pub none : ConstraintRun
   pub at : none.at ≡ start
   pub count : none.count ≡ 0
-  pub low : none.low ≡ least
-  pub high : none.high ≡ greatest
+  pub low : none.axes.low ≡ least
+  pub high : none.axes.high ≡ greatest
   pub run : Further s none r
 
 -- a basic set from a place on
@@ -106,7 +105,7 @@ pub record Ends (n : ℕ) (s : List ℕ) (start end : ℕ) : Type 0 where
   pub inside : end ≤ length s
   pub leads : (b : ℕ) → 0 < b → Leads n s start (opened b) end (in_basic b divisions constraints)
 
--- what quick acceptance says
-pub record Accepts (n : ℕ) (s : List ℕ) (q : Quick) : Type 0 where
-  pub none : q.accepted ≡ true → number (decode n s) ≡ 0
-  pub basics : q.accepted ≡ true → q.basics ≡ length (set_from s 0)
+-- what quick acceptance says, which tells how many basic sets there are
+pub record Accepts (n : ℕ) (s : List ℕ) (q : Option ℕ) : Type 0 where
+  pub none : IfSome q (λ basics. number (decode n s) ≡ 0)
+  pub basics : IfSome q (λ basics. basics ≡ length (set_from s 0))

@@ -6,6 +6,7 @@ ghost use Rattle.model.specs.Limits.{most_axes, most_divisions, coefficient_plac
 ghost use Rattle.codec.specs.Bytes as B;
 ghost use Rattle.codec.specs.Bytes.{signed, signed_list, coefficient, division_constant, constant_fits, division_body, constraint_body, read_division, is_misnumbered, read_rule, read_command, division, opens, refusal, head_refusal, decode, number, kind_of};
 ghost use Rattle.codec.specs.Checking.{counts_of, bits_allowed};
+ghost use Rattle.model.specs.Refused.{number_in};
 
 use crate::accepting::accepts;
 use crate::layout::{
@@ -13,7 +14,7 @@ use crate::layout::{
     is_numbered, width,
 };
 use integers::{u16_at, u32_at};
-use model::{limit, refusal};
+use model::{Refusal, limit};
 
 // How far a set has come: its basic sets, and of the last one the divisions and constraints.
 #[derive(Clone, Copy)]
@@ -30,13 +31,8 @@ fn plain(t: &[u8], p: usize) -> bool
     ensures { result ≡ all coefficient (signed_list coefficient_places (drop p t.now)) }
 {
     let mut ok = true;
-    let mut i = 0;
-    while i < limit::PLACES {
-        let v = u16_at(t, p + 2 * i);
-        if v == 32768 {
-            ok = false;
-        }
-        i += 1;
+    for i in 0..limit::PLACES {
+        ok &= u16_at(t, p + 2 * i) != 32768;
     }
     ok
 }
@@ -55,14 +51,8 @@ fn zeros(t: &[u8], p: usize, n: usize, bits: &[u16]) -> bool
     ensures { result ≡ all is_zero (signed_list (coefficient_places - n) (drop (p + 2 * n) t.now)) }
 {
     let mut ok = true;
-    let mut i = 0;
-    while i < limit::PLACES {
-        let v = u16_at(t, p + 2 * i);
-        let most = bits[limit::PLACES - n + i] as u64;
-        if most < v {
-            ok = false;
-        }
-        i += 1;
+    for i in 0..limit::PLACES {
+        ok &= u16_at(t, p + 2 * i) <= u64::from(bits[limit::PLACES - n + i]);
     }
     ok
 }
@@ -87,118 +77,116 @@ fn constraint_constant_in(b: u8, v: u64) -> bool
     requires { v < 4294967296 }
     ensures { result ≡ constant_fits (kind_of b) (signed 4 v) }
 {
-    if is_equality(b) {
-        return v != 2147483648;
-    }
-    true
+    !is_equality(b) || v != 2147483648
 }
 
-fn opens_refusal(n: usize, k: Counts) -> u32
-    ensures { result ≡ refusal n (counts_of k) opens }
+fn check_opening(n: usize, k: Counts) -> Result<(), Refusal>
+    ensures { number_in result ≡ refusal n (counts_of k) opens }
 {
-    if k.basics < limit::BASIC_SETS {
-        return 0;
+    if limit::BASIC_SETS <= k.basics {
+        return Err(Refusal::TooMany);
     }
-    refusal::TOO_MANY
+    Ok(())
 }
 
-// The refusal of a division by d whose body is t.
-fn division_refusal(n: usize, k: Counts, d: u64, t: &[u8], bits: &[u16]) -> u32
+// A division by d whose body is t.
+fn check_division(n: usize, k: Counts, d: u64, t: &[u8], bits: &[u16]) -> Result<(), Refusal>
     requires { (division_body ≤ length t.now) × (n ≤ most_axes) × (bits.now ≡ bits_allowed) }
-    ensures { result ≡ refusal n (counts_of k) (division (read_division d t.now)) }
+    ensures { number_in result ≡ refusal n (counts_of k) (division (read_division d t.now)) }
 {
     if k.basics == 0 {
-        return refusal::NO_BASIC_SET;
+        return Err(Refusal::NoBasicSet);
     }
     if k.constraints != 0 {
-        return refusal::LATE_DIVISION;
+        return Err(Refusal::LateDivision);
     }
     if limit::DIVISIONS <= k.divisions {
-        return refusal::TOO_MANY;
+        return Err(Refusal::TooMany);
     }
-    if d == 0 {
-        return refusal::BAD_DIVISOR;
-    }
-    if limit::DIVISOR < d {
-        return refusal::BAD_DIVISOR;
+    if d == 0 || limit::DIVISOR < d {
+        return Err(Refusal::BadDivisor);
     }
     if !constant_in(u32_at(t, CONSTANT_PLACE)) {
-        return refusal::OUT_OF_RANGE;
+        return Err(Refusal::OutOfRange);
     }
     if !plain(t, AXES_PLACE) {
-        return refusal::OUT_OF_RANGE;
+        return Err(Refusal::OutOfRange);
     }
     if !zeros(t, AXES_PLACE, n, bits) {
-        return refusal::NOT_ABSENT;
+        return Err(Refusal::NotAbsent);
     }
-    0
+    Ok(())
 }
 
 // Whether a constraint whose command is b is written with a number, m, that is 0.
 fn is_misnumbered(b: u8, m: u64) -> bool
     ensures { result ≡ is_misnumbered b m }
 {
-    if is_numbered(b) {
-        return m == 0;
-    }
-    false
+    is_numbered(b) && m == 0
 }
 
-// The refusal of a constraint whose command is b, whose head is m and whose body is t.
-fn constraint_refusal(n: usize, k: Counts, b: u8, m: u64, t: &[u8], bits: &[u16]) -> u32
+// A constraint whose command is b, whose head is m and whose body is t.
+fn check_constraint(
+    n: usize,
+    k: Counts,
+    b: u8,
+    m: u64,
+    t: &[u8],
+    bits: &[u16],
+) -> Result<(), Refusal>
     requires { (constraint_body ≤ length t.now) × (n ≤ most_axes) × (k.divisions ≤ most_divisions) × (bits.now ≡ bits_allowed) }
-    ensures { result ≡ refusal n (counts_of k) (read_rule b m t.now) }
+    ensures { number_in result ≡ refusal n (counts_of k) (read_rule b m t.now) }
 {
     let d = k.divisions;
     if k.basics == 0 {
-        return refusal::NO_BASIC_SET;
+        return Err(Refusal::NoBasicSet);
     }
     if limit::CONSTRAINTS <= k.constraints {
-        return refusal::TOO_MANY;
+        return Err(Refusal::TooMany);
     }
     if is_misnumbered(b, m) {
-        return refusal::NO_NUMBER;
+        return Err(Refusal::NoNumber);
     }
     if !constraint_constant_in(b, u32_at(t, CONSTANT_PLACE)) {
-        return refusal::OUT_OF_RANGE;
+        return Err(Refusal::OutOfRange);
     }
     if !plain(t, AXES_PLACE) {
-        return refusal::OUT_OF_RANGE;
+        return Err(Refusal::OutOfRange);
     }
     if !plain(t, DIVISIONS_PLACE) {
-        return refusal::OUT_OF_RANGE;
+        return Err(Refusal::OutOfRange);
     }
     if !zeros(t, AXES_PLACE, n, bits) {
-        return refusal::NOT_ABSENT;
+        return Err(Refusal::NotAbsent);
     }
     if !zeros(t, DIVISIONS_PLACE, d, bits) {
-        return refusal::NOT_ABSENT;
+        return Err(Refusal::NotAbsent);
     }
-    0
+    Ok(())
 }
 
-// The refusal of the command at `at`, 0 for none.
-fn head_refusal(n: usize, k: Counts, s: &[u8], at: usize, bits: &[u16]) -> u32
+// The command at `at`.
+fn check_command(n: usize, k: Counts, s: &[u8], at: usize, bits: &[u16]) -> Result<(), Refusal>
     requires { (at < length s.now) × (n ≤ most_axes) × (k.divisions ≤ most_divisions) × (bits.now ≡ bits_allowed) }
-    ensures { result ≡ head_refusal n (counts_of k) (get_or s.now at 0) (drop (at + 1) s.now) }
+    ensures { number_in result ≡ head_refusal n (counts_of k) (get_or s.now at 0) (drop (at + 1) s.now) }
 {
     let b = s[at];
     let w = width(b);
     if w == 0 {
-        return refusal::UNKNOWN_COMMAND;
+        return Err(Refusal::UnknownCommand);
     }
     if s.len() - at < w {
-        return refusal::CUT_SHORT;
+        return Err(Refusal::CutShort);
     }
     if b == OPENS {
-        return opens_refusal(n, k);
+        return check_opening(n, k);
     }
     let t = body(s, at);
     let m = head(s, at);
     if is_division(b) {
-        return division_refusal(n, k, m, t, bits);
+        return check_division(n, k, m, t, bits);
     }
-    constraint_refusal(n, k, b, m, t, bits)
+    check_constraint(n, k, b, m, t, bits)
 }
 
 // The counts after the command b.
@@ -227,10 +215,10 @@ fn counted(k: Counts, b: u8) -> Counts
     }
 }
 
-// The refusal of the bytes of a set over n axes, command by command.
-fn scan(n: usize, s: &[u8], bits: &[u16]) -> u32
+// The bytes of a set over n axes, command by command.
+fn scan(n: usize, s: &[u8], bits: &[u16]) -> Result<(), Refusal>
     requires { (0 < n) × (n ≤ most_axes) × (bits.now ≡ bits_allowed) }
-    ensures { result ≡ number (decode n s.now) }
+    ensures { number_in result ≡ number (decode n s.now) }
 {
     let mut at = 0;
     let mut k = Counts {
@@ -239,38 +227,31 @@ fn scan(n: usize, s: &[u8], bits: &[u16]) -> u32
         constraints: 0,
     };
     while at < s.len() {
-        let r = head_refusal(n, k, s, at, bits);
-        if r != 0 {
-            return r;
-        }
+        check_command(n, k, s, at, bits)?;
         let b = s[at];
         k = counted(k, b);
         at += width(b);
     }
-    0
+    Ok(())
 }
 
-// 0, or the number that refuses the bytes of a set.
-pub fn scanned(n: usize, s: &[u8]) -> u32
-    ensures { result ≡ number (decode n s.now) }
+// Whether the bytes are those of a set, or what refuses them.
+pub fn scanned(n: usize, s: &[u8]) -> Result<(), Refusal>
+    ensures { number_in result ≡ number (decode n s.now) }
 {
-    if n == 0 {
-        return refusal::BAD_AXES;
-    }
-    if limit::AXES < n {
-        return refusal::BAD_AXES;
+    if n == 0 || limit::AXES < n {
+        return Err(Refusal::BadAxes);
     }
     let bits = allowed();
     scan(n, s, &bits)
 }
 
 // The same; most sets are accepted quickly.
-pub fn check(n: usize, s: &[u8]) -> u32
-    ensures { result ≡ number (decode n s.now) }
+pub fn check(n: usize, s: &[u8]) -> Result<(), Refusal>
+    ensures { number_in result ≡ number (decode n s.now) }
 {
-    let q = accepts(n, s);
-    if q.accepted {
-        return 0;
+    match accepts(n, s) {
+        Some(_) => Ok(()),
+        None => scanned(n, s),
     }
-    scanned(n, s)
 }

@@ -75,77 +75,54 @@ pub fn is_division(b: u8) -> bool
 pub fn is_numbered(b: u8) -> bool
     ensures { result ≡ is_numbered b }
 {
-    if b == NUMBERED_EQUALITY {
-        return true;
-    }
-    b == NUMBERED_INEQUALITY
+    b == NUMBERED_EQUALITY || b == NUMBERED_INEQUALITY
 }
 
 fn is_bare(b: u8) -> bool
     ensures { result ≡ is_bare b }
 {
-    if b == EQUALITY {
-        return true;
-    }
-    b == INEQUALITY
+    b == EQUALITY || b == INEQUALITY
 }
 
 pub fn is_constraint(b: u8) -> bool
     ensures { result ≡ is_constraint b }
 {
-    if is_bare(b) {
-        return true;
-    }
-    is_numbered(b)
+    is_bare(b) || is_numbered(b)
 }
 
 pub fn is_equality(b: u8) -> bool
     ensures { result ≡ is_equality b }
 {
-    if b == EQUALITY {
-        return true;
-    }
-    b == NUMBERED_EQUALITY
+    b == EQUALITY || b == NUMBERED_EQUALITY
 }
 
 // Whether a head of two bytes stands before the body.
 fn has_head(b: u8) -> bool
     ensures { result ≡ has_head b }
 {
-    if is_division(b) {
-        return true;
-    }
-    is_numbered(b)
+    is_division(b) || is_numbered(b)
 }
 
 fn body_place(b: u8) -> usize
     ensures { result ≡ body_of b }
 {
-    if is_division(b) {
-        return DIVISION_HEAD;
+    match b {
+        DIVISION => DIVISION_HEAD,
+        NUMBERED_EQUALITY | NUMBERED_INEQUALITY => NUMBERED_HEAD,
+        _ => BARE_HEAD,
     }
-    if is_numbered(b) {
-        return NUMBERED_HEAD;
-    }
-    BARE_HEAD
 }
 
 pub fn width(b: u8) -> usize
     ensures { result ≡ width_of b }
 {
-    if b == OPENS {
-        return 1;
+    match b {
+        OPENS => 1,
+        DIVISION => DIVISION_WIDTH,
+        EQUALITY | INEQUALITY => BARE_WIDTH,
+        NUMBERED_EQUALITY | NUMBERED_INEQUALITY => NUMBERED_WIDTH,
+        _ => 0,
     }
-    if is_division(b) {
-        return DIVISION_WIDTH;
-    }
-    if is_bare(b) {
-        return BARE_WIDTH;
-    }
-    if is_numbered(b) {
-        return NUMBERED_WIDTH;
-    }
-    0
 }
 
 // Whether a division, a constraint is at a place; whether the basic set goes on there.

@@ -1,5 +1,6 @@
 // A basic set as the part of the lent table that holds it, and the walk from basic set to basic set.
-ghost use Rattle.std.specs.Prelude.{◌≡◌, ◌+◌, ◌-◌, ◌≤◌, length, take, drop};
+ghost use Rattle.std.specs.Prelude.{◌≡◌, ◌+◌, ◌-◌, ◌≤◌, IfOk, length, take, drop};
+ghost use Rattle.model.specs.Refused.{number_in};
 ghost use Rattle.codec.specs.Bytes.{decode, number};
 ghost use Rattle.codec.specs.Places.{set_from, end_of, Accepted, Opened};
 ghost use Rattle.codec.specs.Parts.{part_of, held, Started};
@@ -8,6 +9,7 @@ use crate::accepting::accepts;
 use crate::checking::{check, scanned};
 use crate::layout::{goes_on, width};
 use crate::readers::code;
+use model::Refusal;
 
 // The place after the basic set of checked bytes whose commands start at `start`.
 pub fn end_of(s: &[u8], start: usize) -> usize
@@ -35,36 +37,16 @@ pub fn count(s: &[u8]) -> usize
     k
 }
 
-// What the check of the bytes of a set tells: the refusal, and of bytes that are not refused the number of basic sets.
-#[derive(Clone, Copy)]
-pub struct Verdict {
-    pub refusal: u32,
-    pub basics: usize,
-}
-
-// The refusal as `check` gives it; where there is none, the basic sets are counted on the way.
-pub fn check_counting(n: usize, s: &[u8]) -> Verdict
-    ensures refusal { result.refusal ≡ number (decode n s.now) }
-    ensures basics { result.refusal ≡ 0 → result.basics ≡ length (set_from s.now 0) }
+// The same check, and how many basic sets the bytes have.
+pub fn check_counting(n: usize, s: &[u8]) -> Result<usize, Refusal>
+    ensures refusal { number_in result ≡ number (decode n s.now) }
+    ensures basics { IfOk result (λ basics. basics ≡ length (set_from s.now 0)) }
 {
-    let q = accepts(n, s);
-    if q.accepted {
-        return Verdict {
-            refusal: 0,
-            basics: q.basics,
-        };
+    if let Some(basics) = accepts(n, s) {
+        return Ok(basics);
     }
-    let k = scanned(n, s);
-    if k != 0 {
-        return Verdict {
-            refusal: k,
-            basics: 0,
-        };
-    }
-    Verdict {
-        refusal: 0,
-        basics: count(s),
-    }
+    scanned(n, s)?;
+    Ok(count(s))
 }
 
 // The place of basic set number i of checked bytes, the first being 0; the end of the bytes where there are fewer.
@@ -73,13 +55,11 @@ pub fn start_of(s: &[u8], i: usize) -> usize
     ensures { Started s.now i result }
 {
     let mut at = 0;
-    let mut j = 0;
-    while j < i {
+    for j in 0..i {
         if s.len() <= at {
             return at;
         }
         at = end_of(s, at + 1);
-        j += 1;
     }
     at
 }
@@ -98,10 +78,7 @@ pub fn basic<'a>(n: usize, set: &'a [u8], k: usize) -> &'a [u8]
     ensures bytes { result.now ≡ held (part_of n set.now k) set.now }
     ensures place { result.ref_ptr ≡ (set.entry.ref_ptr.0, set.entry.ref_ptr.1 + (part_of n set.now k).place) }
 {
-    if check(n, set) != 0 {
-        return part(set, 0, 0);
-    }
-    if k == 0 {
+    if k == 0 || check(n, set).is_err() {
         return part(set, 0, 0);
     }
     let at = start_of(set, k - 1);

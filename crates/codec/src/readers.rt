@@ -14,10 +14,7 @@ pub fn tail<'a>(s: &'a [u8], p: usize) -> &'a [u8]
 pub fn code(s: &[u8], at: usize) -> u8
     ensures { result ≡ get_or s.now at 0 }
 {
-    if at < s.len() {
-        return s[at];
-    }
-    0
+    if at < s.len() { s[at] } else { 0 }
 }
 
 pub fn s16_at(t: &[u8], p: usize) -> i64

@@ -17,14 +17,8 @@ use Rattle.session.specs.Turns.{Memory, state_in, table_at, keeps, is_assignment
 use Rattle.commands.specs.Promises.{Holds}
 use Rattle.session.proofs.Commands.{by-command, set-at}
 
-pub load-operands : (b : ℕ) → b ≡ 0x40 → fixed_width b ≡ 4
-load-operands b e = ap fixed_width e
-
 pub one-operand : (b : ℕ) → is_assignment b ≡ true → 3 ≤ fixed_width b
 one-operand = by-command (λ (b : ℕ). 3 ≤ fixed_width b) (omega arith) (omega arith) (omega arith) (omega arith) (omega arith)
-
-pub third-operand : (b : ℕ) → is_assignment b ≡ true → ¬ (b ≡ 0x44) → 4 ≤ fixed_width b
-third-operand = by-command (λ (b : ℕ). ¬ (b ≡ 0x44) → 4 ≤ fixed_width b) (λ n. omega arith) (λ n. omega arith) (λ n. omega arith) (λ n. omega arith) (λ n. absurd (n refl))
 
 pub two-numbers : (b : ℕ) → is_assignment b ≡ true → ¬ (b ≡ 0x40) → 2 ≤ set_numbers b
 two-numbers = by-command (λ (b : ℕ). ¬ (b ≡ 0x40) → 2 ≤ set_numbers b) (λ n. absurd (n refl)) (λ n. omega arith) (λ n. omega arith) (λ n. omega arith) (λ n. omega arith)
@@ -89,9 +83,6 @@ module _ (n : ℕ) (l : List ℕ) (k : ℕ) (e : k ≡ number (decode n l)) wher
   pub load_gives : (a : Set) → decode n l ≡ gives a → length l ≤ room → load_bytes n l ≡ gives l
   unfolding load_bytes
   load_gives a z h = ap (fitting l) z ∙ ap (λ (x : Bool). cond x (gives l) (refused 11)) (le-leb (length l) room h)
-
-pub cleared-all : (o : List ℕ) (k : ℕ) → length o ≡ room → take 0 o ++ replicate (length o - 0) 0 ≡ table_of room (refused k)
-cleared-all o k h = ap (λ (i : ℕ). replicate (i - 0) 0) h
 
 pub loaded-table : (l o o₁ : List ℕ) (e : ℕ) → length o ≡ room → length o₁ ≡ room → Wrote l o 0 e o₁ → take e o₁ ++ replicate (length o₁ - e) 0 ≡ table_of room (gives l)
 unfolding put

@@ -10,19 +10,19 @@ use lib.IntN.{ℤ, pos}
 use lib.ListN.{length, get_or, take, drop}
 use lib.Seq.{drop-cons, drop-drop, length-take-le, get_or-take}
 use native.Mathlib.Numerals.{add-one}
+use Rattle.std.proofs.Common.{Option, Some, None}
 use Rattle.model.specs.Lists.{all}
 use Rattle.model.specs.Sets.{Set}
 use Rattle.codec.specs.Bytes.{Answer, refused, gives, decode, number, first_failing, axes_fit, value_of, signed}
 use Rattle.query.specs.Member.{member_bytes}
 use Rattle.enumeration.specs.Search.{Tallied, search_bytes}
 use Rattle.listing.specs.Text as T
+use Rattle.session.specs.declared.Cursor.{Cursor}
 use Rattle.session.specs.Script.{State, Done, set_at, is_binary, fixed_width, set_numbers, command_width, in_place, ending, says, ends, refused_line, opened, stored, told, member_line, search_line, coordinates, perform, execute}
 use Rattle.listing.specs.Written.{Wrote, Writes}
 use Rattle.session.specs.Turns.{Memory, state_in, table_at, keeps, Effect, none, listed, is_assignment, answer_of, performs, effect_of, shown, listing_of, memory_of, header_line, start_of}
 use Rattle.commands.specs.Promises.{tells, done_line, first_line, Single, Told, CommandIs, Holds, saying}
 use Rattle.commands.specs.declared.commands.CommandDone.{CommandDone}
-use Rattle.session.specs.declared.Listing.{Listing}
-use Rattle.session.specs.declared.Listing.TheVariants.{Nothing, From}
 use Rattle.session.proofs.Commands.{perform-assign, performs-assign, perform-list, performs-list, perform-member, perform-search, performs-quiet, execute-end, execute-open, execute-bad, execute-good, effect-end, effect-open, effect-bad, effect-good, perform-goes, perform-axes}
 use Rattle.commands.proofs.Answers.{operand}
 use Rattle.listing.proofs.Writing.{writes-same}
@@ -72,7 +72,7 @@ split-first (b ∷ s) h = refl
 
 -- ---- what the code's answers say
 
-pub told-by : {l : List ℕ} {n : ℕ} {g : Bool} {c : Listing} {r : CommandDone} {out out' : List ℕ} {t n' : ℕ} {g' : Bool} {c' : Listing}
+pub told-by : {l : List ℕ} {n : ℕ} {g : Bool} {c : Option Cursor} {r : CommandDone} {out out' : List ℕ} {t n' : ℕ} {g' : Bool} {c' : Option Cursor}
     → r ≡ record { text = t; axes = n'; goes = g'; listing = c' } → n' ≡ n → g' ≡ g → c' ≡ c → Wrote l out 0 t out' → Told l n g c r out out'
 told-by {l} {n} {g} {c} {r} {out} {out'} e p q x w =
     record {
@@ -82,7 +82,7 @@ told-by {l} {n} {g} {c} {r} {out} {out'} e p q x w =
       listing = ap (λ (d : CommandDone). d.listing) e ∙ x;
     }
 
-told_same : {l l' : List ℕ} {n n' : ℕ} {g g' : Bool} {c c' : Listing} {r : CommandDone} {out out' : List ℕ} → l ≡ l' → n ≡ n' → g ≡ g' → c ≡ c' → Told l n g c r out out' → Told l' n' g' c' r out out'
+told_same : {l l' : List ℕ} {n n' : ℕ} {g g' : Bool} {c c' : Option Cursor} {r : CommandDone} {out out' : List ℕ} → l ≡ l' → n ≡ n' → g ≡ g' → c ≡ c' → Told l n g c r out out' → Told l' n' g' c' r out out'
 told_same {l} {l'} {n} {n'} {g} {g'} {c} {c'} {r} {out} {out'} p q x y w =
     record {
       text = subst (λ (i : List ℕ). Wrote i out 0 r.text out') p w.text;
@@ -91,39 +91,14 @@ told_same {l} {l'} {n} {n'} {g} {g'} {c} {c'} {r} {out} {out'} p q x y w =
       listing = w.listing ∙ y;
     }
 
-module _ (axes n : ℕ) where
-  abbrev opened_by : Bool → Done
-  opened_by x = cond x (says (record { axes = n; sets = (state_in axes [] []).sets }) (T.line "axes" (pos n ∷ []))) (ends (state_in axes [] []) (refused_line 1))
-
-  pub opened-bad : axes_fit n ≡ false → {r : CommandDone} {t : ℕ} {out out' : List ℕ} → r ≡ saying t axes false → Writes 30 (refused_line 1) out 0 t out'
-      → Told (opened (state_in axes [] []) n).text (opened (state_in axes [] []) n).state.axes (axes_fit n) Nothing r out out'
-  opened-bad e q w =
-      told-by q (ap (λ (x : Bool). (opened_by x).state.axes) (sym e)) (sym e) refl (writes-same {j = 30} (omega arith) (ap (λ (x : Bool). (opened_by x).text) (sym e)) w).wrote
-
-  pub opened-good : axes_fit n ≡ true → {r : CommandDone} {t : ℕ} {out out' : List ℕ} → r ≡ saying t n true → Writes 30 (T.codes "axes" ++ (T.number (pos n) ++ (10 ∷ []))) out 0 t out'
-      → Told (opened (state_in axes [] []) n).text (opened (state_in axes [] []) n).state.axes (axes_fit n) Nothing r out out'
-  opened-good e q w =
-      told-by q (ap (λ (x : Bool). (opened_by x).state.axes) (sym e)) (sym e) refl (writes-same {j = 30} (omega arith) (one_number (T.codes "axes") n ∙ ap (λ (x : Bool). (opened_by x).text) (sym e)) w).wrote
-
-refused-is : (n : ℕ) (s : List ℕ) (k : ℕ) → k ≡ number (decode n s) → ¬ (k ≡ 0) → decode n s ≡ refused k
-refused-is n s k e h = by (decode n s) e
-  where
-    by : (a : Answer Set) → k ≡ number a → a ≡ refused k
-    by (refused m) q = ap refused (sym q)
-    by (gives t) q = absurd (h q)
-
 module _ (axes m : ℕ) (s : List ℕ) where
   abbrev Listed : Answer Set → CommandDone → List ℕ → List ℕ → Type 0
   Listed a r out out' = Told (tells (first_line m) a) axes true (listing_of (listed m a)) r out out'
 
-  pub told-refused : (k : ℕ) → k ≡ number (decode axes s) → ¬ (k ≡ 0) → {r : CommandDone} {t : ℕ} {out out' : List ℕ} → r ≡ saying t axes true → Writes 30 (refused_line k) out 0 t out'
-      → Told (tells (first_line m) (decode axes s)) axes true (listing_of (listed m (decode axes s))) r out out'
-  told-refused k e h {r} {t} {out} {out'} q w = subst (λ (a : Answer Set). Listed a r out out') (sym (refused-is axes s k e h)) (told-by q refl refl refl w.wrote)
-
   pub told-listed : (x : Set) → decode axes s ≡ gives x → (k : ℕ) → k ≡ length x → {t : ℕ} {out out' : List ℕ} → Writes 50 (T.codes "set" ++ (T.number (pos m) ++ T.line " has" (pos k ∷ []))) out 0 t out'
-      → Told (tells (first_line m) (decode axes s)) axes true (listing_of (listed m (decode axes s))) (record { text = t; axes = axes; goes = true; listing = From (start_of m) }) out out'
+      → Told (tells (first_line m) (decode axes s)) axes true (listing_of (listed m (decode axes s))) (record { text = t; axes = axes; goes = true; listing = Some (start_of m) }) out out'
   told-listed x e k q {t} {out} {out'} w =
-      subst (λ (a : Answer Set). Listed a (record { text = t; axes = axes; goes = true; listing = From (start_of m) }) out out') (sym e)
+      subst (λ (a : Answer Set). Listed a (record { text = t; axes = axes; goes = true; listing = Some (start_of m) }) out out') (sym e)
       (told-by refl refl refl refl (writes-same {j = 50} (omega arith) (ap (λ (i : ℕ). header_line m i) q) w).wrote)
 
 -- ---- coordinates
@@ -146,12 +121,6 @@ module _ (s : List ℕ) where
       (more 3 (p + 16) (p + 20) (omega arith) e (more 2 (p + 20) (p + 24) (omega arith) f (more 1 (p + 24) (p + 28) (omega arith) g (more 0 (p + 28) (p + 32) (omega arith) h refl)))))))
 
 -- ---- set numbers
-
-pub fits-at : (k i : ℕ) (s : List ℕ) → i < k → k ≤ length s → all (λ (m : ℕ). leb m 3) (drop i (take k s)) ≡ (leb (get_or s i 0) 3 && all (λ (m : ℕ). leb m 3) (drop (i + 1) (take k s)))
-fits-at k i s h l =
-    let n : i < length (take k s) = omega (arith, length-take-le k s l) in
-    ap (all (λ (m : ℕ). leb m 3)) (drop-cons (take k s) i 0 n)
-    ∙ ap₂ (λ (x y : ℕ). leb x 3 && all (λ (m : ℕ). leb m 3) (drop y (take k s))) (get_or-take k s i 0 h) (sym (add-one i))
 
 -- ---- texts and memory of the performed commands
 
@@ -226,7 +195,7 @@ module _ (axes : ℕ) (tables lengths : List ℕ) (c : List ℕ) (r : CommandDon
     command-end e q w =
         by-definition (ends st (T.line "end" [])) none (ap (execute st) h ∙ execute-end st b s e) (ap (effect_of st) h ∙ effect-end st b s e) (told-by q refl refl refl w.wrote)
 
-    pub command-open : b ≡ 0x10 → (n : ℕ) → n ≡ get_or s 0 0 → Told (opened (state_in axes [] []) n).text (opened (state_in axes [] []) n).state.axes (axes_fit n) Nothing r out out'
+    pub command-open : b ≡ 0x10 → (n : ℕ) → n ≡ get_or s 0 0 → Told (opened (state_in axes [] []) n).text (opened (state_in axes [] []) n).state.axes (axes_fit n) None r out out'
         → CommandIs (execute (state_in axes tables lengths) c) (effect_of (state_in axes tables lengths) c) r out out'
     unfolding st
     command-open e n q t =
@@ -277,36 +246,3 @@ begun axes (b ∷ c) s =
         at : (p : Bool) → ltb 0 (fixed_width b) ≡ p → first_failing ((p, 2) ∷ (q, 15) ∷ (r, 3) ∷ []) ≡ 0 → 0 < fixed_width b
         at true x e = ltb-true 0 (fixed_width b) x
         at false x e = absurd (omega arith)
-
--- the set numbers of a command are among its bytes
-pub numbers-enough : (b : ℕ) → 0 < fixed_width b → ¬ (b ≡ 0x00) → ¬ (b ≡ 0x10) → set_numbers b < fixed_width b
-numbers-enough b h n0 n1 = go (eqb b 0x40) (eqb b 0x41) (eqb b 0x42) (eqb b 0x43) (eqb b 0x44) (eqb b 0x45) (eqb b 0x46) (eqb b 0x47) (subst (λ (m : ℕ). 0 < m) width h) (sym width)
-  where
-    width : fixed_width b ≡ cond (eqb b 0x40 || is_binary b) 4 (cond (eqb b 0x44) 3 (cond (eqb b 0x45) 2 (cond (eqb b 0x46) 34 (cond (eqb b 0x47) 70 0))))
-    width = simp (ne_eqb b 0x00 n0, ne_eqb b 0x10 n1)
-
-    go : (x0 x1 x2 x3 x4 x5 x6 x7 : Bool) {w : ℕ}
-        → 0 < cond (x0 || (x1 || (x2 || x3))) 4 (cond x4 3 (cond x5 2 (cond x6 34 (cond x7 70 0))))
-        → cond (x0 || (x1 || (x2 || x3))) 4 (cond x4 3 (cond x5 2 (cond x6 34 (cond x7 70 0)))) ≡ w → cond (x1 || (x2 || x3)) 3 (cond x4 2 1) < w
-    go x0 true x2 x3 x4 x5 x6 x7 h e = four x0 e
-      where
-        four : (x : Bool) {w : ℕ} → cond (x || true) 4 (cond x4 3 (cond x5 2 (cond x6 34 (cond x7 70 0)))) ≡ w → 3 < w
-        four true e = omega arith
-        four false e = omega arith
-    go x0 false true x3 x4 x5 x6 x7 h e = four x0 e
-      where
-        four : (x : Bool) {w : ℕ} → cond (x || true) 4 (cond x4 3 (cond x5 2 (cond x6 34 (cond x7 70 0)))) ≡ w → 3 < w
-        four true e = omega arith
-        four false e = omega arith
-    go x0 false false true x4 x5 x6 x7 h e = four x0 e
-      where
-        four : (x : Bool) {w : ℕ} → cond (x || true) 4 (cond x4 3 (cond x5 2 (cond x6 34 (cond x7 70 0)))) ≡ w → 3 < w
-        four true e = omega arith
-        four false e = omega arith
-    go true false false false true x5 x6 x7 h e = omega arith
-    go true false false false false x5 x6 x7 h e = omega arith
-    go false false false false true x5 x6 x7 h e = omega arith
-    go false false false false false true x6 x7 h e = omega arith
-    go false false false false false false true x7 h e = omega arith
-    go false false false false false false false true h e = omega arith
-    go false false false false false false false false h e = absurd (omega arith)

@@ -1,16 +1,19 @@
 -- What a search found, as its definition says it.
 use Rattle.std.specs.Prelude.{ℕ, take}
 use Rattle.codec.specs.Bytes.{Answer, refused, gives}
-use Rattle.enumeration.specs.Search.{at, nothing, spent, Tallied}
+use Rattle.enumeration.specs.Search.{at, nothing, spent, Found, Tallied}
 use Rattle.search.specs.declared.first.FirstPoint.{FirstPoint}
-use Rattle.search.specs.declared.first.Outcome.{Outcome}
-use Rattle.search.specs.declared.first.Outcome.TheVariants.{At, Nothing, Spent, Refused}
+use Rattle.search.specs.declared.levels.Outcome.{Outcome}
+use Rattle.search.specs.declared.levels.Outcome.TheVariants.{At, Nothing, Spent}
 
-abbrev pub found_by : ℕ → FirstPoint → Outcome → Answer Tallied
-found_by n f At = gives (record { found = at (take n f.point); tested = f.tested })
-found_by n f Nothing = gives (record { found = nothing; tested = f.tested })
-found_by n f Spent = gives (record { found = spent; tested = f.tested })
-found_by n f (Refused k) = refused k
+abbrev pub found_by : ℕ → Outcome → Found
+found_by n (At p) = at (take n p)
+found_by n Nothing = nothing
+found_by n Spent = spent
 
-abbrev pub found_is : ℕ → FirstPoint → Answer Tallied
-found_is n f = found_by n f f.outcome
+abbrev pub found_of : ℕ → FirstPoint → Tallied
+found_of n f = record { found = found_by n f.outcome; tested = f.tested }
+
+abbrev pub found_is : ℕ → Answer FirstPoint → Answer Tallied
+found_is n (refused k) = refused k
+found_is n (gives f) = gives (found_of n f)

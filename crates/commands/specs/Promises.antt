@@ -1,5 +1,5 @@
 -- What the functions of a command ask and give.
-use Rattle.std.specs.Prelude.{◌≡◌, Bool, true, false, List, [], ℕ, suc, ◌≤◌, ◌<◌, leb, eqb, length, take}
+use Rattle.std.specs.Prelude.{◌≡◌, Bool, true, false, List, [], ℕ, suc, ◌≤◌, ◌<◌, leb, eqb, length, take, Option, None}
 use Rattle.model.specs.Limits.{most_axes}
 use Rattle.model.specs.Lists.{all}
 use Rattle.model.specs.Sets.{Set}
@@ -8,9 +8,8 @@ use Rattle.listing.specs.Text.{line}
 use Rattle.session.specs.Script.{room, set_numbers, fixed_width, command_width, ending, Done, refused_line}
 use Rattle.session.specs.Turns.{Memory, Effect, Fitted, header_line, shown, listing_of}
 use Rattle.listing.specs.Written.{Wrote}
+use Rattle.session.specs.declared.Cursor.{Cursor}
 use Rattle.commands.specs.declared.commands.CommandDone.{CommandDone}
-use Rattle.session.specs.declared.Listing.{Listing}
-use Rattle.session.specs.declared.Listing.TheVariants.{Nothing}
 
 -- all operands of the command b are there, and the set numbers among them are good
 pub record Operands (b : ℕ) (s : List ℕ) : Type 0 where
@@ -49,7 +48,7 @@ abbrev pub first_line : ℕ → Set → List ℕ
 first_line m t = header_line m (length t)
 
 -- what is known after it: the line, n, whether the script goes on, and the listing that is under way
-pub record Told (l : List ℕ) (n : ℕ) (g : Bool) (c : Listing) (r : CommandDone) (out out' : List ℕ) : Type 0 where
+pub record Told (l : List ℕ) (n : ℕ) (g : Bool) (c : Option Cursor) (r : CommandDone) (out out' : List ℕ) : Type 0 where
   pub text : Wrote l out 0 r.text out'
   pub axes : r.axes ≡ n
   pub goes : r.goes ≡ g
@@ -66,4 +65,4 @@ pub record Holds (y : Memory) (tables lengths result : List ℕ) : Type 0 where
   pub result_is : result ≡ y.result
 
 abbrev pub saying : ℕ → ℕ → Bool → CommandDone
-saying t n g = record { text = t; axes = n; goes = g; listing = Nothing }
+saying t n g = record { text = t; axes = n; goes = g; listing = None }

@@ -1,7 +1,8 @@
 // One whole command of a script: what it prints, and what it changes.
-ghost use Rattle.std.specs.Prelude.{◌≡◌, true, false, [], ℕ, ◌+◌, ◌≤◌, ◌<◌, leb, eqb, length, take, drop, get_or};
+ghost use Rattle.std.specs.Prelude.{◌≡◌, true, false, [], ℕ, ◌+◌, ◌≤◌, ◌<◌, leb, eqb, length, take, drop, get_or, None};
 ghost use Rattle.model.specs.Lists.{all};
 ghost use Rattle.model.specs.Limits.{most_axes, last_set};
+ghost use Rattle.model.specs.Refused.{number_of};
 ghost use Rattle.codec.specs.Bytes.{decode, axes_fit, value_of};
 ghost use Rattle.query.specs.Member.{member_bytes};
 ghost use Rattle.enumeration.specs.Search.{search_bytes};
@@ -10,30 +11,27 @@ ghost use Rattle.session.specs.Script.{room, set_numbers, coordinates, refused_l
 ghost use Rattle.listing.specs.Written.{Writes};
 ghost use Rattle.session.specs.Turns.{Fitted, state_in, answer_of, keeps, is_assignment, performs, effect_of, listed, listing_of, shown, memory_of};
 ghost use Rattle.commands.specs.Promises.{Operands, Single, Performable, Usable, CommandIs, tells, done_line, first_line, Told, Holds, saying};
-ghost use Rattle.commands.specs.Found.{found_is};
-ghost use Rattle.session.specs.declared.Listing.TheVariants.{Nothing};
+ghost use Rattle.commands.specs.Found.{found_of};
 
 use crate::memory::{answer, byte, keep, table};
 use listing::{at_line, counted_line, header, word};
-use model::{limit, refusal};
-use operations::Outcome;
-use query::Membership;
+use model::{Refusal, limit};
 use search::{FirstPoint, first_point};
-use session::{Cursor, Listing};
+use session::Cursor;
 
 #[derive(Clone, Copy)]
 pub struct CommandDone {
     pub text: usize,
     pub axes: usize,
     pub goes: bool,
-    pub listing: Listing,
+    pub listing: Option<Cursor>,
 }
 
-pub fn refused_line(out: &mut [u8], k: u32) -> usize
+pub fn refused_line(out: &mut [u8], r: Refusal) -> usize
     requires { 512 ≤ length out.old }
-    ensures { Writes 30 (refused_line k) out.old 0 result out.new }
+    ensures { Writes 30 (refused_line (number_of r)) out.old 0 result out.new }
 {
-    counted_line(out, b"refused", k as u64)
+    counted_line(out, b"refused", u64::from(r.number()))
 }
 
 fn says(text: usize, axes: usize, goes: bool) -> CommandDone
@@ -43,20 +41,17 @@ fn says(text: usize, axes: usize, goes: bool) -> CommandDone
         text,
         axes,
         goes,
-        listing: Listing::Nothing,
+        listing: None,
     }
 }
 
 // `10`: `axes` and n, or 1, which ends the script.
 fn open(axes: usize, n: usize, out: &mut [u8]) -> CommandDone
     requires { 512 ≤ length out.old }
-    ensures { Told (S.opened (state_in axes [] []) n).text (S.opened (state_in axes [] []) n).state.axes (axes_fit n) Nothing result out.old out.new }
+    ensures { Told (S.opened (state_in axes [] []) n).text (S.opened (state_in axes [] []) n).state.axes (axes_fit n) None result out.old out.new }
 {
-    if n == 0 {
-        return says(refused_line(out, refusal::BAD_AXES), axes, false);
-    }
-    if limit::AXES < n {
-        return says(refused_line(out, refusal::BAD_AXES), axes, false);
+    if n == 0 || limit::AXES < n {
+        return says(refused_line(out, Refusal::BadAxes), axes, false);
     }
     says(counted_line(out, b"axes", n as u64), n, true)
 }
@@ -66,16 +61,15 @@ fn list(axes: usize, m: usize, s: &[u8], out: &mut [u8]) -> CommandDone
     requires { 512 ≤ length out.old }
     ensures { Told (tells (first_line m) (decode axes s.now)) axes true (listing_of (listed m (decode axes s.now))) result out.old out.new }
 {
-    let k = codec::check(axes, s);
-    if k != 0 {
-        return says(refused_line(out, k), axes, true);
+    if let Err(r) = codec::check(axes, s) {
+        return says(refused_line(out, r), axes, true);
     }
     let text = header(out, m as u64, codec::count(s) as u64);
     CommandDone {
         text,
         axes,
         goes: true,
-        listing: Listing::From(Cursor {
+        listing: Some(Cursor {
             set: m,
             place: 0,
             basics: 0,
@@ -106,26 +100,22 @@ fn member(axes: usize, set: &[u8], s: &[u8], out: &mut [u8]) -> usize
     requires { (33 ≤ length s.now) × (512 ≤ length out.old) }
     ensures { Writes 30 (tells member_line (member_bytes axes set.now (S.coordinates most_axes (drop 1 s.now)))) out.old 0 result out.new }
 {
-    let m = query::member(axes, set, point(s, 1));
-    match m {
-        Membership::In => word(out, 0, b"in\n"),
-        Membership::Out => word(out, 0, b"out\n"),
-        Membership::Refused(k) => refused_line(out, k),
+    match query::member(axes, set, point(s, 1)) {
+        Ok(true) => word(out, 0, b"in\n"),
+        Ok(false) => word(out, 0, b"out\n"),
+        Err(r) => refused_line(out, r),
     }
 }
 
 fn found_line(n: usize, f: FirstPoint, out: &mut [u8]) -> usize
     requires { (n ≤ most_axes) × (512 ≤ length out.old) }
-    ensures { Writes 512 (tells search_line (found_is n f)) out.old 0 result out.new }
+    ensures { Writes 512 (search_line (found_of n f)) out.old 0 result out.new }
 {
-    let seen = f.outcome;
-    let p = f.point;
-    let k = f.tested as u64;
-    match seen {
-        search::Outcome::At => at_line(out, n, p, k),
-        search::Outcome::Nothing => counted_line(out, b"none", k),
-        search::Outcome::Spent => counted_line(out, b"spent", k),
-        search::Outcome::Refused(k) => refused_line(out, k),
+    let tested = u64::from(f.tested);
+    match f.outcome {
+        search::Outcome::At(point) => at_line(out, n, point, tested),
+        search::Outcome::Nothing => counted_line(out, b"none", tested),
+        search::Outcome::Spent => counted_line(out, b"spent", tested),
     }
 }
 
@@ -134,14 +124,11 @@ fn search(axes: usize, set: &[u8], s: &[u8], out: &mut [u8]) -> usize
     requires { (69 ≤ length s.now) × (axes ≤ most_axes) × (512 ≤ length out.old) }
     ensures { Writes 512 (tells search_line (search_bytes axes set.now (S.coordinates most_axes (drop 5 s.now)) (S.coordinates most_axes (drop 37 s.now)) (value_of (take 4 (drop 1 s.now))))) out.old 0 result out.new }
 {
-    let f = first_point(
-        axes,
-        set,
-        point(s, 5),
-        point(s, 37),
-        integers::u32_at(s, 1) as u32,
-    );
-    found_line(axes, f, out)
+    let most = integers::u32_at(s, 1) as u32;
+    match first_point(axes, set, point(s, 5), point(s, 37), most) {
+        Ok(f) => found_line(axes, f, out),
+        Err(r) => refused_line(out, r),
+    }
 }
 
 // `40` to `44`, with the operands s.
@@ -158,10 +145,9 @@ fn assign(
     ensures told { Writes 30 (tells done_line (answer_of (state_in axes tables.old lengths.old) b s.now)) out.old 0 result out.new }
     ensures kept { Holds (keeps (record { tables = tables.old; lengths = lengths.old; result = res.old }) (get_or s.now 0 0) (answer_of (state_in axes tables.old lengths.old) b s.now)) tables.new lengths.new res.new }
 {
-    let a = answer(b, axes, s, tables, lengths, res);
-    match a {
-        Outcome::Refused(k) => refused_line(out, k),
-        Outcome::Length(l) => {
+    match answer(b, axes, s, tables, lengths, res) {
+        Err(r) => refused_line(out, r),
+        Ok(l) => {
             keep(tables, lengths, byte(s, 0), res, l);
             word(out, 0, b"done\n")
         }
@@ -171,19 +157,11 @@ fn assign(
 fn set_numbers(b: u8) -> usize
     ensures { result ≡ set_numbers b }
 {
-    if b == 0x41 {
-        return 3;
+    match b {
+        0x41..=0x43 => 3,
+        0x44 => 2,
+        _ => 1,
     }
-    if b == 0x42 {
-        return 3;
-    }
-    if b == 0x43 {
-        return 3;
-    }
-    if b == 0x44 {
-        return 2;
-    }
-    1
 }
 
 // Whether the first k operands are set numbers.
@@ -191,14 +169,7 @@ fn numbers_fit(s: &[u8], k: usize) -> bool
     requires { k ≤ length s.now }
     ensures { result ≡ all (λ (m : ℕ). leb m last_set) (take k s.now) }
 {
-    let mut i = 0;
-    while i < k {
-        if limit::LAST_SET < s[i] {
-            return false;
-        }
-        i += 1;
-    }
-    true
+    s[..k].iter().all(|m| *m <= limit::LAST_SET)
 }
 
 // A command b that prints one line, with the operands s.
@@ -215,15 +186,11 @@ fn print(
     ensures told { Writes 512 (S.perform (state_in axes tables.old lengths.old) b s.now).text out.old 0 result out.new }
     ensures kept { Holds (memory_of (record { tables = tables.old; lengths = lengths.old; result = res.old }) (performs (state_in axes tables.old lengths.old) b s.now)) tables.new lengths.new res.new }
 {
-    if b == 0x46 {
-        let set = table(tables, lengths, byte(s, 0));
-        return member(axes, set, s, out);
+    match b {
+        0x46 => member(axes, table(tables, lengths, byte(s, 0)), s, out),
+        0x47 => search(axes, table(tables, lengths, byte(s, 0)), s, out),
+        _ => assign(axes, b, s, tables, lengths, res, out),
     }
-    if b == 0x47 {
-        let set = table(tables, lengths, byte(s, 0));
-        return search(axes, set, s, out);
-    }
-    assign(axes, b, s, tables, lengths, res, out)
 }
 
 // A command b whose set numbers are good, with the operands s.
@@ -270,7 +237,7 @@ pub fn command(
         return open(axes, byte(s, 0), out);
     }
     if !numbers_fit(s, set_numbers(b)) {
-        return says(refused_line(out, refusal::NO_SUCH_SET), axes, true);
+        return says(refused_line(out, Refusal::NoSuchSet), axes, true);
     }
     perform(axes, b, s, tables, lengths, res, out)
 }

@@ -9,9 +9,10 @@ ghost use Rattle.commands.specs.Promises.{Operands};
 ghost use Rattle.results.specs.Outcome.{outcome_is};
 
 use listing::word;
-use model::{limit, refusal};
-use operations::{Outcome, complement, difference, intersection, union};
+use model::{Refusal, limit};
+use operations::{complement, difference, intersection, union};
 use records::clear;
+use results::refuse;
 
 pub fn byte(s: &[u8], i: usize) -> usize
     requires { i < length s.now }
@@ -32,22 +33,19 @@ pub fn table<'a>(tables: &'a [u8], lengths: &[usize], m: usize) -> &'a [u8]
 }
 
 // A loaded set: its own refusals, then 11.
-pub fn load(n: usize, set: &[u8], res: &mut [u8]) -> Outcome
+pub fn load(n: usize, set: &[u8], res: &mut [u8]) -> Result<usize, Refusal>
     requires { length res.old ≡ room }
     ensures { Result room (load_bytes n set.now) (outcome_is result) res.new }
 {
-    let k = codec::check(n, set);
-    if k != 0 {
-        clear(res, 0);
-        return Outcome::Refused(k);
+    if let Err(r) = codec::check(n, set) {
+        return refuse(r, res);
     }
     if limit::SET_BYTES < set.len() {
-        clear(res, 0);
-        return Outcome::Refused(refusal::TABLE_FULL);
+        return refuse(Refusal::TableFull, res);
     }
     let end = word(res, 0, set);
     clear(res, end);
-    Outcome::Length(end)
+    Ok(end)
 }
 
 // The answer of a command that assigns a set, in the table for results.
@@ -58,7 +56,7 @@ pub fn answer(
     tables: &[u8],
     lengths: &[usize],
     res: &mut [u8],
-) -> Outcome
+) -> Result<usize, Refusal>
     requires { Fitted tables.now lengths.now × Operands b s.now × (is_assignment b ≡ true) × (length res.old ≡ room) }
     ensures { Result room (answer_of (state_in n tables.now lengths.now) b s.now) (outcome_is result) res.new }
 {
@@ -70,13 +68,11 @@ pub fn answer(
         return complement(n, first, res);
     }
     let second = table(tables, lengths, byte(s, 2));
-    if b == 0x41 {
-        return union(n, first, second, res);
+    match b {
+        0x41 => union(n, first, second, res),
+        0x42 => intersection(n, first, second, res),
+        _ => difference(n, first, second, res),
     }
-    if b == 0x42 {
-        return intersection(n, first, second, res);
-    }
-    difference(n, first, second, res)
 }
 
 // The whole table for results to table m, in which the set has l bytes.

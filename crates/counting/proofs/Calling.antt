@@ -5,7 +5,6 @@ use mathlib.Core.List.{List, [], ◌++◌}
 use mathlib.Core.Option.{Option}
 use Prim.Native.Nat.{ℕ, ◌+◌, ◌-◌, ◌≤◌, ◌<◌, zero-le}
 use native.Mathlib.Omega.{arith}
-use lib.Dec.{T}
 use lib.IntN.{ℤ, pos, ◌+ℤ◌}
 use lib.ListN.{length, take, get_or, replicate, replicate-append-replicate}
 use lib.Seq.{ext_get_or}
@@ -16,7 +15,6 @@ use Rattle.codec.specs.Bytes.{Answer, refused, gives, decode, number}
 use Rattle.codec.specs.Places.{set_from}
 use Rattle.codec.proofs.Boundaries.{decode_is}
 use Rattle.query.specs.Member.{point_fits}
-use Rattle.query.proofs.Answers.{bad}
 use Rattle.query.proofs.Points.{point-within}
 use Rattle.enumeration.specs.Search.{Interval, box_of, upright, corners_fit, limit_fits}
 use Rattle.search.specs.Sides.{Boxed}
@@ -26,12 +24,15 @@ use Rattle.enumeration.proofs.Windows.{corners-upright}
 use Rattle.search.proofs.Searching.{begun-is}
 use Rattle.enumeration.specs.Counting.{Members, no_members, members, members_in, count_at, counts_from, counts_of, Tally, count_box, axis_fits, count_bytes}
 use Rattle.counting.specs.Answers.{counted_is, table_is}
-use Rattle.counting.specs.Levels.{members_at, AtMost, Summed, within, beyond}
+use Rattle.counting.specs.Levels.{members_at, AtMost, counted, Summed, within, beyond}
 use Rattle.counting.specs.Calls as C
 use Rattle.counting.specs.declared.levels.Chosen.{Chosen}
-use Rattle.counting.specs.declared.levels.Sum.{Sum}
-use Rattle.counting.specs.declared.calls.Counted.{Counted}
-use Rattle.counting.specs.declared.calls.Outcome.TheVariants.{Done, Spent, Refused}
+use Rattle.counting.specs.declared.levels.Counted.{Counted}
+use Rattle.std.specs.Prelude.{Some, None, Err}
+use Rattle.model.specs.declared.refusal.Refusal.{Refusal}
+use Rattle.model.specs.declared.refusal.Refusal.TheVariants.{BadPoint}
+use Rattle.model.specs.Refused.{number_of}
+use Rattle.codec.proofs.Refusing.{refused-by}
 use Rattle.enumeration.proofs.CountAnswers.{count-refused, count-corners, count-axis, count-limit, count_gives}
 use Rattle.enumeration.proofs.Separate.{counts-length, counts-at, counts-none}
 use Rattle.enumeration.proofs.Counted.{longer-exhausted, within-counted}
@@ -40,20 +41,13 @@ use Rattle.counting.proofs.Zeros.{zeros-at}
 pub zeros-most : (each : List ℕ) → each ≡ replicate (length each) 0 → AtMost 0 each
 zeros-most each e = record { at = λ j. subst (λ (l : List ℕ). get_or l j 0 ≤ 0) (sym e) (subst (λ (x : ℕ). x ≤ 0) (sym (zeros-at (length each) j)) zero-le) }
 
--- ---- the number of the set, 12, or none
+-- ---- the refusal of the set, that of the corners, or none
 module _ (n : ℕ) (s : List ℕ) (low high : List ℤ) where
-  pub fitting-set : (k : ℕ) → k ≡ number (decode n s) → (k ≡ 0 → ⊥) → C.Fitting n s low high k
-  fitting-set k e h = record { answers = λ _ axis limit. count-refused n s low high axis limit k (bad n s k e h); checked = λ z. absurd (h z) }
+  pub fitting-set : (r : Refusal) → number_of r ≡ number (decode n s) → C.Fitting n s low high (Err r)
+  fitting-set r e axis limit = count-refused n s low high axis limit (number_of r) (refused-by r (decode n s) e)
 
-  pub fitting-corners : number (decode n s) ≡ 0 → corners_fit n low high ≡ false → C.Fitting n s low high 12
-  fitting-corners z p =
-      record {
-        answers = λ _ axis limit. count-corners n s low high axis limit (set_from s 0) (decode_is n s z) p;
-        checked = λ e. absurd (omega arith);
-      }
-
-  pub fitting-none : number (decode n s) ≡ 0 → corners_fit n low high ≡ true → C.Fitting n s low high 0
-  fitting-none z p = record { answers = λ h. absurd (h refl); checked = λ _. record { accepted = z; corners = p } }
+  pub fitting-corners : number (decode n s) ≡ 0 → corners_fit n low high ≡ false → C.Fitting n s low high (Err BadPoint)
+  fitting-corners z p axis limit = count-corners n s low high axis limit (set_from s 0) (decode_is n s z) p
 
 -- the first value of a side is a coordinate
 pub first-within : (n : ℕ) (s : List ℕ) (low high : List ℤ) → C.Checked n s low high → (i : ℕ) → Within 1048576 (get_or low i (pos 0))
@@ -75,27 +69,26 @@ module _ (n : ℕ) (s : List ℕ) (low high : List ℤ) (k : C.Checked n s low h
     asked-gives r = count_gives n s low high axis limit (set_from s 0) (decode_is n s k.accepted) k.corners q r
 
 -- ---- the walk from the whole box
-pub walk-all : (s : List ℕ) (n : ℕ) (low high : List ℤ) (limit : ℕ) (rows : List (List ℤ)) (p : Prefix) → Begun s n low high limit rows p → (c : Chosen) (each : List ℕ) (r : Sum) (t : List ℕ)
+pub walk-all : (s : List ℕ) (n : ℕ) (low high : List ℤ) (limit : ℕ) (rows : List (List ℤ)) (p : Prefix) → Begun s n low high limit rows p → (c : Chosen) (each : List ℕ) (r : Counted) (t : List ℕ)
     → Summed p.limit 0 c (members_at s p) each r t → Summed limit 0 c (members (set_from s 0) [] (take n (box_of low high))) each r t
 walk-all s n low high limit rows p b c each r t h = subst₂ (λ (l : ℕ) (m : Members). Summed l 0 c m each r t) b.limit_is (begun-is b (members (set_from s 0))) h
 
 -- ---- how a count ends: m, the members that count, are those that were walked over
 module _ (limit : ℕ) (c : Chosen) (each : List ℕ) (clear : each ≡ replicate (length each) 0) (m : Members) where
-  pub ended-shut : m ≡ no_members → (a : Counted) → a ≡ record { outcome = Done; whole = 0; tested = 0 } → C.Ended limit c m (length each) a each
-  ended-shut e a f =
-      subst₂ (λ (x : Members) (y : Counted). C.Ended limit c x (length each) y each) (sym e) (sym f)
-      (subst (C.Ended limit c no_members (length each) (record { outcome = Done; whole = 0; tested = 0 })) (counts-none c.axis (length each) c.first ∙ sym clear)
+  pub ended-shut : m ≡ no_members → C.Ended limit c m (length each) (counted (Some 0) 0) each
+  ended-shut e =
+      subst (λ (x : Members). C.Ended limit c x (length each) (counted (Some 0) 0) each) (sym e)
+      (subst (C.Ended limit c no_members (length each) (counted (Some 0) 0)) (counts-none c.axis (length each) c.first ∙ sym clear)
       (C.within zero-le))
 
   module _ (w : Members) (e : m ≡ w) where
     none : 0 + w.tested ≡ w.tested
     none = omega arith
 
-    pub ended-done : (r : Sum) (t : List ℕ) → Summed limit 0 c w each r t → r.spent ≡ false → (a : Counted) → a ≡ record { outcome = Done; whole = r.whole; tested = r.tested }
-        → C.Ended limit c m (length each) a t
-    ended-done _ _ (within h t p) z a f =
-        subst₂ (λ (x : Members) (y : Counted). C.Ended limit c x (length each) y t) (sym e) (sym f)
-        (subst₂ (λ (x : ℕ) (u : List ℕ). C.Ended limit c w (length each) (record { outcome = Done; whole = length w.points; tested = x }) u) (sym none) (sym table)
+    pub ended-done : (r : Counted) (t : List ℕ) → Summed limit 0 c w each r t → (r.whole ≡ None → ⊥) → C.Ended limit c m (length each) r t
+    ended-done _ _ (within h t p) z =
+        subst (λ (x : Members). C.Ended limit c x (length each) (counted (Some (length w.points)) (0 + w.tested)) t) (sym e)
+        (subst₂ (λ (x : ℕ) (u : List ℕ). C.Ended limit c w (length each) (counted (Some (length w.points)) x) u) (sym none) (sym table)
         (C.within (subst (λ (x : ℕ). x ≤ limit) none h)))
       where
         at : (j : ℕ) → j < length t → get_or t j 0 ≡ get_or (counts_from c.axis w.points (length each) c.first) j 0
@@ -108,14 +101,13 @@ module _ (limit : ℕ) (c : Chosen) (each : List ℕ) (clear : each ≡ replicat
 
         table : t ≡ counts_from c.axis w.points (length each) c.first
         table = ext_get_or 0 t (counts_from c.axis w.points (length each) c.first) (p.places ∙ sym (counts-length c.axis w.points (length each) c.first)) at
-    ended-done _ _ (beyond h x t l) z a f = absurd (subst T z tt)
+    ended-done _ _ (beyond h t l) z = absurd (z refl)
 
-    pub ended-spent : (r : Sum) (t : List ℕ) → Summed limit 0 c w each r t → r.spent ≡ true → (u : List ℕ) → u ≡ replicate (length t) 0
-        → (a : Counted) → a ≡ record { outcome = Spent; whole = 0; tested = r.tested } → C.Ended limit c m (length each) a u
-    ended-spent _ _ (within h t p) z u y a f = absurd (subst T (sym z) tt)
-    ended-spent _ _ (beyond h x t l) z u y a f =
-        subst₂ (λ (x : Members) (y : Counted). C.Ended limit c x (length each) y u) (sym e) (sym f)
-        (subst (C.Ended limit c w (length each) (record { outcome = Spent; whole = 0; tested = limit })) (sym (y ∙ ap (λ (k : ℕ). replicate k 0) l))
+    pub ended-spent : (r : Counted) (t : List ℕ) → Summed limit 0 c w each r t → r.whole ≡ None → (u : List ℕ) → u ≡ replicate (length t) 0 → C.Ended limit c m (length each) r u
+    ended-spent _ _ (within h t p) z u y = cc
+    ended-spent _ _ (beyond h t l) z u y =
+        subst (λ (x : Members). C.Ended limit c x (length each) (counted None limit) u) (sym e)
+        (subst (C.Ended limit c w (length each) (counted None limit)) (sym (y ∙ ap (λ (k : ℕ). replicate k 0) l))
         (C.beyond (subst (λ (x : ℕ). limit < x) none h)))
 
 -- the members of a box whose corners fit: looked at on all eight sides
@@ -136,16 +128,15 @@ module _ (n : ℕ) (s : List ℕ) (low high : List ℤ) (k : C.Checked n s low h
 no_less : (size : ℕ) → size - 0 ≡ size
 no_less size = omega arith
 
-pub refused-told : (size k : ℕ) (a : Answer Tally) → a ≡ refused k → (r : Counted) → r ≡ record { outcome = Refused k; whole = 0; tested = 0 } → (t : List ℕ) → t ≡ replicate size 0
-    → (r ≡ counted_is a) × (t ≡ table_is size a)
-refused-told size k a e r f t z = (f ∙ ap counted_is (sym e), z ∙ ap (λ (x : ℕ). replicate x 0) (sym (no_less size)) ∙ ap (table_is size) (sym e))
+pub refused-table : (size k : ℕ) (a : Answer Tally) → a ≡ refused k → (t : List ℕ) → t ≡ replicate size 0 → t ≡ table_is size a
+refused-table size k a e t z = z ∙ ap (λ (x : ℕ). replicate x 0) (sym (no_less size)) ∙ ap (table_is size) (sym e)
 
 module _ (s : Set) (box : List Interval) (axis : Option ℕ) (limit : ℕ) (c : Chosen) (k : ℕ)
     (same : (ps : List (List ℤ)) → counts_from c.axis ps k c.first ≡ counts_of axis box ps) (a : Answer Tally) (e : a ≡ gives (count_box s box axis limit)) where
   given-as : (u : Tally) → count_box s box axis limit ≡ u → gives u ≡ a
   given-as u f = sym (e ∙ ap gives f)
 
-  pub ended-answer : (r : Counted) (t : List ℕ) → C.Ended limit c (members_in s box) k r t → r ≡ counted_is a
+  pub ended-answer : (r : Counted) (t : List ℕ) → C.Ended limit c (members_in s box) k r t → gives r ≡ counted_is a
   ended-answer _ _ (C.within h) = ap counted_is (given-as _ (within-counted s box axis limit h))
   ended-answer _ _ (C.beyond h) = ap counted_is (given-as _ (longer-exhausted s box axis limit h))
 

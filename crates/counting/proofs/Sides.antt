@@ -1,25 +1,22 @@
 -- The side of the chosen axis, as the code reads it: how many values it has, and whether the axis fits.
-use mathlib.Core.Path.{◌≡◌, refl, sym, ap, ap₂, ◌∙◌, subst}
-use mathlib.Core.Bool.{Bool, true, false, ◌&&◌, cond}
+use mathlib.Core.Path.{◌≡◌, refl, sym, ap, ◌∙◌, subst}
+use mathlib.Core.Bool.{Bool, true, false, cond}
 use mathlib.Core.List.{List, [], ◌∷◌}
-use mathlib.Core.Option.{some}
-use Prim.Native.Nat.{ℕ, zero, suc, ◌+◌, ◌-◌, ◌≤◌, ◌<◌}
+use Prim.Native.Nat.{ℕ, zero, suc, ◌+◌, ◌<◌}
 use native.Mathlib.Nat.{not-suc-le-zero, le_of_suc-le-suc}
 use native.Mathlib.Numerals.{add-one}
 use native.Mathlib.Omega.{arith}
-use lib.Dec.{leb}
 use lib.IntN.{ℤ, pos, nat_abs, ◌-ℤ◌}
 use lib.Signed.{le_z, ◌≤ℤ◌, ◌<ℤ◌}
 use lib.ListN.{length, take, get_or}
 use lib.Seq.{get_or-take}
 use mir.Syntax.{w32, w64}
 use mir.Val.{SFits, to_z, of_z}
-use borrow.Author.Tests.{le-ltb, lt-ltb, le-leb, lt-leb}
 use Rattle.integers.specs.Mach.{Bits, to_z_of_z}
 use Rattle.bounds.specs.Ends.{side}
 use Rattle.query.proofs.Points.{le_yes, le-no}
 use Rattle.enumeration.specs.Search.{Interval, only, box_of, width}
-use Rattle.enumeration.specs.Counting.{side_at, axis_fits}
+use Rattle.enumeration.specs.Counting.{side_at}
 
 -- ---- an element of 32 bits, read as one of 64
 pub long : {z : ℤ} → SFits w32 z → SFits w64 (to_z w32 (of_z w32 z))
@@ -51,21 +48,3 @@ module _ (low high : List ℤ) (i : ℕ) (h : i < length low) (k : i < length hi
 
 pub width-take : (n i : ℕ) (low high : List ℤ) → i < n → width (side_at i (box_of low high)) ≡ width (side_at i (take n (box_of low high)))
 width-take n i low high l = ap width (sym (get_or-take n (box_of low high) i (only (pos 0)) l))
-
--- ---- 19
-module _ (n axis : ℕ) (low high : List ℤ) where
-  abbrev values : ℕ
-  values = width (side_at (axis - 1) (take n (box_of low high)))
-
-  pub axis-none : axis ≡ 0 → false ≡ axis_fits n (some axis) (take n (box_of low high))
-  axis-none e = ap (λ (b : Bool). b && (leb axis n && leb values 64)) (sym (le-ltb 0 axis (omega arith)))
-
-  module _ (z : axis ≡ 0 → ⊥) where
-    pub axis-over : n < axis → false ≡ axis_fits n (some axis) (take n (box_of low high))
-    axis-over h = ap₂ (λ (b c : Bool). b && (c && leb values 64)) (sym (lt-ltb 0 axis (omega arith))) (sym (lt-leb axis n h))
-
-    pub axis-in : axis ≤ n → (w : ℕ) → w ≡ width (side_at (axis - 1) (box_of low high)) → leb w 64 ≡ axis_fits n (some axis) (take n (box_of low high))
-    axis-in h w e =
-        let l : axis - 1 < n = omega arith in
-        ap (λ (x : ℕ). leb x 64) (e ∙ width-take n (axis - 1) low high l)
-        ∙ ap₂ (λ (b c : Bool). b && (c && leb values 64)) (sym (lt-ltb 0 axis (omega arith))) (sym (le-leb axis n h))

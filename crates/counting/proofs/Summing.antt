@@ -5,12 +5,10 @@ use mathlib.Core.List.{List, [], ◌∷◌, ◌++◌, append_assoc, append-nil}
 use Prim.Native.Nat.{ℕ, zero, suc, ◌+◌, ◌-◌, ◌≤◌, ◌<◌}
 use native.Mathlib.Omega.{arith}
 use lib.Dec.{eqb, ltb}
-use lib.IntN.{ℤ, pos, nat_abs, ◌+ℤ◌, ◌-ℤ◌, +ℤ_idr}
+use lib.IntN.{ℤ, pos, ◌+ℤ◌, ◌-ℤ◌, +ℤ_idr}
 use lib.ListN.{length, take, get_or, set, replicate, length-set, length-append, get_or-eq_default}
 use lib.Seq.{get_or-set_same, get_or-set_other}
 use borrow.Author.Tests.{eqb-true, eqb-false, ltb-true, ltb-false}
-use Rattle.integers.specs.Z.{Within}
-use Rattle.integers.specs.Size.{within-sub}
 use Rattle.integers.specs.Lin.{eq, lin, lia-eq, lia-nat}
 use Rattle.model.specs.Lists.{cons_if, filter}
 use Rattle.model.specs.Sets.{Set, is_zero}
@@ -19,14 +17,18 @@ use Rattle.codec.specs.Places.{set_from}
 use Rattle.bounds.specs.Ends.{side}
 use Rattle.enumeration.specs.Search.{Interval, width}
 use Rattle.search.specs.Sides.{Standing}
-use Rattle.search.specs.Levels.{ok_at, span_at, value_at, rest_at, passes_at, Ready, next_of, lows_at, highs_at, Failed, Climbed, past, exhausted, passing, Lasting}
+use Rattle.search.specs.Levels.{ok_at, span_at, value_at, rest_at, passes_at, Ready, next_of, way_at, lows_at, highs_at, Failed, Climbed, past, exhausted, passing}
 use Rattle.search.specs.declared.levels.Prefix.{Prefix}
+use Rattle.search.specs.declared.levels.Passed.{Passed}
+use Rattle.search.specs.declared.levels.Way.TheVariants.{Past, Point, Below}
+use Rattle.search.specs.declared.levels.Way.TheVariants as W
 use Rattle.search.specs.declared.levels.Stop.{Stop}
-use Rattle.search.proofs.Climbs.{own-side, own-width, rest-none, fixed-is, padded-is, value-within, way-last}
+use Rattle.search.proofs.Climbs.{own-side, own-width, rest-none, fixed-is, padded-is, way-last, way-more, passed_at}
 use Rattle.enumeration.specs.Counting.{Members, no_members, both, one_test, each_upward, members, count_at}
-use Rattle.counting.specs.Levels.{members_at, line_of, Along, Added, AtMost, Room, Gathered, sum_of, Summed, within, beyond}
+use Rattle.counting.specs.Levels.{members_at, line_of, Added, AtMost, Room, Gathered, counted, Summed, within, beyond}
 use Rattle.counting.specs.declared.levels.Chosen.{Chosen}
-use Rattle.counting.specs.declared.levels.Sum.{Sum}
+use Rattle.counting.specs.declared.levels.Counted.{Counted}
+use Rattle.std.specs.Prelude.{Some, None}
 use Rattle.enumeration.proofs.Separate.{same-value, other-value, length-cons_if}
 
 -- ---- how many of a list
@@ -147,9 +149,6 @@ added-same c low k i m each each' n x =
 pub added_next : (c : Chosen) (low : List ℤ) (k i m : ℕ) (a b d : List ℕ) (point : List ℤ) → point ≡ spot low k (i + m) → Added c (line_of low k i m) a b → Added c (replicate 1 point) b d → Added c (line_of low k i (m + 1)) a d
 added_next c low k i m a b d point e x y =
     subst (λ (l : List (List ℤ)). Added c l a d) (sym (line-more low k m i)) (added-both x (subst (λ (q : List ℤ). Added c (q ∷ []) b d) e y))
-
-pub added-empty : (c : Chosen) (ps : List (List ℤ)) (each : List ℕ) → length each ≡ 0 → Added c ps each each
-added-empty c ps each e = record { places = refl; at = λ j h. absurd (omega arith) }
 
 -- so many are counted at most
 pub line-room : (c : Chosen) (low : List ℤ) (k i x m : ℕ) (a b : List ℕ) → Added c (line_of low k i x) a b → Room m a → x < m → Room 1 b
@@ -331,9 +330,12 @@ module _ (s : List ℕ) (p : Prefix) (g : Standing s p.n p.k p.low p.high) where
       ∙ same refl z
 
 -- a value that passes is neither the end nor the limit
-neither : (b : Bool) → (◌≡◌ {A = ℕ} (cond b 1 3) 0 → ⊥) × (◌≡◌ {A = ℕ} (cond b 1 3) 2 → ⊥)
-neither true = ((λ e. omega arith), λ e. omega arith)
-neither false = ((λ e. omega arith), λ e. omega arith)
+neither : (p : Prefix) (x : Passed) → (way_at p x ≡ Past → ⊥) × (way_at p x ≡ W.Spent → ⊥)
+neither p x = go (eqb (p.k + 1) p.n)
+  where
+    go : (b : Bool) → (cond b (Point x) (Below x) ≡ Past → ⊥) × (cond b (Point x) (Below x) ≡ W.Spent → ⊥)
+    go true = ((λ e. cc), λ e. cc)
+    go false = ((λ e. cc), λ e. cc)
 
 -- ---- where the loop of a level stands
 pub record Going (s : List ℕ) (p : Prefix) (tested : ℕ) (c : Chosen) (each₀ each : List ℕ) (whole t i : ℕ) : Type 0 where
@@ -368,8 +370,8 @@ module _ {s : List ℕ} {p : Prefix} {tested : ℕ} {c : Chosen} {each₀ : List
     tests = sym (ap (λ (m : Members). m.tested) g.all)
 
     module _ (d : Ready s p t) where
-      pub going-past : (r : Stop) → Climbed s p i t r → r.way ≡ 0 → Summed p.limit tested c (members_at s p) each₀ (record { spent = false; whole = whole; tested = t + r.tested }) each
-      going-past _ (past m f e l j) w =
+      pub going-past : (r : Stop) → Climbed s p i t r → r.way ≡ Past → Summed p.limit tested c (members_at s p) each₀ (counted (Some whole) (t + r.tested)) each
+      going-past _ (past m f e l) w =
           let total : Members = record { points = g.so_far.points; tested = g.so_far.tested + m } in
           let n : suc (span_at p) - (i + m) ≡ 0 = omega arith in
           let z : m + 0 ≡ m = omega arith in let a = g.sum in let y : t + m ≡ tested + (g.so_far.tested + m) = omega arith in
@@ -378,27 +380,27 @@ module _ {s : List ℕ} {p : Prefix} {tested : ℕ} {c : Chosen} {each₀ : List
           (sym g.all
           ∙ ap (both g.so_far) (some-fail s p d.standing m i (omega arith) f ∙ ap (both (record { points = []; tested = m })) (none_left s p d.standing (i + m) n) ∙ same refl z)
           ∙ same (append-nil g.so_far.points) refl) in
-          subst (λ (x : Members). Summed p.limit tested c x each₀ (record { spent = false; whole = whole; tested = t + m }) each) is
-          (subst (λ (x : Sum). Summed p.limit tested c total each₀ x each) (sym (ap₂ (λ (x k : ℕ). record { spent = false; whole = x; tested = k }) g.many y))
+          subst (λ (x : Members). Summed p.limit tested c x each₀ (counted (Some whole) (t + m)) each) is
+          (subst (λ (x : Counted). Summed p.limit tested c total each₀ x each) (sym (ap₂ (λ (x k : ℕ). counted (Some x) k) g.many y))
           (within (omega arith) each g.added))
-      going-past _ (exhausted m f h e j) w = absurd (omega arith)
-      going-past _ (passing m f h l e live v) w = absurd ((neither (eqb (p.k + 1) p.n)).0 w)
+      going-past _ (exhausted m f h e) w = cc
+      going-past _ (passing m f h l e live v) w = absurd ((neither p (passed_at p (i + m) live)).0 w)
 
       -- the side is at its end
-      pub going_end : span_at p < i → Summed p.limit tested c (members_at s p) each₀ (sum_of false whole t) each
+      pub going_end : span_at p < i → Summed p.limit tested c (members_at s p) each₀ (counted (Some whole) t) each
       going_end h =
           let z : t + 0 ≡ t = omega arith in let l = g.inside in
-          subst (λ (n : ℕ). Summed p.limit tested c (members_at s p) each₀ (sum_of false whole n) each) z
-          (going-past (record { way = 0; tested = 0; next = 0; at = p }) (past 0 (λ j o. absurd (omega arith)) (omega arith) (omega arith) 0) refl)
+          subst (λ (n : ℕ). Summed p.limit tested c (members_at s p) each₀ (counted (Some whole) n) each) z
+          (going-past (record { way = Past; tested = 0 }) (past 0 (λ j o. absurd (omega arith)) (omega arith) (omega arith)) refl)
 
-      pub going-spent : (r : Stop) → Climbed s p i t r → r.way ≡ 2 → Summed p.limit tested c (members_at s p) each₀ (record { spent = true; whole = whole; tested = t + r.tested }) each
-      going-spent _ (past m f e l j) w = absurd (omega arith)
-      going-spent _ (exhausted m f h e j) w =
+      pub going-spent : (r : Stop) → Climbed s p i t r → r.way ≡ W.Spent → Summed p.limit tested c (members_at s p) each₀ (counted None (t + r.tested)) each
+      going-spent _ (past m f e l) w = cc
+      going-spent _ (exhausted m f h e) w =
           let a = g.sum in let x = tested-some s p d.standing (i + m) h in
           let y = ap (λ (n : Members). n.tested) (some-fail s p d.standing m i (omega arith) f) in
-          subst (λ (k : ℕ). Summed p.limit tested c (members_at s p) each₀ (record { spent = true; whole = whole; tested = k }) each) (sym e)
-          (beyond (omega (arith, tests)) whole each g.added.places)
-      going-spent _ (passing m f h l e live v) w = absurd ((neither (eqb (p.k + 1) p.n)).1 w)
+          subst (λ (k : ℕ). Summed p.limit tested c (members_at s p) each₀ (counted None k) each) (sym e)
+          (beyond (omega (arith, tests)) each g.added.places)
+      going-spent _ (passing m f h l e live v) w = absurd ((neither p (passed_at p (i + m) live)).1 w)
 
       module _ (m : ℕ) (f : Failed s p i m) (h : i + m ≤ span_at p) (e : passes_at s p (i + m) ≡ true) where
         abbrev prefix : List ℤ
@@ -433,16 +435,17 @@ module _ {s : List ℕ} {p : Prefix} {tested : ℕ} {c : Chosen} {each₀ : List
         below-is live = sym (fixed-is s p.n p.k p.low p.high d.standing (value_at p (i + m)) (members (set_from s 0)))
 
       -- it is the last axis: m members, of which this is the first
-      pub going-at : (r : Stop) → Climbed s p i t r → r.way ≡ 1 → (m : ℕ) (each' : List ℕ) → Gathered s p (r.next - 1) (t + r.tested - 1) c m each each'
-          → Going s p tested c each₀ each' (whole + m) (t + r.tested - 1 + m) (r.next - 1 + m)
-      going-at _ (past m f e l j) w k each' a = absurd (omega arith)
-      going-at _ (exhausted m f h e j) w k each' a = absurd (omega arith)
-      going-at _ (passing m f h l e live v) w k each' a =
-          let x : i + m + 1 - 1 ≡ i + m = omega arith in let y : t + (m + 1) - 1 ≡ t + m = omega arith in
-          go (i + m + 1 - 1) (t + (m + 1) - 1) x y a
+      pub going-at : (r : Stop) → Climbed s p i t r → (to : Passed) → r.way ≡ Point to → (m : ℕ) (each' : List ℕ) → Gathered s p (to.next - 1) (t + r.tested - 1) c m each each'
+          → Going s p tested c each₀ each' (whole + m) (t + r.tested - 1 + m) (to.next - 1 + m)
+      going-at _ (past m f e l) to w k each' a = cc
+      going-at _ (exhausted m f h e) to w k each' a = cc
+      going-at _ (passing m f h l e live v) to w k each' a =
+          let z = ap (λ (x : Passed). x.next) (way-last p (passed_at p (i + m) live) to w).1 in
+          let x : to.next - 1 ≡ i + m = omega arith in let y : t + (m + 1) - 1 ≡ t + m = omega arith in
+          go (to.next - 1) (t + (m + 1) - 1) x y a
         where
           last : p.k + 1 ≡ p.n
-          last = way-last (p.k + 1) p.n w
+          last = (way-last p (passed_at p (i + m) live) to w).0
 
           all_of : (n : ℕ) → n ≡ i + m → k ≤ suc (span_at p) - n → ((j : ℕ) → j < k → passes_at s p (n + j) ≡ true)
               → both (both g.so_far (record { points = points_at s p d.standing n k; tested = m + k })) (members_from s p (n + k)) ≡ members_at s p
@@ -472,68 +475,48 @@ module _ {s : List ℕ} {p : Prefix} {tested : ℕ} {c : Chosen} {each₀ : List
               }
 
       -- there are axes left: the members below
-      pub going-below : (r : Stop) → Climbed s p i t r → r.way ≡ 3 → (u : Sum) (each' : List ℕ) → Summed r.at.limit (t + r.tested) c (members_at s r.at) each u each' → u.spent ≡ false
-          → Going s p tested c each₀ each' (whole + u.whole) u.tested r.next
-      going-below _ (past m f e l j) w u each' b q = absurd (omega arith)
-      going-below _ (exhausted m f h e j) w u each' b q = absurd (omega arith)
-      going-below _ (passing m f h l e live v) w u each' b q = go u each' b q
+      pub going-below : (r : Stop) → Climbed s p i t r → (to : Passed) → r.way ≡ Below to → (u : Counted) (each' : List ℕ) → Summed to.at.limit (t + r.tested) c (members_at s to.at) each u each' → (more : ℕ) → u.whole ≡ Some more
+          → Going s p tested c each₀ each' (whole + more) u.tested to.next
+      going-below _ (past m f e l) to w u each' b more q = cc
+      going-below _ (exhausted m f h e) to w u each' b more q = cc
+      going-below _ (passing m f h l e live v) to w u each' b more q =
+          let y = (way-more p (passed_at p (i + m) live) to w).1 in
+          subst (λ (x : Passed). Going s p tested c each₀ each' (whole + more) u.tested x.next) (sym y)
+          (go u each' (subst (λ (x : Passed). Summed x.at.limit (t + (m + 1)) c (members_at s x.at) each u each') y b) q)
         where
-          go : (u : Sum) (each' : List ℕ) → Summed p.limit (t + (m + 1)) c (under m f h e live) each u each' → u.spent ≡ false → Going s p tested c each₀ each' (whole + u.whole) u.tested (i + m + 1)
-          go _ _ (within k each' a) q = let n : Members = under m f h e live in going_on m f h e n (below-is m f h e live) each' a (whole + length n.points) (t + (m + 1) + n.tested) refl (omega arith) k
-          go _ _ (beyond k x each' a) q = let z : ◌≡◌ {A = ℕ} 0 1 = cc in absurd (omega arith)
+          go : (u : Counted) (each' : List ℕ) → Summed p.limit (t + (m + 1)) c (under m f h e live) each u each' → u.whole ≡ Some more → Going s p tested c each₀ each' (whole + more) u.tested (i + m + 1)
+          go _ _ (within k each' a) q =
+              let n : Members = under m f h e live in let z : length n.points ≡ more = cc in
+              going_on m f h e n (below-is m f h e live) each' a (whole + more) (t + (m + 1) + n.tested) (omega arith) (omega arith) k
+          go _ _ (beyond k each' a) q = cc
 
-      pub going-out : (r : Stop) → Climbed s p i t r → r.way ≡ 3 → (u : Sum) (each' : List ℕ) → Summed r.at.limit (t + r.tested) c (members_at s r.at) each u each' → u.spent ≡ true
+      pub going-out : (r : Stop) → Climbed s p i t r → (to : Passed) → r.way ≡ Below to → (u : Counted) (each' : List ℕ) → Summed to.at.limit (t + r.tested) c (members_at s to.at) each u each' → u.whole ≡ None
           → Summed p.limit tested c (members_at s p) each₀ u each'
-      going-out _ (past m f e l j) w u each' b q = absurd (omega arith)
-      going-out _ (exhausted m f h e j) w u each' b q = absurd (omega arith)
-      going-out _ (passing m f h l e live v) w u each' b q = go u each' b q
+      going-out _ (past m f e l) to w u each' b q = cc
+      going-out _ (exhausted m f h e) to w u each' b q = cc
+      going-out _ (passing m f h l e live v) to w u each' b q =
+          let y = (way-more p (passed_at p (i + m) live) to w).1 in
+          go u each' (subst (λ (x : Passed). Summed x.at.limit (t + (m + 1)) c (members_at s x.at) each u each') y b) q
         where
-          go : (u : Sum) (each' : List ℕ) → Summed p.limit (t + (m + 1)) c (under m f h e live) each u each' → u.spent ≡ true → Summed p.limit tested c (members_at s p) each₀ u each'
-          go _ _ (within k each' a) q = let z : ◌≡◌ {A = ℕ} 0 1 = cc in absurd (omega arith)
-          go _ _ (beyond k x each' a) q =
+          go : (u : Counted) (each' : List ℕ) → Summed p.limit (t + (m + 1)) c (under m f h e live) each u each' → u.whole ≡ None → Summed p.limit tested c (members_at s p) each₀ u each'
+          go _ _ (within k each' a) q = cc
+          go _ _ (beyond k each' a) q =
               let y = g.sum in let z = ap (λ (n : Members). n.tested) (then-passes s p d.standing m i f h e (under m f h e live) (below-is m f h e live)) in
-              beyond (omega (arith, tests)) x each' (a ∙ g.added.places)
+              beyond (omega (arith, tests)) each' (a ∙ g.added.places)
 
 -- what is known at a point: its number, the tests before it, and that it passes
-pub record Met (s : List ℕ) (p : Prefix) (i t : ℕ) (r : Stop) : Type 0 where
-  pub some : 0 < r.next
-  pub one : 0 < r.tested
-  pub here : r.next - 1 ≤ span_at p
-  pub later : i ≤ r.next - 1
-  pub room : t + r.tested - 1 < p.limit
-  pub passes : passes_at s p (r.next - 1) ≡ true
+pub record Met (s : List ℕ) (p : Prefix) (i t tested next : ℕ) : Type 0 where
+  pub some : 0 < next
+  pub one : 0 < tested
+  pub here : next - 1 ≤ span_at p
+  pub later : i ≤ next - 1
+  pub room : t + tested - 1 < p.limit
+  pub passes : passes_at s p (next - 1) ≡ true
 
-pub climbed-met : {s : List ℕ} {p : Prefix} {i t : ℕ} (r : Stop) → Climbed s p i t r → r.way ≡ 1 → Met s p i t r
-climbed-met _ (past m f e l j) w = absurd (omega arith)
-climbed-met _ (exhausted m f h e j) w = absurd (omega arith)
-climbed-met {s} {p} {i} _ (passing m f h l e live v) w =
-    let z : i + m ≡ i + m + 1 - 1 = omega arith in
+pub climbed-met : {s : List ℕ} {p : Prefix} {i t : ℕ} (r : Stop) → Climbed s p i t r → (to : Passed) → r.way ≡ Point to → Met s p i t r.tested to.next
+climbed-met _ (past m f e l) to w = cc
+climbed-met _ (exhausted m f h e) to w = cc
+climbed-met {s} {p} {i} _ (passing m f h l e live v) to w =
+    let y = ap (λ (x : Passed). x.next) (way-last p (passed_at p (i + m) live) to w).1 in
+    let z : i + m ≡ to.next - 1 = omega arith in
     record { some = omega arith; one = omega arith; here = omega arith; later = omega arith; room = omega arith; passes = subst (λ (j : ℕ). passes_at s p j ≡ true) z e }
-
--- so many members fit
-pub lasting-room : {s : List ℕ} {p : Prefix} {i t m : ℕ} {each : List ℕ} → Ready s p t → Lasting s p i t m → AtMost t each → Room m each
-lasting-room d l a = record { at = λ j. let h = a.at j in let k = l.room in let f = d.fits in omega arith }
-
-pub lasting-along : {s : List ℕ} {p : Prefix} {i t m : ℕ} → Ready s p t → Lasting s p i t m → Along p.low p.k i m
-lasting-along {s} {p} {i} {t} {m} d l =
-    let g = d.standing in let a = g.axes in let b = g.left in let h = l.inside in let w = side_most (g.low_size.at p.k) (g.high_size.at p.k) in
-    record {
-      axis = omega arith;
-      lows = g.lows;
-      size = g.low_size;
-      few = omega arith;
-      at = λ j o. value-within s p.n p.k p.low p.high g (i + j) (omega arith);
-    }
-  where
-    side_most : {x y : ℤ} → Within 1048576 x → Within 1048576 y → nat_abs (y -ℤ x) ≤ 2097152
-    side_most u v = (within-sub v u).size
-
--- a climb that stops at none of the others stops above a prefix to go below
-pub climbed-three : {s : List ℕ} {p : Prefix} {i t : ℕ} (r : Stop) → Climbed s p i t r → (r.way ≡ 0 → ⊥) → (r.way ≡ 2 → ⊥) → (r.way ≡ 1 → ⊥) → r.way ≡ 3
-climbed-three _ (past m f e l j) a b o = absurd (a refl)
-climbed-three _ (exhausted m f h e j) a b o = absurd (b refl)
-climbed-three {p = p} _ (passing m f h l e live v) a b o = go (eqb (p.k + 1) p.n) o
-  where
-    go : (x : Bool) → (◌≡◌ {A = ℕ} (cond x 1 3) 1 → ⊥) → ◌≡◌ {A = ℕ} (cond x 1 3) 3
-    go true o = absurd (o refl)
-    go false o = refl

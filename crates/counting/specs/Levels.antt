@@ -1,5 +1,5 @@
 -- What a level of a count is asked and says, in the code's own structs.
-use Rattle.std.specs.Prelude.{◌≡◌, Bool, true, false, List, [], ◌∷◌, ℕ, zero, suc, ◌+◌, ◌≤◌, ◌<◌, ℤ, pos, ◌+ℤ◌, length, take, drop, get_or, set, replicate}
+use Rattle.std.specs.Prelude.{◌≡◌, Option, Some, None, List, [], ◌∷◌, ℕ, zero, suc, ◌+◌, ◌≤◌, ◌<◌, ℤ, pos, ◌+ℤ◌, length, take, drop, get_or, set, replicate}
 use Rattle.codec.specs.Places.{set_from}
 use Rattle.integers.specs.Z.{Within}
 use Rattle.model.specs.Limits.{most_axes, most_coordinate}
@@ -10,7 +10,7 @@ use Rattle.search.specs.Levels.{Lasting}
 use Rattle.search.specs.declared.levels.Prefix.{Prefix}
 use Rattle.enumeration.specs.Counting.{Members, members, count_at}
 use Rattle.counting.specs.declared.levels.Chosen.{Chosen}
-use Rattle.counting.specs.declared.levels.Sum.{Sum}
+use Rattle.counting.specs.declared.levels.Counted.{Counted}
 
 -- the members below a prefix
 abbrev pub members_at : List ℕ → Prefix → Members
@@ -51,12 +51,12 @@ pub record Gathered (s : List ℕ) (p : Prefix) (i t : ℕ) (c : Chosen) (m : �
   pub lasts : Lasting s p i t m
   pub added : Added c (line_of p.low p.k i m) each each'
 
-abbrev pub sum_of : Bool → ℕ → ℕ → Sum
-sum_of spent whole tested = record { spent = spent; whole = whole; tested = tested }
+abbrev pub counted : Option ℕ → ℕ → Counted
+counted whole tested = record { whole = whole; tested = tested }
 
 -- the members m, t prefixes having been tested before them: all counted, or the limit came first
-pub data Summed (limit t : ℕ) (c : Chosen) (m : Members) (each : List ℕ) : Sum → List ℕ → Type 0 where
+pub data Summed (limit t : ℕ) (c : Chosen) (m : Members) (each : List ℕ) : Counted → List ℕ → Type 0 where
   within : t + m.tested ≤ limit → (each' : List ℕ) → Added c m.points each each'
-      → Summed limit t c m each (sum_of false (length m.points) (t + m.tested)) each'
-  beyond : limit < t + m.tested → (w : ℕ) (each' : List ℕ) → length each' ≡ length each
-      → Summed limit t c m each (sum_of true w limit) each'
+      → Summed limit t c m each (counted (Some (length m.points)) (t + m.tested)) each'
+  beyond : limit < t + m.tested → (each' : List ℕ) → length each' ≡ length each
+      → Summed limit t c m each (counted None limit) each'

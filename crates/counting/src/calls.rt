@@ -1,7 +1,8 @@
 // The calls: how many points of a box are in a set, and how many with each value of one axis.
-ghost use Rattle.std.specs.Prelude.{◌≡◌, [], ◌≤◌, ◌<◌, length, take, replicate};
+ghost use Rattle.std.specs.Prelude.{◌≡◌, [], ◌≤◌, ◌<◌, length, take};
 ghost use Rattle.std.proofs.Math.Option.{none, some};
 ghost use Rattle.model.specs.Limits.{most_axes};
+ghost use Rattle.codec.specs.Refusing.{answer_is};
 ghost use Rattle.codec.specs.Places.{set_from};
 ghost use Rattle.enumeration.specs.Search.{box_of};
 ghost use Rattle.enumeration.specs.Search as S;
@@ -11,56 +12,21 @@ ghost use Rattle.counting.specs.Answers.{counted_is, table_is};
 ghost use Rattle.counting.specs.Levels.{Summed};
 ghost use Rattle.counting.specs.Calls.{Checked, Fitting, Blank, Ended};
 
-use crate::levels::{Chosen, Sum, level};
-use model::{limit, refusal};
-
-#[derive(Clone, Copy)]
-pub enum Outcome {
-    Done,
-    Spent,
-    Refused(u32),
-}
-
-// The answer of a count: the number of members, 0 unless `Done`; the number of prefixes tested.
-#[derive(Clone, Copy)]
-pub struct Counted {
-    pub outcome: Outcome,
-    pub whole: u32,
-    pub tested: u32,
-}
-
-fn answer(outcome: Outcome, whole: u32, tested: u32) -> Counted
-    ensures { result ≡ record { outcome = outcome; whole = whole; tested = tested } }
-{
-    Counted {
-        outcome,
-        whole,
-        tested,
-    }
-}
-
-// The table has no counts.
-fn clear(each: &mut [u32])
-    ensures { each.new ≡ replicate (length each.old) 0 }
-{
-    let mut i = 0;
-    while i < each.len() {
-        each[i] = 0;
-        i += 1;
-    }
-}
+use crate::levels::{Chosen, Counted, level};
+use model::{Refusal, limit};
 
 // How many values axis i, from 0, has between the corners.
 fn width(low: [i32; limit::AXES], high: [i32; limit::AXES], i: usize) -> usize
     requires { i < most_axes }
     ensures { result ≡ S.width (side_at i (box_of low high)) }
 {
-    let a = low[i] as i64;
-    let b = high[i] as i64;
-    if b < a {
-        return 0;
+    let low = i64::from(low[i]);
+    let high = i64::from(high[i]);
+    if high < low {
+        0
+    } else {
+        (high - low) as usize + 1
     }
-    (b - a) as usize + 1
 }
 
 // Whether the axis, from 1, is one of n and its side has at most 64 values.
@@ -68,27 +34,23 @@ fn axis_fits(n: usize, low: [i32; limit::AXES], high: [i32; limit::AXES], axis: 
     requires { n ≤ most_axes }
     ensures { result ≡ axis_fits n (some axis) (take n (box_of low high)) }
 {
-    if axis == 0 {
-        return false;
-    }
-    if n < axis {
-        return false;
-    }
-    width(low, high, axis - 1) <= limit::VALUES
+    0 < axis && axis <= n && width(low, high, axis - 1) <= limit::VALUES
 }
 
-// The number of the set, or 12 of the corners; 0 for none.
-fn refusal(n: usize, set: &[u8], low: [i32; limit::AXES], high: [i32; limit::AXES]) -> u32
+// The refusal of the set, or that of the corners.
+fn check(
+    n: usize,
+    set: &[u8],
+    low: [i32; limit::AXES],
+    high: [i32; limit::AXES],
+) -> Result<(), Refusal>
     ensures { Fitting n set.now low high result }
 {
-    let c = codec::check(n, set);
-    if c != 0 {
-        return c;
-    }
+    codec::check(n, set)?;
     if !search::corners_fit(n, low, high) {
-        return refusal::BAD_POINT;
+        return Err(Refusal::BadPoint);
     }
-    0
+    Ok(())
 }
 
 // The walk of checked bytes over a box that fits and is not upside down.
@@ -100,7 +62,7 @@ fn walked(
     limit: u32,
     c: Chosen,
     each: &mut [u32],
-) -> Sum
+) -> Counted
     requires { Boxed n s.now low high × Blank c each.old }
     ensures { Summed limit 0 c (members (set_from s.now 0) [] (take n (box_of low high))) each.old result each.new }
 {
@@ -123,15 +85,16 @@ fn ended(
     ensures { Ended limit c (members_in (set_from s.now 0) (take n (box_of low high))) (length each.old) result each.new }
 {
     if !search::upright(low, high) {
-        return answer(Outcome::Done, 0, 0);
+        return Counted {
+            whole: Some(0),
+            tested: 0,
+        };
     }
-    let r = walked(n, s, low, high, limit, c, each);
-    let out = r.spent;
-    if out {
-        clear(each);
-        return answer(Outcome::Spent, 0, r.tested);
+    let told = walked(n, s, low, high, limit, c, each);
+    if told.whole.is_none() {
+        each.fill(0);
     }
-    answer(Outcome::Done, r.whole, r.tested)
+    told
 }
 
 // How many points of the box are in the set, with the number of prefixes tested.
@@ -141,19 +104,15 @@ pub fn count(
     lows: [i32; limit::AXES],
     highs: [i32; limit::AXES],
     limit: u32,
-) -> Counted
-    ensures { result ≡ counted_is (count_bytes n set.now lows highs none limit) }
+) -> Result<Counted, Refusal>
+    ensures { answer_is (λ x. x) result ≡ counted_is (count_bytes n set.now lows highs none limit) }
 {
-    let k = refusal(n, set, lows, highs);
-    if k != 0 {
-        return answer(Outcome::Refused(k), 0, 0);
-    }
+    check(n, set, lows, highs)?;
     if !search::limit_fits(limit) {
-        return answer(Outcome::Refused(refusal::BAD_LIMIT), 0, 0);
+        return Err(Refusal::BadLimit);
     }
-    let mut each = [0u32; 1];
-    let c = Chosen { axis: 0, first: 0 };
-    ended(n, set, lows, highs, limit, c, &mut each[..0])
+    let chosen = Chosen { axis: 0, first: 0 };
+    Ok(ended(n, set, lows, highs, limit, chosen, &mut []))
 }
 
 // The same, with the number of those that have each value of the axis, from 1, in the table.
@@ -165,27 +124,24 @@ pub fn counts(
     axis: usize,
     limit: u32,
     each: &mut [u32],
-) -> Counted
-    ensures is { result ≡ counted_is (counts_bytes n (length each.old) set.now lows highs axis limit) }
+) -> Result<Counted, Refusal>
+    ensures is { answer_is (λ x. x) result ≡ counted_is (counts_bytes n (length each.old) set.now lows highs axis limit) }
     ensures table { each.new ≡ table_is (length each.old) (counts_bytes n (length each.old) set.now lows highs axis limit) }
 {
-    clear(each);
-    let k = refusal(n, set, lows, highs);
-    if k != 0 {
-        return answer(Outcome::Refused(k), 0, 0);
-    }
+    each.fill(0);
+    check(n, set, lows, highs)?;
     if !axis_fits(n, lows, highs, axis) {
-        return answer(Outcome::Refused(refusal::BAD_AXIS), 0, 0);
+        return Err(Refusal::BadAxis);
     }
     if !search::limit_fits(limit) {
-        return answer(Outcome::Refused(refusal::BAD_LIMIT), 0, 0);
+        return Err(Refusal::BadLimit);
     }
     let i = axis - 1;
-    let v = width(lows, highs, i);
-    if each.len() < v {
-        return answer(Outcome::Refused(refusal::TABLE_FULL), 0, 0);
+    let values = width(lows, highs, i);
+    if each.len() < values {
+        return Err(Refusal::TableFull);
     }
-    let f = lows[i] as i64;
-    let c = Chosen { axis: i, first: f };
-    ended(n, set, lows, highs, limit, c, &mut each[..v])
+    let first = i64::from(lows[i]);
+    let chosen = Chosen { axis: i, first };
+    Ok(ended(n, set, lows, highs, limit, chosen, &mut each[..values]))
 }

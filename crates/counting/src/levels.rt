@@ -6,35 +6,24 @@ ghost use Rattle.model.specs.Limits.{most_axes, most_coordinate};
 ghost use Rattle.bounds.specs.Ends.{AllWithin};
 ghost use Rattle.search.specs.Live.{Rowed};
 ghost use Rattle.search.specs.Levels.{passes_at, span_at, Ready};
-ghost use Rattle.counting.specs.Levels.{members_at, line_of, Along, Added, AtMost, Room, Raised, Gathered, Summed, sum_of};
+ghost use Rattle.counting.specs.Levels.{members_at, line_of, Along, Added, AtMost, Room, Raised, Gathered, Summed};
 
 use model::limit;
-use search::{Prefix, climb, span_of, value_at};
+use search::{Prefix, Way, climb, span_of, value_at};
 
 // The chosen axis, from 0, and its first value: the counts of its values stand from there upward in a table. A table
-// of no places counts none of them.
+// of no places counts none of them: an Option beside it would say the same twice.
 #[derive(Clone, Copy)]
 pub struct Chosen {
     pub axis: usize,
     pub first: i64,
 }
 
-// How many members were met, and how many prefixes tested in all; `spent`: the limit came first.
+// The answer of a count: the number of members, None where the limit came first; the number of prefixes tested.
 #[derive(Clone, Copy)]
-pub struct Sum {
-    pub spent: bool,
-    pub whole: u32,
+pub struct Counted {
+    pub whole: Option<u32>,
     pub tested: u32,
-}
-
-fn counted(spent: bool, whole: u32, tested: u32) -> Sum
-    ensures { result ≡ sum_of spent whole tested }
-{
-    Sum {
-        spent: spent,
-        whole: whole,
-        tested: tested,
-    }
 }
 
 // m more at the place of value v, where the places are those of the values from f on.
@@ -45,7 +34,7 @@ fn raise(f: i64, v: i64, m: u32, each: &mut [u32])
     if f <= v {
         let j = (v - f) as usize;
         if j < each.len() {
-            each[j] = each[j] + m;
+            each[j] += m;
         }
     }
 }
@@ -55,10 +44,7 @@ fn noted(c: Chosen, point: [i64; limit::AXES], m: u32, each: &mut [u32])
     requires { (c.axis < most_axes) × Within most_coordinate c.first × AllWithin most_coordinate point × Room m each.old }
     ensures { Added c (replicate m point) each.old each.new }
 {
-    let a = c.axis;
-    let f = c.first;
-    let v = point[a];
-    raise(f, v, m, each);
+    raise(c.first, point[c.axis], m, each);
 }
 
 // Each of m members one after the other on axis k, which is the chosen one, from value number i on.
@@ -66,13 +52,9 @@ fn noted_along(c: Chosen, p: Prefix, i: u64, m: u32, each: &mut [u32])
     requires { (c.axis ≡ p.k) × Within most_coordinate c.first × Along p.low p.k i m × Room m each.old }
     ensures { Added c (line_of p.low p.k i m) each.old each.new }
 {
-    let k = p.k;
-    let side = p.low;
-    let mut x = 0;
-    while x < m {
-        let v = value_at(side, k, i + x as u64);
+    for x in 0..m {
+        let v = value_at(p.low, p.k, i + u64::from(x));
         raise(c.first, v, 1, each);
-        x += 1;
     }
 }
 
@@ -81,15 +63,14 @@ fn noted_all(c: Chosen, p: Prefix, i: u64, m: u32, each: &mut [u32])
     requires { (c.axis < most_axes) × Within most_coordinate c.first × Along p.low p.k i m × Room m each.old }
     ensures { Added c (line_of p.low p.k i m) each.old each.new }
 {
-    if each.len() == 0 {
+    if each.is_empty() {
         return;
     }
     if c.axis == p.k {
         noted_along(c, p, i, m, each);
-        return;
+    } else {
+        noted(c, p.low, m, each);
     }
-    let point = p.low;
-    noted(c, point, m, each);
 }
 
 // How many values of the last axis are members, from number i on, which is one; each of them is noted. More than one
@@ -117,10 +98,7 @@ fn gathered(
 // Whether it is worth asking for a row of members: the value before did not fail, and three or more are left. So a row
 // that begins later is asked for from its second member on.
 fn worth(tested: u32, left: u64) -> bool {
-    if tested != 1 {
-        return false;
-    }
-    3 <= left
+    tested == 1 && 3 <= left
 }
 
 // The members below a prefix, `tested` prefixes having been tested before.
@@ -131,46 +109,52 @@ pub fn level(
     c: Chosen,
     rows: &mut [[i64; 129]; limit::BASIC_SETS],
     each: &mut [u32],
-) -> Sum
+) -> Counted
     requires { Ready s.now p tested × Rowed s.now p.n p.count rows.old × (c.axis < most_axes) × Within most_coordinate c.first × AtMost tested each.old }
     ensures is { Summed p.limit tested c (members_at s.now p) each.old result each.new }
     ensures rows { Rowed s.now p.n p.count rows.new }
 {
-    let low = p.low;
-    let high = p.high;
-    let k = p.k;
-    let span = span_of(low, high, k);
+    let span = span_of(p.low, p.high, p.k);
     let mut whole = 0;
     let mut t = tested;
     let mut i = 0;
     while i <= span {
-        let x = climb(s, p, i, t, rows);
-        t += x.tested;
-        if x.way == 0 {
-            return counted(false, whole, t);
-        }
-        if x.way == 2 {
-            return counted(true, whole, t);
-        }
-        let q = x.at;
-        if x.way == 1 {
-            let l = q.live;
-            let j = x.next - 1;
-            let ask = worth(x.tested, span - j);
-            let m = gathered(s, p, l, ask, j, t - 1, c, rows, each);
-            whole += m;
-            t = t - 1 + m;
-            i = j + m as u64;
-        } else {
-            let r = level(s, q, t, c, rows, each);
-            let out = r.spent;
-            if out {
-                return r;
+        let stop = climb(s, p, i, t, rows);
+        t += stop.tested;
+        match stop.way {
+            Way::Past => {
+                return Counted {
+                    whole: Some(whole),
+                    tested: t,
+                };
             }
-            whole += r.whole;
-            t = r.tested;
-            i = x.next;
+            Way::Spent => {
+                return Counted {
+                    whole: None,
+                    tested: t,
+                };
+            }
+            Way::Point(passed) => {
+                let j = passed.next - 1;
+                let ask = worth(stop.tested, span - j);
+                let m = gathered(s, p, passed.at.live, ask, j, t - 1, c, rows, each);
+                whole += m;
+                t = t - 1 + m;
+                i = j + u64::from(m);
+            }
+            Way::Below(passed) => {
+                let below = level(s, passed.at, t, c, rows, each);
+                match below.whole {
+                    None => return below,
+                    Some(more) => whole += more,
+                }
+                t = below.tested;
+                i = passed.next;
+            }
         }
     }
-    counted(false, whole, t)
+    Counted {
+        whole: Some(whole),
+        tested: t,
+    }
 }

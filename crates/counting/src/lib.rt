@@ -4,4 +4,5 @@
 mod calls;
 mod levels;
 
-pub use calls::{Counted, Outcome, count, counts};
+pub use calls::{count, counts};
+pub use levels::Counted;

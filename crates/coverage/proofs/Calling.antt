@@ -14,11 +14,15 @@ use Rattle.codec.proofs.Boundaries.{decode_is}
 use Rattle.codec.proofs.Decoded.{Bytes}
 use Rattle.algebra.specs.Cut.{keeps, difference, difference_fits}
 use Rattle.algebra.specs.Result.{Result, length_of}
-use Rattle.results.specs.declared.results.Outcome.{Outcome}
 use Rattle.results.specs.declared.results.Done.{Done}
-use Rattle.results.specs.Outcome.{outcome_is}
+use Rattle.results.specs.Outcome.{Outcome, outcome_is}
 use Rattle.results.specs.Results.{Made, Finished}
-use Rattle.query.proofs.Answers.{bad, axes-most}
+use Rattle.std.specs.Prelude.{Err}
+use Rattle.model.specs.declared.refusal.Refusal.{Refusal}
+use Rattle.model.specs.declared.refusal.Refusal.TheVariants.{BadPoint, BadLimit}
+use Rattle.model.specs.Refused.{number_of}
+use Rattle.codec.proofs.Refusing.{refused-by}
+use Rattle.query.proofs.Answers.{axes-most}
 use Rattle.enumeration.specs.Search.{box_fits, limit_fits}
 use Rattle.search.specs.Sides.{Boxed}
 use Rattle.boxes.specs.Box.{box_basic, outside, outside_fits, outside_result, outside_bytes}
@@ -43,16 +47,17 @@ module _ (n : ℕ) (s : List ℕ) (ls hs : List ℤ) where
   range_as room i j b c = cond b (cond c (read (range_in n (set_from s 0) ls hs i j) (outside_result n room ls hs (set_from s 0))) (refused 13)) (refused 12)
 
   -- the set's
-  pub fitting-set : (k : ℕ) → k ≡ number (decode n s) → (k ≡ 0 → ⊥) → Fitting n s ls hs k
+  pub fitting-set : (r : Refusal) → number_of r ≡ number (decode n s) → Fitting n s ls hs (Err r)
   unfolding outside_bytes range_bytes
-  fitting-set k e u =
-      let d = bad n s k e u in
-      record { outsides = λ v room. outside_no room d; ranges = λ v room i j. range-no room i j d; boxed = λ z. absurd (u z) }
+  fitting-set r e = record { outsides = λ room. outside_no room d; ranges = λ room i j. range-no room i j d }
     where
-      outside_no : (room : ℕ) → decode n s ≡ refused k → outside_bytes n room s ls hs ≡ refused k
+      d : decode n s ≡ refused (number_of r)
+      d = refused-by r (decode n s) e
+
+      outside_no : (room : ℕ) → decode n s ≡ refused (number_of r) → outside_bytes n room s ls hs ≡ refused (number_of r)
       outside_no room d = rw (d, outside_bytes)
 
-      range-no : (room i j : ℕ) → decode n s ≡ refused k → range_bytes n room s ls hs i j ≡ refused k
+      range-no : (room i j : ℕ) → decode n s ≡ refused (number_of r) → range_bytes n room s ls hs i j ≡ refused (number_of r)
       range-no room i j d = rw (d, range_bytes)
 
   module _ (z : number (decode n s) ≡ 0) where
@@ -64,27 +69,17 @@ module _ (n : ℕ) (s : List ℕ) (ls hs : List ℤ) where
     unfolding range_bytes
     range-is room i j = rw (decode_is n s z, range_bytes) refl
 
-    -- 12
-    pub fitting-box : box_fits n ls hs ≡ false → Fitting n s ls hs 12
+    -- the box's
+    pub fitting-box : box_fits n ls hs ≡ false → Fitting n s ls hs (Err BadPoint)
     fitting-box e =
         record {
-          outsides = λ v room. outside-is room ∙ ap (outside_as room) e;
-          ranges = λ v room i j. range-is room i j ∙ ap (λ (b : Bool). range_as room i j b (limit_fits i && limit_fits j)) e;
-          boxed = λ y. absurd (omega arith);
+          outsides = λ room. outside-is room ∙ ap (outside_as room) e;
+          ranges = λ room i j. range-is room i j ∙ ap (λ (b : Bool). range_as room i j b (limit_fits i && limit_fits j)) e;
         }
 
-    pub fitting-none : box_fits n ls hs ≡ true → Fitting n s ls hs 0
-    fitting-none e = record { outsides = λ v. absurd (v refl); ranges = λ v. absurd (v refl); boxed = λ y. record { accepted = z; box = e } }
-
-  -- 13 of either limit
-  pub limited-set : (i j k : ℕ) → Fitting n s ls hs k → (k ≡ 0 → ⊥) → Limited n s ls hs i j k
-  limited-set i j k f u = record { ranges = λ v room. f.ranges u room i j; asking = λ z. absurd (u z) }
-
-  pub limited-no : (i j : ℕ) → Boxed n s ls hs → (limit_fits i && limit_fits j) ≡ false → Limited n s ls hs i j 13
-  limited-no i j b e = record { ranges = λ v room. range-is b.accepted room i j ∙ ap₂ (range_as room i j) b.box e; asking = λ y. absurd (omega arith) }
-
-  pub limited-none : (i j : ℕ) → Boxed n s ls hs → limit_fits i ≡ true → limit_fits j ≡ true → Limited n s ls hs i j 0
-  limited-none i j b p q = record { ranges = λ v. absurd (v refl); asking = λ y. record { boxed = b; limit_inside = p; limit_outside = q } }
+  -- that of either limit
+  pub limited-no : (i j : ℕ) → Boxed n s ls hs → (limit_fits i && limit_fits j) ≡ false → Limited n s ls hs i j (Err BadLimit)
+  limited-no i j b e room = range-is b.accepted room i j ∙ ap₂ (range_as room i j) b.box e
 
 -- the points outside of a checked set in a box that fits
 pub outside-checked : (n : ℕ) (s : List ℕ) (ls hs : List ℤ) → Boxed n s ls hs → (room : ℕ) → outside_bytes n room s ls hs ≡ outside_result n room ls hs (set_from s 0)

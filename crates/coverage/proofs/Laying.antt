@@ -12,7 +12,7 @@ use mir.Syntax.{w32}
 use mir.Val.{SFits, to_z, of_z}
 use Rattle.integers.specs.Z.{Within}
 use Rattle.integers.specs.Lin.{abs, lin, lia-fits, lia-eq}
-use Rattle.integers.specs.Mach.{b-of, b-lit, b-op, ask}
+use Rattle.integers.specs.Mach.{b-of, b-lit, b-op}
 use Rattle.model.specs.Sets.{Constraint}
 use Rattle.model.specs.Values.{constraint_of}
 use Rattle.model.specs.declared.Constraint.{Constraint as StoredConstraint}
@@ -90,9 +90,6 @@ low-within n low high e i = (point-within n low (low_fits n low high e)).at i
 module _ (l : ℤ) (f : SFits w32 l) (w : Within 1048576 l) where
   opposite : SFits w32 (pos 0 -ℤ l)
   opposite = lia-fits (l ∷ []) (abs w ∷ []) (search lin depth 30) (omega arith)
-
-  pub opposite-asked : SFits w32 (pos 0 -ℤ to_z w32 (of_z w32 l))
-  opposite-asked = ask (b-lit w32 0 refl) (b-of f) ◌-ℤ◌ opposite
 
   pub opposite-is : to_z w32 (of_z w32 (pos 0 -ℤ to_z w32 (of_z w32 l))) ≡ neg_ℤ l
   opposite-is = (b-op (b-lit w32 0 refl) (b-of f) ◌-ℤ◌ opposite).is ∙ lia-eq (l ∷ []) [] (search lin depth 30) (omega arith)

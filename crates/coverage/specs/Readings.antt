@@ -1,43 +1,63 @@
 -- The answers of a range, and the lent table.
-use Rattle.std.specs.Prelude.{◌≡◌, Bool, true, false, List, [], ℕ, length}
+use Rattle.std.specs.Prelude.{◌≡◌, Result, List, [], ℕ, ℤ, length}
+use Rattle.model.specs.declared.refusal.Refusal.{Refusal}
 use Rattle.codec.specs.Bytes.{Answer, refused, gives}
+use Rattle.codec.specs.Refusing.{answer_is}
 use Rattle.algebra.specs.Result.{table_of}
 use Rattle.query.specs.Member.{padded}
-use Rattle.search.specs.declared.first.Outcome.{Outcome}
-use Rattle.search.specs.declared.first.Outcome.TheVariants as O
+use Rattle.search.specs.declared.levels.Outcome.{Outcome}
+use Rattle.search.specs.declared.levels.Outcome.TheVariants as O
 use Rattle.boxes.specs.Range as R
 use Rattle.boxes.specs.Range.{sure, never, depends, spent_inside, spent_outside}
 use Rattle.coverage.specs.declared.ranges.Range.{Range}
-use Rattle.coverage.specs.declared.ranges.Range.TheVariants.{Sure, Never, Depends, SpentInside, SpentOutside, Refused}
+use Rattle.coverage.specs.declared.ranges.Range.TheVariants.{Sure, Never, Depends, SpentInside, SpentOutside}
 use Rattle.coverage.specs.declared.ranges.Reading.{Reading}
 
--- ---- the answers of a search
-abbrev pub is_spent : Outcome → Bool
-is_spent O.At = false
-is_spent O.Nothing = false
-is_spent O.Spent = true
-is_spent (O.Refused k) = false
+-- ---- by how the two searches ended: that of the set first
+abbrev pub with_none : Outcome → Range
+with_none (O.At q) = Never
+with_none O.Nothing = Never
+with_none O.Spent = SpentOutside
 
-abbrev pub is_at : Outcome → Bool
-is_at O.At = true
-is_at O.Nothing = false
-is_at O.Spent = false
-is_at (O.Refused k) = false
+abbrev pub with_point : List ℤ → Outcome → Range
+with_point p (O.At q) = Depends p q
+with_point p O.Nothing = Sure
+with_point p O.Spent = SpentOutside
 
--- ---- "Only `depends` carries points, and no tally is given"; the length of the difference
-abbrev pub no_points : Range → ℕ → Reading
-no_points r l = record { range = r; inside = padded []; outside = padded []; length = l }
+abbrev pub range_by : Outcome → Outcome → Range
+range_by (O.At p) o = with_point p o
+range_by O.Nothing o = with_none o
+range_by O.Spent o = SpentInside
 
-abbrev pub told_of : R.Range → ℕ → Reading
-told_of sure l = no_points Sure l
-told_of never l = no_points Never l
-told_of (depends p q) l = record { range = Depends; inside = padded p; outside = padded q; length = l }
-told_of spent_inside l = no_points SpentInside l
-told_of spent_outside l = no_points SpentOutside l
+-- ---- "Only `depends` carries points, and no tally is given": zeros otherwise
+abbrev pub inside_of : Range → List ℤ
+inside_of Sure = padded []
+inside_of Never = padded []
+inside_of (Depends p q) = p
+inside_of SpentInside = padded []
+inside_of SpentOutside = padded []
 
-abbrev pub reading_is : Answer R.Reading → Reading
-reading_is (refused k) = no_points (Refused k) 0
-reading_is (gives x) = told_of x.range (length x.bytes)
+abbrev pub outside_of : Range → List ℤ
+outside_of Sure = padded []
+outside_of Never = padded []
+outside_of (Depends p q) = q
+outside_of SpentInside = padded []
+outside_of SpentOutside = padded []
+
+-- ---- the range, its points with 0 on absent axes; the length of the difference
+abbrev pub told_of : R.Range → Range
+told_of sure = Sure
+told_of never = Never
+told_of (depends p q) = Depends (padded p) (padded q)
+told_of spent_inside = SpentInside
+told_of spent_outside = SpentOutside
+
+abbrev pub reading_of : R.Range → ℕ → Reading
+reading_of r l = record { range = told_of r; length = l }
+
+abbrev pub reading_is : Answer R.Reading → Answer Reading
+reading_is (refused k) = refused k
+reading_is (gives x) = gives (reading_of x.range (length x.bytes))
 
 -- "the difference stays in the lent table", 0 behind it; all 0 after a refusal
 abbrev pub bytes_in : Answer R.Reading → Answer (List ℕ)
@@ -45,6 +65,6 @@ bytes_in (refused k) = refused k
 bytes_in (gives x) = gives x.bytes
 
 -- the contract of a range that is `a`: the answer, and the whole table of `room` bytes after the call
-pub record RangeIs (room : ℕ) (a : Answer R.Reading) (r : Reading) (table : List ℕ) : Type 0 where
-  pub answer : r ≡ reading_is a
+pub record RangeIs (room : ℕ) (a : Answer R.Reading) (r : Result Reading Refusal) (table : List ℕ) : Type 0 where
+  pub answer : answer_is (λ x. x) r ≡ reading_is a
   pub bytes : table ≡ table_of room (bytes_in a)

@@ -13,15 +13,14 @@ fn side_rule(i: usize, c: i16, k: i32) -> Constraint
     requires { i < most_axes }
     ensures { constraint_of result ≡ side_rule i c k }
 {
-    let mut a = [0i16; limit::AXES];
-    a[i] = c;
-    let d = [0i16; limit::DIVISIONS];
+    let mut axes = [0; limit::AXES];
+    axes[i] = c;
     Constraint {
         equality: false,
         number: 0,
         constant: k,
-        axes: a,
-        divisions: d,
+        axes,
+        divisions: [0; limit::DIVISIONS],
     }
 }
 
@@ -29,15 +28,14 @@ fn no_division() -> Division {
     Division {
         divisor: 1,
         constant: 0,
-        axes: [0i16; limit::AXES],
+        axes: [0; limit::AXES],
     }
 }
 
 fn no_rules() -> [Constraint; limit::CONSTRAINTS]
     ensures { length result ≡ most_constraints }
 {
-    let r = side_rule(0, 0, 0);
-    [r; limit::CONSTRAINTS]
+    [side_rule(0, 0, 0); limit::CONSTRAINTS]
 }
 
 // A box that fits, as a basic set.
@@ -46,18 +44,13 @@ pub fn boxed(n: usize, low: [i32; limit::AXES], high: [i32; limit::AXES]) -> Bas
     ensures { BoxIs n low high result }
 {
     let mut rules = no_rules();
-    let mut i = 0;
-    while i < n {
-        let l = low[i];
-        let h = high[i];
+    for i in 0..n {
         let j = 2 * i;
-        rules[j] = side_rule(i, 1, 0 - l);
-        rules[j + 1] = side_rule(i, -1, h);
-        i += 1;
+        rules[j] = side_rule(i, 1, -low[i]);
+        rules[j + 1] = side_rule(i, -1, high[i]);
     }
-    let d = no_division();
     BasicSet {
-        divisions: [d; limit::DIVISIONS],
+        divisions: [no_division(); limit::DIVISIONS],
         constraints: rules,
         divs: 0,
         cons: 2 * n,

@@ -7,4 +7,3 @@ mod ranges;
 
 pub use outsides::outside;
 pub use ranges::{Range, Reading, box_range};
-pub use results::Outcome;

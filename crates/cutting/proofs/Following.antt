@@ -19,14 +19,17 @@ use Rattle.sharing.specs.Working.{Stands}
 use Rattle.candidates.specs.declared.survivors.Survivors.{Survivors}
 use Rattle.candidates.specs.Candidates.{Behind, Caught, Followed, followed, Keeping}
 use Rattle.cutting.specs.declared.pieces.CutSteps.{CutSteps}
-use Rattle.cutting.specs.Cutting.{Marked}
+use Rattle.std.specs.Prelude.{Some}
+use Rattle.joining.specs.declared.divisions.Joined.{Joined}
+use Rattle.joining.specs.Joining.{Joining}
+use Rattle.cutting.specs.Cutting.{Marked, Pair}
 use Rattle.cutting.proofs.Steps.{bit-small, joined-stored}
-use Rattle.cutting.proofs.Turns.{Turned}
+use Rattle.cutting.proofs.Turns.{Turned, Opened}
 
 -- ---- one constraint of the cutter, as the cut stores it
 
 abbrev pub stepped : Stored → List ℕ → ℕ → CutSteps
-stepped w steps count = record { working = w; steps = steps; count = count; fits = true }
+stepped w steps count = record { working = w; steps = steps; count = count }
 
 abbrev pub lengthened : Stored → StoredConstraint → ℕ → Stored
 lengthened w r n = record { divisions = w.divisions; constraints = set w.constraints w.cons r; divs = w.divs; cons = w.cons + n }
@@ -43,8 +46,16 @@ turned {w} {steps} {count} {r} {k} h g m p e n i =
       divs = refl;
       cons = ap (λ (o : ℕ). w.cons + o) j;
       count = m.count;
-      fits = refl;
     }
+
+-- ---- the start of a cut
+
+abbrev pub opening : Stored → Joined → Stored
+opening a j = record { divisions = j.divisions; constraints = a.constraints; divs = j.divs; cons = a.cons }
+
+pub opened : {a c : Stored} {j : Joined} {steps : List ℕ} → Pair a c → Joining (basic_set_of a).divisions (basic_set_of c).divisions c.divs (Some j) → length a.constraints ≡ 48 → length c.constraints ≡ 48
+    → Opened a c j (stepped (opening a j) steps 0)
+opened p j l m = record { pair = p; join = j; first = l; second = m; begun = record { divisions = refl; constraints = refl; divs = refl; cons = refl; count = refl } }
 
 -- ---- once a constraint has joined, or has not
 

@@ -1,9 +1,8 @@
 -- What the functions that cut ask and give.
-use Rattle.std.specs.Prelude.{◌≡◌, Bool, true, cond, List, [], ◌∷◌, ◌++◌, map, ℕ, ◌+◌, ◌/◌, ◌%◌, ◌≤◌, ◌<◌, eqb, ℤ, length, take, get_or}
+use Rattle.std.specs.Prelude.{◌≡◌, Bool, cond, List, [], ◌∷◌, ◌++◌, map, ℕ, ◌+◌, ◌/◌, ◌%◌, ◌≤◌, ◌<◌, eqb, ℤ, length, take, get_or, Option, is_some, IfSome}
 use Rattle.model.specs.Limits.{most_divisions, most_constraints, most_pivots}
 use Rattle.model.specs.Sets.{equality, Constraint, BasicSet}
 use Rattle.model.specs.Values.{constraint_of, basic_set_of}
-use Rattle.model.specs.declared.Division.{Division as StoredDivision}
 use Rattle.model.specs.declared.Constraint.{Constraint as StoredConstraint}
 use Rattle.model.specs.declared.BasicSet.{BasicSet as Stored}
 use Rattle.model.specs.Lists.{All}
@@ -14,7 +13,6 @@ use Rattle.records.specs.Sound.{Sound}
 use Rattle.candidates.specs.declared.survivors.Survivors.{Survivors}
 use Rattle.candidates.specs.Candidates.{with_last, no_rule}
 use Rattle.cutting.specs.declared.pieces.CutSteps.{CutSteps}
-use Rattle.cutting.specs.declared.pieces.Pairing.{Pairing}
 
 -- the lent tables that only a cut needs: the kept pivots, and a tableau for a candidate
 pub record Spares (past spare : List (List ℤ)) : Type 0 where
@@ -47,14 +45,6 @@ pub record Marked (n at : ℕ) (k : Survivors) (steps : List ℕ) (m : ℕ) (ste
   pub steps_are : take m steps' ≡ take n steps ++ steps_at at k.above k.below
   pub count : m ≡ n + (cond k.above 1 0 + cond k.below 1 0)
 
-pub record Begun (a : Stored) (ds : List StoredDivision) (n : ℕ) (f : Bool) (r : CutSteps) : Type 0 where
-  pub divisions : r.working.divisions ≡ ds
-  pub constraints : r.working.constraints ≡ a.constraints
-  pub divs : r.working.divs ≡ n
-  pub cons : r.working.cons ≡ a.cons
-  pub count : r.count ≡ 0
-  pub fits : r.fits ≡ f
-
 -- two valid basic sets over the same axes
 pub record Pair (a c : Stored) : Type 0 where
   pub n : ℕ
@@ -66,20 +56,20 @@ pub record Pair (a c : Stored) : Type 0 where
   pub cons' : c.cons ≤ most_constraints
 
 -- the pieces ps of a and c, within limits or not
-pub record CutOf (within : Bool) (ps : List BasicSet) (a c : Stored) (r : CutSteps) : Type 0 where
-  pub fits : r.fits ≡ within
-  pub pieces : r.fits ≡ true → map (piece_of (basic_set_of r.working)) (take r.count r.steps) ≡ ps
-  pub steps : r.fits ≡ true → All (Step (basic_set_of r.working).constraints) (take r.count r.steps)
-  pub valid : r.fits ≡ true → (n : ℕ) → Valid n (basic_set_of a) → Valid n (basic_set_of c) → Valid n (basic_set_of r.working)
-  pub divs : r.fits ≡ true → r.working.divs ≤ most_divisions
-  pub cons : r.fits ≡ true → r.working.cons ≤ most_constraints
-  pub count : r.fits ≡ true → r.count ≤ 96
+pub record CutOf (within : Bool) (ps : List BasicSet) (a c : Stored) (r : Option CutSteps) : Type 0 where
+  pub fits : is_some r ≡ within
+  pub pieces : IfSome r (λ s. map (piece_of (basic_set_of s.working)) (take s.count s.steps) ≡ ps)
+  pub steps : IfSome r (λ s. All (Step (basic_set_of s.working).constraints) (take s.count s.steps))
+  pub valid : IfSome r (λ s. (n : ℕ) → Valid n (basic_set_of a) → Valid n (basic_set_of c) → Valid n (basic_set_of s.working))
+  pub divs : IfSome r (λ s. s.working.divs ≤ most_divisions)
+  pub cons : IfSome r (λ s. s.working.cons ≤ most_constraints)
+  pub count : IfSome r (λ s. s.count ≤ 96)
 
 -- of a tight basic set, and of any
-abbrev pub CutTightIs : Stored → Stored → CutSteps → Type 0
+abbrev pub CutTightIs : Stored → Stored → Option CutSteps → Type 0
 CutTightIs a c r = CutOf (cut_tight_fits keeps (basic_set_of a) (basic_set_of c)) (cut_tight keeps (basic_set_of a) (basic_set_of c)) a c r
 
-abbrev pub CutIs : Stored → Stored → CutSteps → Type 0
+abbrev pub CutIs : Stored → Stored → Option CutSteps → Type 0
 CutIs a c r = CutOf (cut_fits keeps (basic_set_of a) (basic_set_of c)) (cut keeps (basic_set_of a) (basic_set_of c)) a c r
 
 pub record Piece (w : Stored) (v : ℕ) : Type 0 where
@@ -91,8 +81,8 @@ pub record PieceIs (w : Stored) (v : ℕ) (r : Stored) : Type 0 where
   pub divs : r.divs ≡ w.divs
   pub cons : r.cons ≤ most_constraints
 
-pub record BothIs (a c : Stored) (r : Pairing) : Type 0 where
-  pub fits : r.fits ≡ both_fits keeps (basic_set_of a) (basic_set_of c)
-  pub is : r.fits ≡ true → basic_set_of r.set ≡ both (basic_set_of a) (basic_set_of c)
-  pub divs : r.fits ≡ true → r.set.divs ≤ most_divisions
-  pub cons : r.fits ≡ true → r.set.cons ≤ most_constraints
+pub record BothIs (a c : Stored) (r : Option Stored) : Type 0 where
+  pub fits : is_some r ≡ both_fits keeps (basic_set_of a) (basic_set_of c)
+  pub is : IfSome r (λ b. basic_set_of b ≡ both (basic_set_of a) (basic_set_of c))
+  pub divs : IfSome r (λ b. b.divs ≤ most_divisions)
+  pub cons : IfSome r (λ b. b.cons ≤ most_constraints)

@@ -3,4 +3,4 @@
 
 mod pieces;
 
-pub use pieces::{CutSteps, Pairing, both, cut, piece};
+pub use pieces::{CutSteps, both, cut, piece};

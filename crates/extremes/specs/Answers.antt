@@ -1,15 +1,17 @@
 -- The call on bytes (document 02, request 11): basic set number k of a set, and an expression written as an inequality's numbers.
-use Rattle.std.specs.Prelude.{List, ℕ, zero, suc, ℤ, length}
+use Rattle.std.specs.Prelude.{List, ℕ, zero, suc, ℤ, length, Result}
 use Rattle.std.proofs.Math.Option.{Option, none, some}
 use Rattle.model.specs.Sets.{Constraint, BasicSet, Set}
+use Rattle.model.specs.declared.refusal.Refusal.{Refusal}
 use Rattle.codec.specs.Bytes.{Answer, refused, gives, decode}
+use Rattle.codec.specs.Refusing.{answer_is}
 use Rattle.wide.specs.Wide.{value_of, size}
 use Rattle.carrying.specs.Answers.{numbered}
 use Rattle.optimum.specs.Value.{Extreme, empty, unbounded, too_wide, too_long, attained, extreme_of}
 use Rattle.rules.specs.Expressions.{numbers_refusal}
 use Rattle.extremes.specs.declared.Fraction.{Fraction}
 use Rattle.extremes.specs.declared.Extent.{Extent}
-use Rattle.extremes.specs.declared.Extent.TheVariants.{Refused, Empty, Unbounded, TooWide, TooLong, Value}
+use Rattle.extremes.specs.declared.Extent.TheVariants.{Empty, Unbounded, TooWide, TooLong, Value}
 
 abbrev pub extreme_in : ℤ → ℕ → BasicSet → Constraint → Answer Extreme
 extreme_in z n b e = elim (numbers_refusal n (length b.divisions) e) [ zero ↦ gives (extreme_of z b e) | suc m ↦ refused (suc m) ]
@@ -32,10 +34,12 @@ abbrev pub fraction_is : Fraction → Extreme
 fraction_is f = attained (value_of f.numerator) (size f.denominator)
 
 -- each case of the code's answer
-abbrev pub extent_is : Extent → Answer Extreme
-extent_is (Refused m) = refused m
-extent_is Empty = gives empty
-extent_is Unbounded = gives unbounded
-extent_is TooWide = gives too_wide
-extent_is TooLong = gives too_long
-extent_is (Value f) = gives (fraction_is f)
+abbrev pub extreme_is : Extent → Extreme
+extreme_is Empty = empty
+extreme_is Unbounded = unbounded
+extreme_is TooWide = too_wide
+extreme_is TooLong = too_long
+extreme_is (Value f) = fraction_is f
+
+abbrev pub extent_is : Result Extent Refusal → Answer Extreme
+extent_is r = answer_is extreme_is r

@@ -17,10 +17,9 @@ pub struct Fraction {
     pub denominator: Magnitude,
 }
 
-// The answer; `extentIs` in specs/Answers says what each case means.
+// The answer; `extreme_is` in specs/Answers says what each case means.
 #[derive(Clone, Copy)]
 pub enum Extent {
-    Refused(u32),
     Empty,
     Unbounded,
     TooWide,

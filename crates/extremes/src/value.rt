@@ -2,13 +2,12 @@
 ghost use Rattle.std.specs.Prelude.{◌≡◌, pos, ◌<ℤ◌};
 ghost use Rattle.integers.specs.Size.{bound};
 ghost use Rattle.model.specs.Values.{basic_set_of, constraint_of};
-ghost use Rattle.codec.specs.Bytes.{gives};
 ghost use Rattle.tableau.specs.Rows.{den};
 ghost use Rattle.wide_tableau.specs.Cells.{cells, rows_of, Sheet, Sheets};
 ghost use Rattle.simplex.specs.Table.{Valid};
 ghost use Rattle.optimum.specs.Value.{extreme_of};
 ghost use Rattle.climbing.specs.Steps.{aim_of, fraction_of, outcome_of, halves, Posed};
-ghost use Rattle.extremes.specs.Answers.{fraction_is, extent_is};
+ghost use Rattle.extremes.specs.Answers.{fraction_is, extreme_is};
 
 use crate::{Extent, Fraction};
 use climbing::Outcome;
@@ -36,7 +35,7 @@ fn fraction(goal: &[u64; 36]) -> Fraction
 
 fn ended(x: Outcome, goal: &[u64; 36]) -> Extent
     requires { Sheet goal.now × (pos 0 <ℤ den (cells goal.now)) }
-    ensures { extent_is result ≡ gives (outcome_of x (cells goal.now)) }
+    ensures { extreme_is result ≡ outcome_of x (cells goal.now) }
 {
     match x {
         Outcome::Best => Extent::Value(fraction(goal)),
@@ -56,7 +55,7 @@ fn both_halves(
     greatest: bool,
 ) -> Extent
     requires { Sheets t.old × Sheet goal.old × Posed n (rows_of t.old) (cells goal.old) place.old kinds.now }
-    ensures { extent_is result ≡ gives (halves (bound 128) kinds.now greatest (rows_of t.old) (cells goal.old) place.old) }
+    ensures { extreme_is result ≡ halves (bound 128) kinds.now greatest (rows_of t.old) (cells goal.old) place.old }
 {
     let e = climbing::point::reach(t, goal, n, place, kinds);
     let verdict = e.verdict;
@@ -82,7 +81,7 @@ fn both_halves(
 
 pub fn of_basic(b: BasicSet, c: Constraint, greatest: bool) -> Extent
     requires { Valid b }
-    ensures { extent_is result ≡ gives (extreme_of (aim_of greatest) (basic_set_of b) (constraint_of c)) }
+    ensures { extreme_is result ≡ extreme_of (aim_of greatest) (basic_set_of b) (constraint_of c) }
 {
     let k = b.divs;
     let cons = b.cons;

@@ -5,6 +5,7 @@ ghost use Rattle.extremes.specs.Answers.{fraction_is, extent_is};
 ghost use Rattle.extremes.specs.Words.{complement, extreme_words, value_words};
 
 use crate::{Extent, Fraction};
+use model::Refusal;
 use wide::Wide;
 
 fn low(x: Wide) -> u64
@@ -45,15 +46,11 @@ fn fraction_words(f: Fraction) -> [u64; 4]
 }
 
 // 0 where there is no value.
-pub fn value_words(x: Extent) -> [u64; 4]
-    ensures { result ≡ value_words (extent_is x) }
+pub fn value_words(answer: Result<Extent, Refusal>) -> [u64; 4]
+    ensures { result ≡ value_words (extent_is answer) }
 {
-    match x {
-        Extent::Refused(_) => [0u64; 4],
-        Extent::Empty => [0u64; 4],
-        Extent::Unbounded => [0u64; 4],
-        Extent::TooWide => [0u64; 4],
-        Extent::TooLong => [0u64; 4],
-        Extent::Value(f) => fraction_words(f),
+    match answer {
+        Ok(Extent::Value(f)) => fraction_words(f),
+        _ => [0u64; 4],
     }
 }

@@ -7,7 +7,7 @@ use native.Mathlib.Nat.{pow-suc, pow-succ', div-div-eq-div-mul, div-eq_of_lt, di
 use native.Mathlib.Omega.{arith}
 use lib.Pow.{pow_mono}
 use lib.Count.{ones, ones_step}
-use lib.ListN.{length, get_or, drop, length-drop}
+use lib.ListN.{drop_of_length-le, length, get_or, drop, length-drop}
 use lib.Seq.{drop-cons}
 use Rattle.model.specs.Lists.{filter, cons_if}
 use Rattle.fleet.specs.Fleet.{bit, mask_of}
@@ -65,6 +65,11 @@ module _ {A : Type 0} (f : A → Bool) where
 
   pub mask_fits : (ps : List A) (i : ℕ) → length ps ≤ 64 → mask_of f (drop i ps) < 2 ^ 64
   mask_fits ps i h = lt_of_lt_of_le (mask_lt (drop i ps)) (pow_mono {i = length (drop i ps)} {j = 64} (omega (arith, length-drop i ps)))
+
+  -- none is left behind the last
+  pub mask_none : (ps : List A) (i : ℕ) → length ps ≤ i → 0 ≡ mask_of f (drop i ps)
+  unfolding mask_of
+  mask_none ps i h = sym (ap (mask_of f) (drop_of_length-le ps h))
 
   -- a turn of the loop, from the last to the first: the bit before place i
   pub mask-turn : (ps : List A) (i m b : ℕ) (d : A) → 0 < i → i ≤ length ps → m ≡ mask_of f (drop i ps) → b ≡ bit (f (get_or ps (i - 1) d))

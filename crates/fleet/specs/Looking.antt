@@ -1,13 +1,14 @@
 -- What the code knows on its way, and what its answers mean.
-use Rattle.std.specs.Prelude.{◌≡◌, Bool, false, ◌||◌, List, ℕ, ◌*◌, ◌≤◌, ◌<◌, ℤ, length, take, drop, get_or}
+use Rattle.std.specs.Prelude.{◌≡◌, Bool, false, ◌||◌, List, ℕ, ◌*◌, ◌≤◌, ◌<◌, ℤ, length, take, drop, get_or, Result}
 use Rattle.model.specs.Limits.{most_axes, most_coordinate, most_points}
 use Rattle.model.specs.Sets.{in_basic, in_set}
 use Rattle.codec.specs.Bytes.{Answer, refused, gives}
 use Rattle.codec.specs.Places.{basic_at, set_from}
 use Rattle.bounds.specs.Ends.{AllWithin}
 use Rattle.fleet.specs.Fleet.{Fleet}
-use Rattle.fleet.specs.declared.looks.Looked.{Looked}
-use Rattle.fleet.specs.declared.looks.Looked.TheVariants.{Seen, Refused}
+use Rattle.fleet.specs.declared.looks.Seen.{Seen}
+use Rattle.model.specs.declared.refusal.Refusal.{Refusal}
+use Rattle.codec.specs.Refusing.{answer_is}
 
 -- k points of n coordinates each, none beyond the range of a coordinate
 pub record Points (n k : ℕ) (xs : List ℤ) : Type 0 where
@@ -31,9 +32,8 @@ pub record Walked (s : List ℕ) (n : ℕ) (xs : List ℤ) (k : ℕ) (r : List B
   pub is : (j : ℕ) → j < k → get_or r j false ≡ in_set (point_at n xs j) (set_from s 0)
 
 -- the answers of a look
-abbrev pub fleet_is : Looked → Answer Fleet
-fleet_is (Seen m c) = gives (record { mask = m; count = c })
-fleet_is (Refused k) = refused k
+abbrev pub fleet_is : Result Seen Refusal → Answer Fleet
+fleet_is r = answer_is (λ s. record { mask = s.mask; count = s.count }) r
 
 -- "A refused answer carries its number and otherwise zeros" (document 01, "Refused")
 abbrev pub mask_in : Answer Fleet → ℕ

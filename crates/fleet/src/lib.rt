@@ -4,4 +4,4 @@
 mod looks;
 mod marks;
 
-pub use looks::{Looked, look, mask_in};
+pub use looks::{Seen, look, mask_in};

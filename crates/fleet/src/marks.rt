@@ -6,7 +6,7 @@ ghost use Rattle.model.specs.Limits.{most_axes, most_points};
 ghost use Rattle.codec.specs.Places.{Opened, Accepted, basic_at};
 ghost use Rattle.query.specs.Member.{coordinate};
 ghost use Rattle.query.specs.Holding.{Point};
-ghost use Rattle.fleet.specs.Fleet.{bit, mask_of};
+ghost use Rattle.fleet.specs.Fleet.{mask_of};
 ghost use Rattle.fleet.specs.Looking.{Points, Marked, Walked, itself};
 
 use model::limit;
@@ -16,11 +16,7 @@ fn held(before: bool, s: &[u8], start: usize, x: &[i64]) -> bool
     requires { Opened s.now start × Point x.now }
     ensures { result ≡ (before || in_basic x.now (basic_at s.now start)) }
 {
-    if before {
-        return true;
-    }
-    let e = query::spanned(s, start, x);
-    e.holds
+    before || query::spanned(s, start, x).holds
 }
 
 // One basic set: every point that no earlier one holds.
@@ -28,15 +24,9 @@ fn marked(s: &[u8], start: usize, n: usize, xs: &[i64], k: usize, flags: &mut [b
     requires { Opened s.now start × Points n k xs.now × (length flags.old ≡ most_points) }
     ensures { Marked s.now start n xs.now k flags.old flags.new }
 {
-    let mut i = 0;
-    let mut p = 0;
-    while i < k {
-        let e = p + n;
-        let was = flags[i];
-        let b = held(was, s, start, &xs[p..e]);
-        flags[i] = b;
-        p = e;
-        i += 1;
+    for i in 0..k {
+        let x = &xs[n * i..n * i + n];
+        flags[i] = held(flags[i], s, start, x);
     }
 }
 
@@ -54,43 +44,23 @@ pub fn walked(s: &[u8], n: usize, xs: &[i64], k: usize) -> [bool; limit::POINTS]
     flags
 }
 
-fn one(b: bool) -> u64
-    ensures { result ≡ bit b }
-{
-    if b {
-        return 1;
-    }
-    0
-}
-
 // The first flag in the lowest bit: from the last one on.
 pub fn mask_of(flags: [bool; limit::POINTS], k: usize) -> u64
     requires { k ≤ most_points }
     ensures { result ≡ mask_of itself (take k flags) }
 {
-    let mut m: u64 = 0;
-    let mut i = k;
-    while 0 < i {
-        let b = one(flags[i - 1]);
-        m = m * 2 + b;
-        i -= 1;
+    let mut mask = 0;
+    for i in (0..k).rev() {
+        mask = mask * 2 + u64::from(flags[i]);
     }
-    m
+    mask
 }
 
 // Whether every number of the list is in the range of a coordinate. None is of an absent axis.
 pub fn coordinates_fit(points: &[i32]) -> bool
     ensures { result ≡ all coordinate points.now }
 {
-    let mut i = 0;
-    while i < points.len() {
-        let z = points[i];
-        if !query::coordinate_fits(1, 0, z) {
-            return false;
-        }
-        i += 1;
-    }
-    true
+    points.iter().all(|z| query::coordinate_fits(1, 0, *z))
 }
 
 // The most numbers of a list.
@@ -102,11 +72,8 @@ pub fn widened(points: &[i32]) -> [i64; COORDINATES]
     ensures { (take (length points.now) result ≡ points.now) × (length result ≡ most_points * most_axes) }
 {
     let mut r = [0i64; COORDINATES];
-    let mut i = 0;
-    while i < points.len() {
-        let z = query::wide(points[i]);
-        r[i] = z;
-        i += 1;
+    for (i, z) in points.iter().enumerate() {
+        r[i] = i64::from(*z);
     }
     r
 }

@@ -1,9 +1,7 @@
-pub mod Counted
 pub mod Lengths
 pub mod Meanings
 pub mod Ways
 pub mod Fleets
 pub mod Extremes
-pub mod Valued
 pub mod Plans
 pub mod Ranges

@@ -1,5 +1,5 @@
--- What the host gets of a call on a state (document 02, request 8), from what the call below says and leaves; and what a refusal's number says:
--- minus that number is the refusal, and every word of the four tables is as it was.
+-- What a refusal's number says of a call on a state (document 02, request 8): minus that number is the refusal, and every word of the four
+-- tables is as it was.
 use mathlib.Core.Path.{◌≡◌, sym, ap, ◌∙◌}
 use mathlib.Core.List.{List}
 use Prim.Native.Nat.{ℕ, zero, suc}
@@ -7,18 +7,13 @@ use lib.IntN.{ℤ, negsuc}
 use Rattle.model.specs.Sets.{Constraint}
 use Rattle.codec.proofs.Decoded.{no_way}
 use Rattle.memory.specs.Memory.{Memory}
-use Rattle.states.specs.declared.Said.{Said}
-use Rattle.states.specs.declared.Said.TheVariants.{Point, Empty, Wide, Long, Refused, Misused}
-use Rattle.states.specs.Calls.{Step, stepped, start_step, add_step, mark_step, back_step}
+use Rattle.states.specs.Calls.{Step, Saying, Point, Empty, Wide, Long, Refused, Misused, start_step, add_step, mark_step, back_step}
 use Rattle.states.proofs.Left.{start-leaves, add-leaves, mark-leaves, back-leaves}
 use Rattle.answers.specs.Numbers.{said_number, StateHosted}
 
-pub state-hosted : {a : Step} {x : Said} {y : Memory} {r : ℤ} → stepped x y ≡ a → r ≡ said_number x → StateHosted a r y
-state-hosted e n = record { number = n ∙ ap (λ (s : Step). said_number s.said) e; words = ap (λ (s : Step). s.memory) e }
-
 -- ---- a number below 0
 
-minus-refused : (k : ℕ) (x : Said) → negsuc k ≡ said_number x → x ≡ Refused (suc k)
+minus-refused : (k : ℕ) (x : Saying) → negsuc k ≡ said_number x → x ≡ Refused (suc k)
 minus-refused k Misused e = let z : ◌≡◌ {A = ℕ} 0 1 = cc in no_way z
 minus-refused k Point e = let z : ◌≡◌ {A = ℕ} 0 1 = cc in no_way z
 minus-refused k Empty e = let z : ◌≡◌ {A = ℕ} 0 1 = cc in no_way z

@@ -1,10 +1,22 @@
 // How many points of a box are in a set, and how many with each value of one axis.
-ghost use Rattle.std.specs.Prelude.{[], ◌∷◌, length};
+ghost use Rattle.std.specs.Prelude.{◌≡◌, [], ◌∷◌, length};
 ghost use Rattle.std.proofs.Math.Option.{none};
+ghost use Rattle.codec.specs.Refusing.{answer_is};
 ghost use Rattle.enumeration.specs.Counting.{count_bytes, counts_bytes};
-ghost use Rattle.answers.specs.Numbers.{CountHosted, CountsHosted};
+ghost use Rattle.answers.specs.Numbers.{outcome_number, tested_in, CountHosted, CountsHosted};
 
 use answers::count_number;
+use counting::Counted;
+use model::Refusal;
+
+// The number of a count, and the prefixes tested, 0 after a refusal.
+fn told(count: Result<Counted, Refusal>, tested: &mut u32) -> i64
+    ensures number { result ≡ outcome_number (answer_is (λ x. x) count) }
+    ensures prefixes { tested.new ≡ tested_in (answer_is (λ x. x) count) }
+{
+    *tested = count.map_or(0, |count| count.tested);
+    count_number(count)
+}
 
 // How many points of the box are in the set, minus the number of a refusal, −1000 where the limit was spent.
 #[unsafe(no_mangle)]
@@ -34,15 +46,14 @@ pub extern "C" fn pitsets_count(
         (l1 ∷ l2 ∷ l3 ∷ l4 ∷ l5 ∷ l6 ∷ l7 ∷ l8 ∷ []) (h1 ∷ h2 ∷ h3 ∷ h4 ∷ h5 ∷ h6 ∷ h7 ∷ h8 ∷ []) none limit)
         result tested.new }
 {
-    let c = counting::count(
+    let count = counting::count(
         n,
         set,
         [l1, l2, l3, l4, l5, l6, l7, l8],
         [h1, h2, h3, h4, h5, h6, h7, h8],
         limit,
     );
-    *tested = c.tested;
-    count_number(c)
+    told(count, tested)
 }
 
 // The same, with the number of those that have each value of the axis in the lent table.
@@ -76,7 +87,7 @@ pub extern "C" fn pitsets_counts(
         (l1 ∷ l2 ∷ l3 ∷ l4 ∷ l5 ∷ l6 ∷ l7 ∷ l8 ∷ []) (h1 ∷ h2 ∷ h3 ∷ h4 ∷ h5 ∷ h6 ∷ h7 ∷ h8 ∷ []) axis limit)
         result counts.new tested.new }
 {
-    let c = counting::counts(
+    let count = counting::counts(
         n,
         set,
         [l1, l2, l3, l4, l5, l6, l7, l8],
@@ -85,6 +96,5 @@ pub extern "C" fn pitsets_counts(
         limit,
         counts,
     );
-    *tested = c.tested;
-    count_number(c)
+    told(count, tested)
 }

@@ -1,4 +1,5 @@
-// The engine for the board's host in C: numbers and byte slices in, a signed number out (include/pitsets.h).
+// The engine for the board's host in C: numbers and byte slices in, a signed number out (include/pitsets.h). The header's
+// signatures stay: coordinates one by one, and what is answered beside the number through a lent place.
 #![tactic(auto)]
 
 mod asking;

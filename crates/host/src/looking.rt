@@ -10,7 +10,7 @@ use answers::fleet_number;
 pub extern "C" fn pitsets_fleet(n: usize, set: &[u8], points: &[i32], mask: &mut u64) -> i64
     ensures { Fleeted (fleet_bytes n set.now points.now) result mask.new }
 {
-    let r = fleet::look(n, set, points);
-    *mask = fleet::mask_in(r);
-    fleet_number(r)
+    let look = fleet::look(n, set, points);
+    *mask = fleet::mask_in(look);
+    fleet_number(look)
 }

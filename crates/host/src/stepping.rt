@@ -17,7 +17,9 @@ pub extern "C" fn pitsets_state_start_in(
     kinds: &mut [u8],
     heads: &mut [usize],
 ) -> i64
-    ensures { StateHosted (start_step n divisions.now (memory rows.old place.old kinds.old heads.old)) result (memory rows.new place.new kinds.new heads.new) }
+    ensures { StateHosted
+        (start_step n divisions.now (memory rows.old place.old kinds.old heads.old))
+        result (memory rows.new place.new kinds.new heads.new) }
 {
     said_number(states::start(n, divisions, rows, place, kinds, heads))
 }
@@ -33,11 +35,13 @@ pub extern "C" fn pitsets_state_add_in(
     kinds: &mut [u8],
     heads: &mut [usize],
 ) -> i64
-    ensures { StateHosted (add_step (rule_by equality constant axes.now divisions.now) (memory rows.old place.old kinds.old heads.old)) result (memory rows.new place.new kinds.new heads.new) }
+    ensures { StateHosted
+        (add_step (rule_by equality constant axes.now divisions.now) (memory rows.old place.old kinds.old heads.old))
+        result (memory rows.new place.new kinds.new heads.new) }
 {
     let rule = Rule {
-        equality: equality,
-        constant: constant,
+        equality,
+        constant,
         axes: *axes,
         divisions: *divisions,
     };
@@ -52,7 +56,9 @@ pub extern "C" fn pitsets_state_mark_in(
     kinds: &mut [u8],
     heads: &mut [usize],
 ) -> i64
-    ensures { StateHosted (mark_step name (memory rows.old place.old kinds.old heads.old)) result (memory rows.new place.new kinds.new heads.new) }
+    ensures { StateHosted
+        (mark_step name (memory rows.old place.old kinds.old heads.old))
+        result (memory rows.new place.new kinds.new heads.new) }
 {
     said_number(states::mark(name, rows, place, kinds, heads))
 }
@@ -65,7 +71,9 @@ pub extern "C" fn pitsets_state_back_in(
     kinds: &mut [u8],
     heads: &mut [usize],
 ) -> i64
-    ensures { StateHosted (back_step name (memory rows.old place.old kinds.old heads.old)) result (memory rows.new place.new kinds.new heads.new) }
+    ensures { StateHosted
+        (back_step name (memory rows.old place.old kinds.old heads.old))
+        result (memory rows.new place.new kinds.new heads.new) }
 {
     said_number(states::back(name, rows, place, kinds, heads))
 }

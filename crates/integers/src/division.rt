@@ -7,7 +7,5 @@ pub fn floor_div(n: i64, d: i64) -> i64
     requires { pos 0 <ℤ d }
     ensures { result ≡ floor_div n (nat_abs d) }
 {
-    let q = n / d;
-    let r = n % d;
-    if r < 0 { q - 1 } else { q }
+    n.div_euclid(d)
 }

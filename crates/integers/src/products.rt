@@ -22,10 +22,8 @@ pub fn dot(a: &[i16], x: &[i64]) -> i64
     ensures { Dotted w16 a.now x.now result }
 {
     let mut s: i64 = 0;
-    let mut i = 0;
-    while i < x.len() {
-        s += a[i] as i64 * x[i];
-        i += 1;
+    for (i, v) in x.iter().enumerate() {
+        s += i64::from(a[i]) * v;
     }
     s
 }

@@ -11,7 +11,7 @@ use lib.Dec.{ltb, eqb→eq}
 use lib.IntN.{ℤ, pos, negsuc, nat_abs}
 use lib.Signed.{mag}
 use lib.ListN.{length, take, drop, get_or, set, length-map, drop_of_length-le, get_or-map}
-use lib.Seq.{drop-cons}
+use lib.Seq.{drop-cons, take-length}
 use mir.Syntax.{w16}
 use mir.Val.{SFits}
 use Rattle.model.proofs.Count.{to-T, suc_inj}
@@ -29,7 +29,8 @@ use Rattle.feasibility.proofs.Reduce.{euclid-is}
 use Rattle.integers.specs.Gcd as G
 use Rattle.algebra.specs.Tighten.{content, divisible, undivided, void, divided_down, tight}
 use Rattle.integers.specs.Mach.{clash}
-use Rattle.joining.specs.declared.tightening.Reduced.{Reduced}
+use Rattle.std.specs.Prelude.{Some, None}
+use Rattle.model.specs.declared.Constraint.{Constraint as StoredConstraint}
 use Rattle.joining.specs.Joining.{common_from, is_unit, reduced_of, Reduces, Settled, Tightens}
 use Rattle.joining.proofs.Placing.{no_constraint}
 
@@ -133,12 +134,6 @@ module _ (r : Constraint) (g : ℕ) (e : g ≡ content r) where
     pub void-over : undivided r.kind g r.constant ≡ void r
     void-over = ap (λ (n : ℕ). undivided r.kind n r.constant) e ∙ ap (λ (b : Bool). cond b (undivided r.kind (content r) r.constant) false) (sym over)
 
-    pub reduced-void : undivided r.kind g r.constant ≡ true → r ≡ reduced_of r
-    reduced-void u = ap (λ (b : Bool). cond b r (tight r)) (sym u ∙ void-over)
-
-    pub reduced-over : undivided r.kind g r.constant ≡ false → divided_down g r ≡ reduced_of r
-    reduced-over u = tight-over ∙ ap (λ (b : Bool). cond b r (tight r)) (sym u ∙ void-over)
-
   module _ (h : 1 < g → ⊥) where
     plain : ltb 1 (content r) ≡ false
     plain = le-ltb 1 (content r) (subst (λ (n : ℕ). n ≤ 1) e (omega arith))
@@ -151,6 +146,12 @@ module _ (r : Constraint) (g : ℕ) (e : g ≡ content r) where
 
     pub reduced-plain : r ≡ reduced_of r
     reduced-plain = tight-plain ∙ ap (λ (b : Bool). cond b r (tight r)) void-plain
+
+pub reduced-some : (r t : Constraint) → void r ≡ false → t ≡ tight r → t ≡ reduced_of r
+reduced-some r t v e = e ∙ ap (λ (b : Bool). cond b r (tight r)) (sym v)
+
+pub reduced_none : (r : Constraint) → void r ≡ true → r ≡ reduced_of r
+reduced_none r v = ap (λ (b : Bool). cond b r (tight r)) (sym v)
 
 pub unit-reduced : (r : Constraint) → any is_unit r.axes ≡ true → r ≡ reduced_of r
 unit-reduced r e = reduced-plain r 1 (unit-first r.axes r.divisions e) (λ h. omega arith)
@@ -179,35 +180,12 @@ any-hit f (x ∷ l) (suc n) (suc k) d g h v = later (f x) (any f (take n l)) (an
     later true b e = refl
     later false b e = e
 
--- none of the first k rules of b has a common divisor over 1
-pub record Undivided (b : Stored) (k : ℕ) : Type 0 where
-  pub within : k ≤ b.cons
-  pub none : any divisible (take k (map constraint_of b.constraints)) ≡ false
-
-pub undivided-start : (b : Stored) → Undivided b 0
-undivided-start b = record { within = zero-le; none = refl }
-
-module _ {b : Stored} {k : ℕ} (p : Undivided b k) (long : length b.constraints ≡ 48) (few : b.cons ≤ 48) where
-  abbrev rules : List Constraint
-  rules = map constraint_of b.constraints
-
-  module _ (h : k < b.cons) (g : ℕ) (e : g ≡ content (constraint_of (get_or b.constraints k no_constraint))) where
-    rules-long : k < length rules
-    rules-long = let z = length-map b.constraints constraint_of in omega arith
-
-    divisible-is : divisible (get_or rules k (constraint_of no_constraint)) ≡ ltb 1 g
-    divisible-is = ap divisible (get_or-map constraint_of b.constraints k no_constraint) ∙ ap (ltb 1) (sym e)
-
-    pub undivided-hit : 1 < g → true ≡ any divisible (basic_set_of b).constraints
-    undivided-hit o = sym (ap (any divisible) (map-take constraint_of b.cons b.constraints) ∙ any-hit divisible rules b.cons k (constraint_of no_constraint) h rules-long (divisible-is ∙ lt-ltb 1 g o))
-
-    pub undivided-next : (1 < g → ⊥) → Undivided b (k + 1)
-    undivided-next o = record { within = omega arith; none = any_next divisible rules k (constraint_of no_constraint) rules-long p.none (divisible-is ∙ le-ltb 1 g (omega arith)) }
-
-  pub undivided-end : b.cons ≤ k → false ≡ any divisible (basic_set_of b).constraints
-  undivided-end h =
-      let n : k ≡ b.cons = let z = p.within in omega arith in
-      sym (ap (any divisible) (map-take constraint_of b.cons b.constraints) ∙ ap (λ (m : ℕ). any divisible (take m rules)) (sym n) ∙ p.none)
+-- a rule with a common divisor over 1
+pub divisible-hit : (l : List StoredConstraint) (k : ℕ) → k < length l → (g : ℕ) → g ≡ content (constraint_of (get_or l k no_constraint)) → 1 < g → any divisible (map constraint_of l) ≡ true
+divisible-hit l k h g e o =
+    let d : divisible (get_or (map constraint_of l) k (constraint_of no_constraint)) ≡ true = ap divisible (get_or-map constraint_of l k no_constraint) ∙ ap (ltb 1) (sym e) ∙ lt-ltb 1 g o in
+    let m : length (map constraint_of l) ≡ length l = length-map l constraint_of in
+    ap (any divisible) (sym (take-length (map constraint_of l))) ∙ any-hit divisible (map constraint_of l) (length (map constraint_of l)) k (constraint_of no_constraint) (omega arith) (omega arith) d
 
 -- the first k rules of b are tightened in w, and none of them is void
 pub record Passed (b w : Stored) (k : ℕ) : Type 0 where
@@ -233,7 +211,7 @@ module _ {b w : Stored} {k : ℕ} (p : Passed b w k) (long : length b.constraint
   unfolding L
   given = map-take constraint_of b.cons b.constraints
 
-  module _ (h : k < b.cons) (d : Reduced) (e : Reduces (constraint_of (get_or w.constraints k no_constraint)) d) where
+  module _ (h : k < b.cons) where
     same_read : get_or (map constraint_of w.constraints) k (constraint_of no_constraint) ≡ get_or L k (constraint_of no_constraint)
     unfolding L
     same_read = ap (λ (l : List Constraint). get_or l k (constraint_of no_constraint)) p.rules ∙ up_to-next (each tight) k L (constraint_of no_constraint)
@@ -244,30 +222,31 @@ module _ {b w : Stored} {k : ℕ} (p : Passed b w k) (long : length b.constraint
     inside : k < length L
     inside = let z = whole in omega arith
 
-    pub passed-void : d.void ≡ true → Tightens b (record { set = b; void = true })
-    passed-void v =
+    pub passed-void : Reduces (constraint_of (get_or w.constraints k no_constraint)) None → Tightens b None
+    passed-void e =
         record {
-          void = sym (ap (any void) given ∙ any-hit void L b.cons k (constraint_of no_constraint) h inside (ap void (sym rule-is) ∙ sym e.void ∙ v));
-          is = λ z. clash refl z;
-          divs = refl;
-          cons = refl;
+          void = sym (ap (any void) given ∙ any-hit void L b.cons k (constraint_of no_constraint) h inside (ap void (sym rule-is) ∙ sym e.void));
+          is = tt;
+          divs = tt;
+          cons = tt;
         }
 
-    pub passed-next : d.void ≡ false → Passed b (record { divisions = w.divisions; constraints = set w.constraints k d.rule; divs = w.divs; cons = w.cons }) (k + 1)
+    pub passed-next : (d : StoredConstraint) → Reduces (constraint_of (get_or w.constraints k no_constraint)) (Some d)
+        → Passed b (record { divisions = w.divisions; constraints = set w.constraints k d; divs = w.divs; cons = w.cons }) (k + 1)
     unfolding L
-    passed-next v =
-        let o : void (get_or L k (constraint_of no_constraint)) ≡ false = ap void (sym rule-is) ∙ sym e.void ∙ v in
-        let t : constraint_of d.rule ≡ tight (get_or L k (constraint_of no_constraint)) = e.rule ∙ ap reduced_of rule-is ∙ ap (λ (c : Bool). cond c (get_or L k (constraint_of no_constraint)) (tight (get_or L k (constraint_of no_constraint)))) o in
+    passed-next d e =
+        let o : void (get_or L k (constraint_of no_constraint)) ≡ false = ap void (sym rule-is) ∙ sym e.void in
+        let t : constraint_of d ≡ tight (get_or L k (constraint_of no_constraint)) = e.rule ∙ ap tight rule-is in
         record {
           within = omega arith;
-          rules = map-set constraint_of w.constraints k d.rule ∙ up_to-more (constraint_of no_constraint) (each tight) k L (map constraint_of w.constraints) (constraint_of d.rule) inside p.rules (t ∙ ap tight (sym same_read) ∙ each_at tight k _);
+          rules = map-set constraint_of w.constraints k d ∙ up_to-more (constraint_of no_constraint) (each tight) k L (map constraint_of w.constraints) (constraint_of d) inside p.rules (t ∙ ap tight (sym same_read) ∙ each_at tight k _);
           none = any_next void L k (constraint_of no_constraint) inside p.none o;
           divisions = p.divisions;
           divs = p.divs;
           cons = p.cons;
         }
 
-  pub passed-end : b.cons ≤ k → Tightens b (record { set = w; void = false })
+  pub passed-end : b.cons ≤ k → Tightens b (Some w)
   unfolding L
   passed-end h =
       let n : k ≡ b.cons = let z = p.within in omega arith in
@@ -276,7 +255,7 @@ module _ {b w : Stored} {k : ℕ} (p : Passed b w k) (long : length b.constraint
       ∙ up_to-take tight b.cons L ∙ ap (map tight) (sym given) in
       record {
         void = sym (ap (any void) given ∙ ap (λ (m : ℕ). any void (take m L)) (sym n) ∙ p.none);
-        is = λ z i. record { divisions = map division_of (take (p.divs i) (p.divisions i)); constraints = c i };
+        is = λ i. record { divisions = map division_of (take (p.divs i) (p.divisions i)); constraints = c i };
         divs = p.divs;
         cons = p.cons;
       }

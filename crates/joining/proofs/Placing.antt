@@ -2,16 +2,21 @@
 use mathlib.Core.Path.{◌≡◌, refl, sym, ap, ap₂, ◌∙◌, subst}
 use mathlib.Core.Bool.{Bool, true, false, not, ◌&&◌, ◌||◌, cond}
 use mathlib.Core.List.{List, [], ◌∷◌, ◌++◌, map, append_assoc, append-nil}
-use mathlib.Core.Option.{Option, none, some}
+use mathlib.Core.Option.{Option as PlainOption, none, some}
+use Rattle.std.specs.Prelude.{Option, Some, None}
+use Rattle.std.proofs.Common.{int_eq}
+use Rattle.std.proofs.lemmas.Bool.{false≢true}
+use Rattle.std.proofs.lemmas.Bool.Decides.{Decides-int_eq}
+use Rattle.std.specs.Cmp.Lexicographic.{pointwise}
 use Prim.Native.Nat.{ℕ, zero, suc, ◌+◌, ◌≤◌, ◌<◌}
 use native.Mathlib.Nat.{le_of_suc-le-suc, not-suc-le-zero, le_refl}
 use native.Mathlib.Numerals.{add-one}
 use native.Mathlib.Omega.{arith}
-use borrow.Author.Tests.{lt-ltb, le-ltb, lt-leb}
+use borrow.Author.Tests.{lt-leb}
 use lib.Dec.{T, leb, eqb, leb→le}
 use lib.IntN.{ℤ, pos, negsuc, neg_ℤ, ◌+ℤ◌, ◌-ℤ◌, +ℤ_idr}
-use lib.ListN.{length, take, drop, get_or, set, replicate, length-append, drop_of_length-le}
-use lib.Seq.{drop-cons, take-suc-set, length-take-le, get_or-set_same, get_or-set_other, drop-length}
+use lib.ListN.{length, take, drop, get_or, set, replicate, length-append, length-map, length-set, get_or-map, drop_of_length-le}
+use lib.Seq.{drop-cons, take-suc-set, length-take-le, get_or-take, get_or-set_same, get_or-set_other, drop-length}
 use mir.Syntax.{w16, w32}
 use mir.Val.{SFits}
 use Rattle.integers.specs.Ring.{ring, quote}
@@ -19,11 +24,12 @@ use Rattle.integers.specs.Lin.{fits, le, lin, lia-fits}
 use lib.Signed.{◌≤ℤ◌, le_z_yes}
 use Rattle.model.specs.Lists.{any, All}
 use Rattle.model.specs.Sets.{Division, equality, is_zero}
+use Rattle.model.specs.Values.{division_of}
 use Rattle.model.specs.declared.Division.{Division as Stored}
 use Rattle.model.specs.declared.Constraint.{Constraint as StoredConstraint}
 use Rattle.codec.specs.Bytes.{coefficient, constant_fits}
 use Rattle.algebra.specs.Cut.{sameℤ, same_list, same_division, seek, Joined, placed, join_from, join, add_at, move}
-use Rattle.joining.specs.Joining.{place_of, Placed}
+use Rattle.joining.specs.Joining.{Seeking, Joining, Placed}
 use Rattle.model.proofs.Lists.{map-append}
 use Rattle.model.proofs.Count.{and_left}
 use Rattle.algebra.proofs.Joined.{same→, joined}
@@ -141,6 +147,19 @@ move-next is cs k p h g =
     sym (add_at-set (get_or is k 0) (get_or cs k (pos 0)) m l (get_or-move (get_or is k 0) (drop (suc k) is) (drop (suc k) cs) a'.0))
     ∙ ap₂ move (sym e) (sym (drop-cons cs k (pos 0) g))
 
+module _ (places : List ℕ) (from : List ℤ) (n k : ℕ) (p : Placed (take n places)) (l : n ≤ length places) (h : k < n) where
+  shown-at : get_or (take n places) k 0 ≡ get_or places k 0
+  shown-at = get_or-take n places k 0 h
+
+  inside_first : k < length (take n places)
+  inside_first = let w = length-take-le n places l in omega arith
+
+  pub place-fits : get_or places k 0 < 8
+  place-fits = subst (λ (q : ℕ). q < 8) shown-at (All-at (λ (q : ℕ). q < 8) (take n places) k 0 inside_first (placed_below (take n places) p))
+
+  pub move-back : k < length from → set (move (drop (k + 1) (take n places)) (drop (k + 1) from)) (get_or places k 0) (get_or from k (pos 0)) ≡ move (drop k (take n places)) (drop k from)
+  move-back g = rw (add-one, sym shown-at) (move-next (take n places) from k p inside_first g)
+
 -- ---- equal divisions
 
 pub same-yes : (a b : ℤ) → a ≡ b → sameℤ a b ≡ true
@@ -153,37 +172,39 @@ no_flag false n = refl
 pub same-no : (a b : ℤ) → (a ≡ b → ⊥) → sameℤ a b ≡ false
 same-no a b n = no_flag (sameℤ a b) (λ t. n (same→ a b t))
 
-module _ (x y : List ℤ) (i : ℕ) (h : i < length x) (g : i < length y) where
-  pub list-go : get_or x i (pos 0) ≡ get_or y i (pos 0) → same_list (drop i x) (drop i y) ≡ same_list (drop (suc i) x) (drop (suc i) y)
-  list-go e =
-      ap₂ same_list (drop-cons x i (pos 0) h) (drop-cons y i (pos 0) g)
-      ∙ ap (λ (b : Bool). b && same_list (drop (suc i) x) (drop (suc i) y)) (same-yes (get_or x i (pos 0)) (get_or y i (pos 0)) e)
+int_same : (a b : ℤ) → int_eq a b ≡ sameℤ a b
+int_same a b = at (int_eq a b) refl
+  where
+    at : (r : Bool) → int_eq a b ≡ r → r ≡ sameℤ a b
+    at true e = sym (same-yes a b ((Decides-int_eq a b).0 e))
+    at false e = sym (same-no a b (λ p. absurd (false≢true (sym e ∙ (Decides-int_eq a b).1 p))))
 
-  pub list-stop : (get_or x i (pos 0) ≡ get_or y i (pos 0) → ⊥) → same_list (drop i x) (drop i y) ≡ false
-  list-stop n =
-      ap₂ same_list (drop-cons x i (pos 0) h) (drop-cons y i (pos 0) g)
-      ∙ ap (λ (b : Bool). b && same_list (drop (suc i) x) (drop (suc i) y)) (same-no (get_or x i (pos 0)) (get_or y i (pos 0)) n)
-
-pub list-end : (x y : List ℤ) → length x ≡ 8 → length y ≡ 8 → same_list (drop 8 x) (drop 8 y) ≡ true
-list-end x y p q = let h : length x ≤ 8 = omega arith in let g : length y ≤ 8 = omega arith in ap₂ same_list (drop_of_length-le x h) (drop_of_length-le y g)
+-- the array's own test
+pub pointwise_same : (x y : List ℤ) → pointwise int_eq x y ≡ same_list x y
+pointwise_same [] [] = refl
+pointwise_same [] (b ∷ y) = refl
+pointwise_same (a ∷ x) [] = refl
+pointwise_same (a ∷ x) (b ∷ y) = ap₂ ◌&&◌ (int_same a b) (pointwise_same x y)
 
 -- ---- the first equal division that is not taken
 
-module _ (e : Division) (taken : List ℕ) (ds : List Division) (i : ℕ) (d : Division) (h : i < length ds) where
-  pub seek-yes : same_division e (get_or ds i d) && not (any (eqb i) taken) ≡ true → seek e taken i (drop i ds) ≡ some i
-  seek-yes y = ap (seek e taken i) (drop-cons ds i d h) ∙ ap (λ (b : Bool). cond b (some i) (seek e taken (suc i) (drop (suc i) ds))) y
+module _ (e f : Division) (taken : List ℕ) (ds : List Division) (i : ℕ) (here : drop i ds ≡ f ∷ drop (i + 1) ds) where
+  seek-step : seek e taken i (drop i ds) ≡ cond (same_division e f && not (any (eqb i) taken)) (some i) (seek e taken (i + 1) (drop (i + 1) ds))
+  seek-step = ap (seek e taken i) here ∙ rw (add-one) refl
 
-  pub seek-no : same_division e (get_or ds i d) && not (any (eqb i) taken) ≡ false → seek e taken i (drop i ds) ≡ seek e taken (i + 1) (drop (i + 1) ds)
-  seek-no y = rw (add-one) (ap (seek e taken i) (drop-cons ds i d h) ∙ ap (λ (b : Bool). cond b (some i) (seek e taken (suc i) (drop (suc i) ds))) y)
+  pub seek-hit : same_division e f ≡ true → any (eqb i) taken ≡ false → seek e taken i (drop i ds) ≡ some i
+  seek-hit s t = seek-step ∙ ap₂ (λ (x y : Bool). cond (x && not y) (some i) (seek e taken (i + 1) (drop (i + 1) ds))) s t
+
+  pub seek-other : same_division e f ≡ false → seek e taken i (drop i ds) ≡ seek e taken (i + 1) (drop (i + 1) ds)
+  seek-other s = seek-step ∙ ap (λ (x : Bool). cond (x && not (any (eqb i) taken)) (some i) (seek e taken (i + 1) (drop (i + 1) ds))) s
+
+  pub seek-taken : any (eqb i) taken ≡ true → seek e taken i (drop i ds) ≡ seek e taken (i + 1) (drop (i + 1) ds)
+  seek-taken t =
+      seek-step ∙ ap (λ (y : Bool). cond (same_division e f && not y) (some i) (seek e taken (i + 1) (drop (i + 1) ds))) t
+      ∙ ap (λ (x : Bool). cond x (some i) (seek e taken (i + 1) (drop (i + 1) ds))) (and-false (same_division e f))
 
 pub seek-end : (e : Division) (taken : List ℕ) (ds : List Division) (n : ℕ) → length ds ≡ n → seek e taken n (drop n ds) ≡ none
 seek-end e taken ds n p = ap (λ (l : List Division). seek e taken n l) (ap (λ (k : ℕ). drop k ds) (sym p) ∙ drop-length ds)
-
-pub place-some : (n r : ℕ) → r < n → place_of n r ≡ some r
-place-some n r h = ap (λ (b : Bool). cond b (some r) none) (lt-ltb r n h)
-
-pub place_none : (n r : ℕ) → n ≤ r → place_of n r ≡ none
-place_none n r h = ap (λ (b : Bool). cond b (some r) none) (le-ltb r n h)
 
 -- ---- divisions joined one at a time
 
@@ -191,7 +212,7 @@ pub join-longer : (ds : List Division) (taken : List ℕ) (js es : List Division
 join-longer ds taken js [] = le_refl (length js)
 join-longer ds taken js (e ∷ es) = go (seek e taken 0 ds) refl (λ i. join-longer ds (i ∷ taken) js es) (join-longer ds taken (js ++ (e ∷ [])) es)
   where
-    go : (o : Option ℕ) → seek e taken 0 ds ≡ o → ((i : ℕ) → length js ≤ length (join_from ds (i ∷ taken) js es).all)
+    go : (o : PlainOption ℕ) → seek e taken 0 ds ≡ o → ((i : ℕ) → length js ≤ length (join_from ds (i ∷ taken) js es).all)
         → length (js ++ (e ∷ [])) ≤ length (join_from ds taken (js ++ (e ∷ [])) es).all → length js ≤ length (join_from ds taken js (e ∷ es)).all
     go (some i) q f g = rw (q, join_from) (f i)
     go none q f g = rw (q, join_from) (let l = length-append js (e ∷ []) in omega arith)
@@ -206,53 +227,109 @@ pub record Halfway (D E : List Division) (n k : ℕ) (js : List Division) (flags
 pub halfway-start : (D E : List Division) (n : ℕ) (flags : List Bool) → ((i : ℕ) → get_or flags i false ≡ false) → Halfway D E n 0 D flags []
 halfway-start D E n flags f = record { taken = []; shown = λ i h. f i; all = refl; places = refl }
 
-module _ (D E : List Division) (n k : ℕ) (js : List Division) (flags : List Bool) (is : List ℕ) (h : Halfway D E n k js flags is) (d : Division) (l : k < length E) (r : ℕ)
-    (s : (taken : List ℕ) → ((i : ℕ) → i < n → get_or flags i false ≡ any (eqb i) taken) → seek (get_or E k d) taken 0 D ≡ place_of n r) where
-  found : seek (get_or E k d) h.taken 0 D ≡ place_of n r
-  found = s h.taken h.shown
+-- the first k and e are joined: e is a division of D
+pub halfway-found : {D E : List Division} {n k r : ℕ} {js : List Division} {flags : List Bool} {is : List ℕ} {e : Division} → Halfway D E n k js flags is → drop k E ≡ e ∷ drop (k + 1) E
+    → Seeking e D n flags (Some r) → length flags ≡ 8 → n ≤ 8 → Halfway D E n (k + 1) js (set flags r true) (is ++ (r ∷ []))
+halfway-found {D} {E} {n} {k} {r} {js} {flags} {is} {e} h here s w m =
+    let z : seek e h.taken 0 D ≡ some r = s.found h.taken h.shown in
+    let j : join_from D h.taken js (drop k E) ≡ placed r (join_from D (r ∷ h.taken) js (drop (k + 1) E)) = ap (join_from D h.taken js) here ∙ rw (z, join_from) refl in
+    record {
+      taken = r ∷ h.taken;
+      shown = λ i q. at i q;
+      all = h.all ∙ ap (λ (j : Joined). j.all) j;
+      places = h.places ∙ ap (λ (j : Joined). is ++ j.places) j ∙ sym (append_assoc is (r ∷ []) (join_from D (r ∷ h.taken) js (drop (k + 1) E)).places);
+    }
+  where
+    at : (i : ℕ) → i < n → get_or (set flags r true) i false ≡ eqb i r || any (eqb i) h.taken
+    at i q = go (eqb i r) refl
+      where
+        go : (b : Bool) → eqb i r ≡ b → get_or (set flags r true) i false ≡ b || any (eqb i) h.taken
+        go true e = let same : i ≡ r = borrow.Author.Tests.eqb-true i r e in ap (λ (m : ℕ). get_or (set flags r true) m false) same ∙ get_or-set_same flags r true false (let g = s.within in omega arith)
+        go false e = get_or-set_other flags r i true false (borrow.Author.Tests.eqb-false i r e) ∙ h.shown i q
 
-  here : drop k E ≡ get_or E k d ∷ drop (k + 1) E
-  here = rw (add-one) (drop-cons E k d l)
+-- or comes behind
+pub halfway-new : {D E : List Division} {n k : ℕ} {js : List Division} {flags : List Bool} {is : List ℕ} {e : Division} → Halfway D E n k js flags is → drop k E ≡ e ∷ drop (k + 1) E
+    → Seeking e D n flags None → Halfway D E n (k + 1) (js ++ (e ∷ [])) flags (is ++ (length js ∷ []))
+halfway-new {D} {E} {n} {k} {js} {flags} {is} {e} h here s =
+    let z : seek e h.taken 0 D ≡ none = s.found h.taken h.shown in
+    let j : join_from D h.taken js (drop k E) ≡ placed (length js) (join_from D h.taken (js ++ (e ∷ [])) (drop (k + 1) E)) = ap (join_from D h.taken js) here ∙ rw (z, join_from) refl in
+    record {
+      taken = h.taken;
+      shown = h.shown;
+      all = h.all ∙ ap (λ (j : Joined). j.all) j;
+      places = h.places ∙ ap (λ (j : Joined). is ++ j.places) j ∙ sym (append_assoc is (length js ∷ []) (join_from D h.taken (js ++ (e ∷ [])) (drop (k + 1) E)).places);
+    }
 
-  pub halfway-found : r < n → length flags ≡ 8 → n ≤ 8 → Halfway D E n (k + 1) js (set flags r true) (is ++ (r ∷ []))
-  halfway-found g w m =
-      let z : seek (get_or E k d) h.taken 0 D ≡ some r = found ∙ place-some n r g in
-      let j : join_from D h.taken js (drop k E) ≡ placed r (join_from D (r ∷ h.taken) js (drop (k + 1) E)) = ap (join_from D h.taken js) here ∙ rw (z, join_from) refl in
-      record {
-        taken = r ∷ h.taken;
-        shown = λ i q. at i q;
-        all = h.all ∙ ap (λ (j : Joined). j.all) j;
-        places = h.places ∙ ap (λ (j : Joined). is ++ j.places) j ∙ sym (append_assoc is (r ∷ []) (join_from D (r ∷ h.taken) js (drop (k + 1) E)).places);
-      }
-    where
-      at : (i : ℕ) → i < n → get_or (set flags r true) i false ≡ eqb i r || any (eqb i) h.taken
-      at i q = go (eqb i r) refl
-        where
-          go : (b : Bool) → eqb i r ≡ b → get_or (set flags r true) i false ≡ b || any (eqb i) h.taken
-          go true e = let same : i ≡ r = borrow.Author.Tests.eqb-true i r e in ap (λ (m : ℕ). get_or (set flags r true) m false) same ∙ get_or-set_same flags r true false (omega arith)
-          go false e = get_or-set_other flags r i true false (borrow.Author.Tests.eqb-false i r e) ∙ h.shown i q
+-- a ninth division
+pub halfway-full : {D E : List Division} {n k : ℕ} {js : List Division} {flags : List Bool} {is : List ℕ} {e : Division} → Halfway D E n k js flags is → drop k E ≡ e ∷ drop (k + 1) E
+    → Seeking e D n flags None → length js ≡ 8 → leb (length (join D E).all) 8 ≡ false
+halfway-full {D} {E} {n} {k} {js} {flags} {is} {e} h here s w =
+    let q = halfway-new h here s in
+    let a = join-longer D q.taken (js ++ (e ∷ [])) (drop (k + 1) E) in
+    let b = length-append js (e ∷ []) in
+    let c : length (join D E).all ≡ length (join_from D q.taken (js ++ (e ∷ [])) (drop (k + 1) E)).all = ap length q.all in
+    lt-leb (length (join D E).all) 8 (omega arith)
 
-  pub halfway-new : n ≤ r → Halfway D E n (k + 1) (js ++ (get_or E k d ∷ [])) flags (is ++ (length js ∷ []))
-  halfway-new g =
-      let z : seek (get_or E k d) h.taken 0 D ≡ none = found ∙ place_none n r g in
-      let j : join_from D h.taken js (drop k E) ≡ placed (length js) (join_from D h.taken (js ++ (get_or E k d ∷ [])) (drop (k + 1) E)) = ap (join_from D h.taken js) here ∙ rw (z, join_from) refl in
-      record {
-        taken = h.taken;
-        shown = h.shown;
-        all = h.all ∙ ap (λ (j : Joined). j.all) j;
-        places = h.places ∙ ap (λ (j : Joined). is ++ j.places) j ∙ sym (append_assoc is (length js ∷ []) (join_from D h.taken (js ++ (get_or E k d ∷ [])) (drop (k + 1) E)).places);
-      }
+-- the division at place k, of the first n
+pub division_here : (ds : List Stored) (n k : ℕ) → n ≤ length ds → k < n → drop k (map division_of (take n ds)) ≡ division_of (get_or ds k no_division) ∷ drop (k + 1) (map division_of (take n ds))
+division_here ds n k l h =
+    let D = map division_of (take n ds) in
+    let w : length (take n ds) ≡ n = length-take-le n ds l in
+    let g : k < length D = omega (arith, length-map (take n ds) division_of) in
+    let e : get_or D k (division_of no_division) ≡ division_of (get_or ds k no_division) = get_or-map division_of (take n ds) k no_division ∙ ap division_of (get_or-take n ds k no_division h) in
+    rw (add-one, sym e) (drop-cons D k (division_of no_division) g)
 
-  -- a ninth division
-  pub halfway-full : n ≤ r → length js ≡ 8 → leb (length (join D E).all) 8 ≡ false
-  halfway-full g w =
-      let q = halfway-new g in
-      let a = join-longer D q.taken (js ++ (get_or E k d ∷ [])) (drop (k + 1) E) in
-      let b = length-append js (get_or E k d ∷ []) in
-      let c : length (join D E).all ≡ length (join_from D q.taken (js ++ (get_or E k d ∷ [])) (drop (k + 1) E)).all = ap length q.all in
-      lt-leb (length (join D E).all) 8 (omega arith)
+-- the same, as the code holds it
+pub record Joins (ds : List Stored) (n : ℕ) (es : List Stored) (m k : ℕ) (divisions : List Stored) (divs : ℕ) (taken : List Bool) (places : List ℕ) : Type 0 where
+  pub least : n ≤ divs
+  pub few : divs ≤ 8
+  pub wide : length divisions ≡ 8
+  pub flags : length taken ≡ 8
+  pub room : length places ≡ 8
+  pub half : Halfway (map division_of (take n ds)) (map division_of (take m es)) n k (map division_of (take divs divisions)) taken (take k places)
 
 pub halfway-end : (D E : List Division) (n k : ℕ) (js : List Division) (flags : List Bool) (is : List ℕ) → Halfway D E n k js flags is → length E ≤ k → ((join D E).all ≡ js) × ((join D E).places ≡ is)
 halfway-end D E n k js flags is h l =
     let e : drop k E ≡ [] = drop_of_length-le E l in
     (h.all ∙ ap (λ (m : List Division). (join_from D h.taken js m).all) e, h.places ∙ ap (λ (m : List Division). is ++ (join_from D h.taken js m).places) e ∙ append-nil is)
+
+module _ {ds es divisions : List Stored} {n m k divs : ℕ} {taken : List Bool} {places : List ℕ} (p : Joins ds n es m k divisions divs taken places) where
+  joined-long : length (map division_of (take divs divisions)) ≡ divs
+  joined-long = length-map (take divs divisions) division_of ∙ length-take-le divs divisions (let w = p.wide in let f = p.few in omega arith)
+
+  module _ (l : m ≤ length es) (h : k < m) where
+    here : drop k (map division_of (take m es)) ≡ division_of (get_or es k no_division) ∷ drop (k + 1) (map division_of (take m es))
+    here = division_here es m k l h
+
+    abbrev Sought : Option ℕ → Type 0
+    Sought r = Seeking (division_of (get_or es k no_division)) (map division_of (take n ds)) n taken r
+
+    pub joins_found : {r : ℕ} → Sought (Some r) → m ≤ 8 → Joins ds n es m (k + 1) divisions divs (set taken r true) (set places k r)
+    joins_found {r} s b =
+        record {
+          least = p.least;
+          few = p.few;
+          wide = p.wide;
+          flags = length-set taken r true ∙ p.flags;
+          room = length-set places k r ∙ p.room;
+          half =
+              let q : take (k + 1) (set places k r) ≡ take k places ++ (r ∷ []) = rw (add-one) (take-suc-set places k r (let w = p.room in omega arith)) in
+              rw q (halfway-found p.half here s p.flags (let w = p.least in let f = p.few in omega arith));
+        }
+
+    pub joins_new : Sought None → (divs ≡ 8 → ⊥) → m ≤ 8 → Joins ds n es m (k + 1) (set divisions divs (get_or es k no_division)) (divs + 1) taken (set places k divs)
+    joins_new s v b =
+        record {
+          least = let w = p.least in omega arith;
+          few = let w = p.few in omega arith;
+          wide = length-set divisions divs (get_or es k no_division) ∙ p.wide;
+          flags = p.flags;
+          room = length-set places k divs ∙ p.room;
+          half =
+              let q : take (k + 1) (set places k divs) ≡ take k places ++ (length (map division_of (take divs divisions)) ∷ []) = rw (add-one, joined-long) (take-suc-set places k divs (let w = p.room in omega arith)) in
+              let t = map-pushed division_of no_division divisions divs (get_or es k no_division) (let w = p.wide in let f = p.few in omega arith) in
+              rw (q, t) (halfway-new p.half here s);
+        }
+
+    pub joins_full : Sought None → divs ≡ 8 → Joining (map division_of (take n ds)) (map division_of (take m es)) m None
+    joins_full s v = record { fits = sym (halfway-full p.half here s (joined-long ∙ v)); few = tt; all = tt; places = tt }

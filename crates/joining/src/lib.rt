@@ -7,6 +7,6 @@ mod tightening;
 
 pub use divisions::{Joined, join, moved};
 pub use tightening::{
-    Tightened, any_divisible, joining_rule, opposite_above, opposite_below, tight_above,
-    tight_below, tight_set, void,
+    any_divisible, joining_rule, opposite_above, opposite_below, tight_above, tight_below,
+    tight_set, void,
 };

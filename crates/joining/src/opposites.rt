@@ -8,27 +8,15 @@ ghost use Rattle.joining.specs.Joining.{Below, Above};
 
 use model::{Constraint, limit};
 
-fn minus(x: i16) -> i16
-    requires { T (coefficient x) }
-    ensures { result ≡ neg_ℤ x }
-{
-    0 - x
-}
-
 fn negated(xs: [i16; limit::PLACES]) -> [i16; limit::PLACES]
     requires { T (all coefficient xs) }
     ensures { result ≡ map neg_ℤ xs }
 {
-    [
-        minus(xs[0]),
-        minus(xs[1]),
-        minus(xs[2]),
-        minus(xs[3]),
-        minus(xs[4]),
-        minus(xs[5]),
-        minus(xs[6]),
-        minus(xs[7]),
-    ]
+    let mut negated = xs;
+    for x in &mut negated {
+        *x = -*x;
+    }
+    negated
 }
 
 // −e − 1 ≥ 0, under the rule's number. The constant is −1 − c, which fits for every c of 32 bits.
@@ -36,18 +24,12 @@ pub fn below(c: Constraint) -> Constraint
     requires { Below (constraint_of c) }
     ensures { constraint_of result ≡ C.below (constraint_of c) }
 {
-    let m = c.number;
-    let k = c.constant;
-    let a = c.axes;
-    let d = c.divisions;
-    let axes = negated(a);
-    let divisions = negated(d);
     Constraint {
         equality: false,
-        number: m,
-        constant: -1 - k,
-        axes,
-        divisions,
+        number: c.number,
+        constant: -1 - c.constant,
+        axes: negated(c.axes),
+        divisions: negated(c.divisions),
     }
 }
 
@@ -56,15 +38,9 @@ pub fn above(c: Constraint) -> Constraint
     requires { Above (constraint_of c) }
     ensures { constraint_of result ≡ C.above (constraint_of c) }
 {
-    let number = c.number;
-    let k = c.constant;
-    let axes = c.axes;
-    let divisions = c.divisions;
     Constraint {
         equality: false,
-        number,
-        constant: k - 1,
-        axes,
-        divisions,
+        constant: c.constant - 1,
+        ..c
     }
 }

@@ -6,6 +6,7 @@ use Prim.Native.Nat.{ℕ, zero, suc, ◌+◌, ◌-◌, ◌*◌, ◌/◌, ◌%◌
 use native.Mathlib.Numerals.{add-one}
 use native.Mathlib.Nat.{add-zero, add_assoc, pow-suc}
 use native.Mathlib.Omega.{arith}
+use borrow.Rule.Slice.PartMut.{put_mid}
 use lib.Dec.{ltb}
 use borrow.Author.Tests.{lt-ltb, le-ltb}
 use lib.IntN.{ℤ, pos, negsuc, nat_abs}
@@ -73,13 +74,15 @@ pub writes-same : {k j : ℕ} {l m o o' : List ℕ} {at e : ℕ} → k ≤ j →
 writes-same {k} {j} {l} {m} {o} {o'} {at} {e} h q w =
     record { short = let s = w.short in omega arith; wrote = subst (λ (x : List ℕ). Wrote x o at e o') q w.wrote }
 
--- a copy: the first i bytes of w are written
-pub wrote-copied : (w o o' : List ℕ) (at i : ℕ) → i < length w → at + length w ≤ length o → Wrote (take i w) o at (at + i) o' → Wrote (take (i + 1) w) o at (at + (i + 1)) (set o' (at + i) (get_or w i 0))
-wrote-copied w o o' at i h k p =
-    let e = wrote-length p in
-    let n : at + (i + 1) ≡ at + i + 1 = omega arith in
-    let t : take (i + 1) w ≡ take i w ++ (get_or w i 0 ∷ []) = rw add-one (take-suc w i 0 h) in
-    rw (n, t) (wrote-more p (wrote_one o' (at + i) (get_or w i 0) (omega arith)))
+-- a copy into the part from `at` up to e, which holds m then
+pub writes_part : (at e : ℕ) (l o m : List ℕ) → m ≡ l → e ≡ at + length l → e ≤ length o → Writes (length l) l o at e (put_mid at (e - at) o m)
+unfolding put
+writes_part at e l o m p q h =
+    let k : e - at ≡ length l = omega arith in
+    record {
+      short = omega arith;
+      wrote = record { end_is = q; room = h; bytes = rw (p, k) (ap (λ (t : List ℕ). take at o ++ (l ++ t)) (drop-drop (length l) at o)) };
+    }
 
 -- ---- digits
 

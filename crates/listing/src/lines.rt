@@ -51,10 +51,7 @@ fn kind_word(out: &mut [u8], b: u8) -> usize
     requires { 512 ≤ length out.old }
     ensures { Writes 2 (T.codes (T.word (kind_of b))) out.old 0 result out.new }
 {
-    if codec::is_equality(b) {
-        return word(out, 0, b"eq");
-    }
-    word(out, 0, b"ge")
+    word(out, 0, if codec::is_equality(b) { b"eq" } else { b"ge" })
 }
 
 // A constraint whose command is b and whose body is t, in a basic set of k divisions.

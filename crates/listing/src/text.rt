@@ -13,12 +13,9 @@ pub fn word(out: &mut [u8], at: usize, w: &[u8]) -> usize
     requires { at + length w.now ≤ length out.old }
     ensures { Writes (length w.now) w.now out.old at result out.new }
 {
-    let mut i = 0;
-    while i < w.len() {
-        out[at + i] = w[i];
-        i += 1;
-    }
-    at + w.len()
+    let end = at + w.len();
+    out[at..end].copy_from_slice(w);
+    end
 }
 
 fn digits(out: &mut [u8], at: usize, n: u64) -> usize
@@ -26,12 +23,12 @@ fn digits(out: &mut [u8], at: usize, n: u64) -> usize
     ensures { Writes 20 (T.digits 20 n []) out.old at result out.new }
 {
     if n < 10 {
-        out[at] = (48 + n) as u8;
+        out[at] = b'0' + n as u8;
         return at + 1;
     }
-    let k = digits(out, at, n / 10);
-    out[k] = (48 + n % 10) as u8;
-    k + 1
+    let last = digits(out, at, n / 10);
+    out[last] = b'0' + (n % 10) as u8;
+    last + 1
 }
 
 // A space and a number that is not below 0.
@@ -39,8 +36,8 @@ pub fn natural(out: &mut [u8], at: usize, n: u64) -> usize
     requires { at + 21 ≤ length out.old }
     ensures { Writes 21 (T.number (pos n)) out.old at result out.new }
 {
-    let k = word(out, at, b" ");
-    digits(out, k, n)
+    let at = word(out, at, b" ");
+    digits(out, at, n)
 }
 
 // A space and the number whose bits are v, in two's complement of `size` numbers.
@@ -51,8 +48,8 @@ pub fn number(out: &mut [u8], at: usize, v: u64, size: u64) -> usize
     if 2 * v < size {
         return natural(out, at, v);
     }
-    let k = word(out, at, b" -");
-    digits(out, k, size - v)
+    let at = word(out, at, b" -");
+    digits(out, at, size - v)
 }
 
 // As many signed numbers of 16 bits as `count` says, from place p of t on.
@@ -60,13 +57,11 @@ pub fn coefficients(out: &mut [u8], at: usize, t: &[u8], p: usize, count: usize)
     requires { (p + 2 * count ≤ length t.now) × (at + 22 * count ≤ length out.old) }
     ensures { Writes (22 * count) (concat_map T.number (signed_list count (drop p t.now))) out.old at result out.new }
 {
-    let mut k = at;
-    let mut i = 0;
-    while i < count {
-        k = number(out, k, integers::u16_at(t, p + 2 * i), 65536);
-        i += 1;
+    let mut end = at;
+    for i in 0..count {
+        end = number(out, end, integers::u16_at(t, p + 2 * i), 65536);
     }
-    k
+    end
 }
 
 // A space and a signed number.
@@ -74,12 +69,11 @@ fn integer(out: &mut [u8], at: usize, z: i64) -> usize
     requires { at + 22 ≤ length out.old }
     ensures { Writes 22 (T.number z) out.old at result out.new }
 {
-    let m = integers::magnitude(z);
     if z < 0 {
-        let k = word(out, at, b" -");
-        return digits(out, k, m);
+        let at = word(out, at, b" -");
+        return digits(out, at, z.unsigned_abs());
     }
-    natural(out, at, m)
+    natural(out, at, z.unsigned_abs())
 }
 
 // The first n coordinates of a point.
@@ -87,11 +81,9 @@ pub fn coordinates(out: &mut [u8], at: usize, p: [i64; limit::AXES], n: usize) -
     requires { (n ≤ most_axes) × (at + 22 * n ≤ length out.old) }
     ensures { Writes (22 * n) (concat_map T.number (take n p)) out.old at result out.new }
 {
-    let mut k = at;
-    let mut i = 0;
-    while i < n {
-        k = integer(out, k, p[i]);
-        i += 1;
+    let mut end = at;
+    for z in &p[..n] {
+        end = integer(out, end, *z);
     }
-    k
+    end
 }

@@ -1,22 +1,22 @@
--- A loop that asks whether all elements of a list from place i on pass. Assumes nothing.
-use mathlib.Core.Path.{◌≡◌, sym, ap, ◌∙◌}
-use mathlib.Core.Bool.{Bool, true, false, ◌&&◌}
-use mathlib.Core.List.{List, ◌∷◌}
-use Prim.Native.Nat.{ℕ, ◌+◌, ◌≤◌, ◌<◌}
+-- A test of every element, as `all` of std answers it and as the definitions say it; of a range's places. Assumes nothing.
+use mathlib.Core.Path.{◌≡◌, refl, sym, ap, ◌∙◌}
+use mathlib.Core.Bool.{Bool, ◌&&◌}
+use mathlib.Core.List.{List, [], ◌∷◌}
+use Prim.Native.Nat.{ℕ, zero, suc, ◌+◌, ◌-◌}
 use native.Mathlib.Numerals.{add-one}
+use native.Mathlib.Omega.{arith}
 use lib.ListN.{length, drop, get_or, drop_of_length-le}
 use lib.Seq.{drop-cons}
+use Rattle.std.specs.List.{list_all, range_with_len}
 use Rattle.model.specs.Lists.{all}
 
-module _ {A : Type 0} (d : A) (f : A → Bool) (a : List A) (i : ℕ) (b : Bool) (g : all f (drop i a) ≡ b) where
-  split : i < length a → all f (drop i a) ≡ (f (get_or a i d) && all f (drop (i + 1) a))
-  split h = ap (all f) (drop-cons a i d h ∙ ap (λ j. get_or a i d ∷ drop j a) (sym (add-one i)))
+pub all-of_list : {A : Type 0} (f : A → Bool) (l : List A) → list_all f l ≡ all f l
+all-of_list f [] = refl
+all-of_list f (a ∷ l) = ap (λ b. f a && b) (all-of_list f l)
 
-  pub scan-next : i < length a → f (get_or a i d) ≡ true → all f (drop (i + 1) a) ≡ b
-  scan-next h e = ap (λ x. x && all f (drop (i + 1) a)) (sym e) ∙ sym (split h) ∙ g
-
-  pub scan-stop : i < length a → f (get_or a i d) ≡ false → false ≡ b
-  scan-stop h e = ap (λ x. x && all f (drop (i + 1) a)) (sym e) ∙ sym (split h) ∙ g
-
-  pub scan-end : length a ≤ i → true ≡ b
-  scan-end h = ap (all f) (sym (drop_of_length-le a h)) ∙ g
+-- the elements from place i on, by their places
+pub all-places : {A : Type 0} (f : A → Bool) (d : A) (l : List A) (m i : ℕ) → m ≡ length l - i → list_all (λ j. f (get_or l j d)) (range_with_len i m) ≡ all f (drop i l)
+all-places f d l zero i e = sym (ap (all f) (drop_of_length-le l (omega arith)))
+all-places f d l (suc m) i e =
+    ap (λ b. f (get_or l i d) && b) (all-places f d l m (i + 1) (omega arith))
+    ∙ sym (ap (all f) (drop-cons l i d (omega arith) ∙ ap (λ j. get_or l i d ∷ drop j l) (sym (add-one i))))

@@ -5,12 +5,14 @@ use mathlib.Core.List.{List, [], ◌∷◌}
 use Prim.Native.Nat.{ℕ, zero, suc, ◌+◌, ◌-◌, ◌*◌, ◌≤◌, ◌<◌}
 use mathlib.Core.Logic.{⊎_elim}
 use native.Mathlib.Omega.{arith}
-use borrow.Author.Tests.{eqb-true, leb-true, ltb-true}
-use lib.Dec.{T, leb, ltb, eqb}
+use borrow.Author.Tests.{eqb-true, leb-true, ltb-true, eq-eqb, ne_eqb}
+use lib.Dec.{T, leb, ltb, eqb, lit<}
 use lib.IntN.{ℤ, pos}
 use lib.ListN.{length, drop, get_or, length-drop, drop_of_length-le, get_or-eq_default}
 use lib.Seq.{drop-cons, get_or-drop}
 use lib.Signed.{lt_z, ◌<ℤ◌}
+use Rattle.std.specs.List.{list_all, range_with_len}
+use Rattle.wide.proofs.Sizes.{cell-low-word, cell-high-word, cell-minus-zero}
 use Rattle.integers.specs.Part.{lt-or-le}
 use Rattle.model.specs.Lists.{all}
 use Rattle.model.specs.Sets.{is_zero}
@@ -37,27 +39,28 @@ plain-words (suc n) (h ∷ (l ∷ r)) e p =
     ap₂ ◌∷◌ (eqb-true (high_of (cell h l)) h (from-T _ (and_left (eqb (high_of (cell h l)) h) (eqb (low_of (cell h l)) l) a)))
     (ap₂ ◌∷◌ (eqb-true (low_of (cell h l)) l (from-T _ (and_right (eqb (high_of (cell h l)) h) (eqb (low_of (cell h l)) l) a))) (plain-words n r (omega arith) (from-T _ b)))
 
--- a loop over the pairs, from place i on
-module _ (r : List ℕ) (i : ℕ) (b : Bool) (g : plain_words (drop i r) ≡ b) where
-  split : i + 1 < length r → plain_words (drop i r) ≡ (plain_cell (get_or r i 0) (get_or r (i + 1) 0) && plain_words (drop (i + 2) r))
-  unfolding plain_words
-  split h =
-      let a : suc i ≡ i + 1 = omega arith in
-      let e : suc (i + 1) ≡ i + 2 = omega arith in
-      ap plain_words (drop-cons r i 0 (omega arith) ∙ ap (λ j. get_or r i 0 ∷ drop j r) a ∙ ap (λ l. get_or r i 0 ∷ l) (drop-cons r (i + 1) 0 h ∙ ap (λ j. get_or r (i + 1) 0 ∷ drop j r) e))
+-- the pairs from the i-th on, one by one
+pub plain-pairs : (r : List ℕ) (m i : ℕ) → length r ≡ 2 * (i + m) → list_all (λ j. plain_cell (get_or r (2 * j) 0) (get_or r (2 * j + 1) 0)) (range_with_len i m) ≡ plain_words (drop (2 * i) r)
+unfolding plain_words
+plain-pairs r zero i e = sym (ap plain_words (drop_of_length-le r (omega arith)))
+plain-pairs r (suc m) i e =
+    let a : suc (2 * i) ≡ 2 * i + 1 = omega arith in
+    let b : suc (2 * i + 1) ≡ 2 * (i + 1) = omega arith in
+    let c = drop-cons r (2 * i) 0 (omega arith) ∙ ap (λ j. get_or r (2 * i) 0 ∷ drop j r) a ∙ ap (λ l. get_or r (2 * i) 0 ∷ l) (drop-cons r (2 * i + 1) 0 (omega arith) ∙ ap (λ j. get_or r (2 * i + 1) 0 ∷ drop j r) b) in
+    ap (λ x. plain_cell (get_or r (2 * i) 0) (get_or r (2 * i + 1) 0) && x) (plain-pairs r m (i + 1) (omega arith)) ∙ sym (ap plain_words c)
 
-  pub plain-next : i + 1 < length r → plain_cell (get_or r i 0) (get_or r (i + 1) 0) ≡ true → plain_words (drop (i + 2) r) ≡ b
-  plain-next h e = ap (λ x. x && plain_words (drop (i + 2) r)) (sym e) ∙ sym (split h) ∙ g
+-- the two words of a cell that is no 0 with a sign
+pub plain_is : (h l : ℕ) → h < 18446744073709551616 → l < 18446744073709551616 → (h ≡ 9223372036854775808 → l ≡ 0 → ⊥) → plain_cell h l ≡ true
+unfolding plain_cell
+plain_is h l fh fl n =
+    rw (eq-eqb (high_of (cell h l)) h (cell-high-word 9223372036854775808 18446744073709551616 (lit< tt) h l fl fh n), eq-eqb (low_of (cell h l)) l (cell-low-word 9223372036854775808 18446744073709551616 (lit< tt) h l fl))
 
-  pub plain-stop : i + 1 < length r → plain_cell (get_or r i 0) (get_or r (i + 1) 0) ≡ false → false ≡ b
-  plain-stop h e = ap (λ x. x && plain_words (drop (i + 2) r)) (sym e) ∙ sym (split h) ∙ g
+pub minus_zero_is : plain_cell 9223372036854775808 0 ≡ false
+unfolding plain_cell
+minus_zero_is = rw (ne_eqb (high_of (cell 9223372036854775808 0)) 9223372036854775808 (cell-minus-zero 9223372036854775808 18446744073709551616 (lit< tt) (lit< tt)))
 
-  pub plain_end : length r ≤ i → true ≡ b
-  unfolding plain_words
-  plain_end h = ap plain_words (sym (drop_of_length-le r h)) ∙ g
-
-pub plain-sheet : (r : List ℕ) → length r ≡ 36 → plain_words r ≡ true → Sheet r
-plain-sheet r e p = record { long = e; plain = plain-words 18 r e p }
+pub plain_sheet : (r : List ℕ) → length r ≡ 36 → plain_words r ≡ true → Sheet r
+plain_sheet r e p = record { long = e; plain = plain-words 18 r e p }
 
 pub record Whole (n : ℕ) (r : List ℕ) : Type 0 where
   pub sheet : Sheet r
@@ -73,7 +76,7 @@ row-whole n r f t =
     let d = lt_z (pos 0) (den (cells r)) in
     let u = and_right a (b && (c && d)) t in
     let v = and_right b (c && d) u in
-    let s = plain-sheet r (eqb-true _ _ (from-T a (and_left a (b && (c && d)) t))) (from-T b (and_left b (c && d) u)) in
+    let s = plain_sheet r (eqb-true _ _ (from-T a (and_left a (b && (c && d)) t))) (from-T b (and_left b (c && d) u)) in
     record {
       sheet = s;
       line = record { fit = f; long = sheet-long r s; blank = blank s (and_left c d v) };

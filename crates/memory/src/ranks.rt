@@ -2,48 +2,25 @@
 ghost use Rattle.std.specs.Prelude.{◌≡◌, map, ◌≤◌, ◌<◌, length};
 ghost use Rattle.memory.specs.Memory.{with_ranks, fallen, forgotten, marks as marks_of, newest as newest_of};
 
-fn fall(old: usize, x: usize) -> usize
-    ensures { result ≡ fallen old x }
-{
-    if old == 0 {
-        return x;
-    }
-    if old < x {
-        return x - 1;
-    }
-    x
-}
-
 // Where the name of rank `old` is marked anew, those after it fall by one.
 fn lower(ranks: &mut [usize], old: usize)
     ensures { ranks.new ≡ map (fallen old) ranks.old }
 {
-    let mut i: usize = 0;
-    while i < ranks.len() {
-        let x = ranks[i];
-        ranks[i] = fall(old, x);
-        i += 1;
+    for rank in ranks.iter_mut() {
+        if old != 0 && old < *rank {
+            *rank -= 1;
+        }
     }
-}
-
-fn forget_one(rank: usize, x: usize) -> usize
-    ensures { result ≡ forgotten rank x }
-{
-    if rank < x {
-        return 0;
-    }
-    x
 }
 
 // The marks made after that rank are forgotten; after 0 all.
-fn forget(ranks: &mut [usize], rank: usize)
-    ensures { ranks.new ≡ map (forgotten rank) ranks.old }
+fn forget(ranks: &mut [usize], last: usize)
+    ensures { ranks.new ≡ map (forgotten last) ranks.old }
 {
-    let mut i: usize = 0;
-    while i < ranks.len() {
-        let x = ranks[i];
-        ranks[i] = forget_one(rank, x);
-        i += 1;
+    for rank in ranks.iter_mut() {
+        if last < *rank {
+            *rank = 0;
+        }
     }
 }
 
@@ -51,15 +28,7 @@ fn forget(ranks: &mut [usize], rank: usize)
 fn marks(ranks: &[usize]) -> usize
     ensures { (result ≡ marks_of ranks.now) × (result ≤ length ranks.now) }
 {
-    let mut n: usize = 0;
-    let mut i: usize = 0;
-    while i < ranks.len() {
-        if ranks[i] != 0 {
-            n += 1;
-        }
-        i += 1;
-    }
-    n
+    ranks.iter().filter(|rank| **rank != 0).count()
 }
 
 // The name becomes the newest mark, wherever it was.
@@ -70,8 +39,7 @@ fn newest(ranks: &mut [usize], name: usize)
     let old = ranks[name];
     ranks[name] = 0;
     lower(ranks, old);
-    let n = marks(ranks);
-    ranks[name] = n + 1;
+    ranks[name] = marks(ranks) + 1;
 }
 
 // So among the ranks behind the heads.

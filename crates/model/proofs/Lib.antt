@@ -3,3 +3,4 @@ pub mod Count
 pub mod Values
 pub mod Existential
 pub mod Numbers
+pub mod Refused

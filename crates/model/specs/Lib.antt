@@ -5,3 +5,4 @@ pub mod Sets
 pub mod Numbers
 pub mod Existential
 pub mod Values
+pub mod Refused

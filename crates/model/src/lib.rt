@@ -2,7 +2,9 @@
 #![tactic(auto)]
 
 pub mod limit;
-pub mod refusal;
+mod refusal;
+
+pub use refusal::Refusal;
 
 // floor((axes·x + constant) / divisor)
 #[derive(Clone, Copy)]

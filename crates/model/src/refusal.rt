@@ -1,39 +1,37 @@
 // The numbers of a refusal (document 01, "Refused"; document 02), each once. specs/Refusals has them for the definitions.
-pub const BAD_AXES: u32 = 1;
+ghost use Rattle.std.specs.Prelude.{◌≡◌};
+ghost use Rattle.model.specs.Refused.{number_of};
 
-pub const UNKNOWN_COMMAND: u32 = 2;
+// Why a call or a set is refused.
+#[derive(Clone, Copy, Debug, PartialEq, Eq)]
+pub enum Refusal {
+    BadAxes = 1,
+    UnknownCommand = 2,
+    CutShort = 3,
+    NoBasicSet = 4,
+    LateDivision = 5,
+    BadDivisor = 6,
+    OutOfRange = 7,
+    NotAbsent = 8,
+    TooMany = 9,
+    OverLimit = 10,
+    TableFull = 11,
+    BadPoint = 12,
+    BadLimit = 13,
+    NoSuchSet = 14,
+    OutOfPlace = 15,
+    // 02, requests 2, 6, 8 and 12.
+    BadFleet = 16,
+    NoNumber = 17,
+    BadName = 18,
+    BadAxis = 19,
+}
 
-pub const CUT_SHORT: u32 = 3;
-
-pub const NO_BASIC_SET: u32 = 4;
-
-pub const LATE_DIVISION: u32 = 5;
-
-pub const BAD_DIVISOR: u32 = 6;
-
-pub const OUT_OF_RANGE: u32 = 7;
-
-pub const NOT_ABSENT: u32 = 8;
-
-pub const TOO_MANY: u32 = 9;
-
-pub const OVER_LIMIT: u32 = 10;
-
-pub const TABLE_FULL: u32 = 11;
-
-pub const BAD_POINT: u32 = 12;
-
-pub const BAD_LIMIT: u32 = 13;
-
-pub const NO_SUCH_SET: u32 = 14;
-
-pub const OUT_OF_PLACE: u32 = 15;
-
-// 02, requests 2, 6, 8 and 12.
-pub const BAD_FLEET: u32 = 16;
-
-pub const NO_NUMBER: u32 = 17;
-
-pub const BAD_NAME: u32 = 18;
-
-pub const BAD_AXIS: u32 = 19;
+impl Refusal {
+    // The number that C and the script's reader get.
+    pub fn number(self) -> u32
+        ensures { result ≡ number_of self }
+    {
+        self as u32
+    }
+}

@@ -21,9 +21,8 @@ use Rattle.codec.proofs.Valid.{bytes_of, valid-decodes}
 use Rattle.algebra.specs.Cut.{keeps, union, union_fits, difference, difference_fits, complement, complement_fits}
 use Rattle.algebra.specs.Operations.{result, on_one, on_two}
 use Rattle.algebra.specs.Result.{Result}
-use Rattle.results.specs.declared.results.Outcome.{Outcome}
 use Rattle.results.specs.declared.results.Done.{Done}
-use Rattle.results.specs.Outcome.{outcome_is}
+use Rattle.results.specs.Outcome.{Outcome, outcome_is}
 use Rattle.results.specs.Results.{Made, Finished}
 use Rattle.subtraction.specs.Subtraction.{Sets}
 use Rattle.operations.specs.Operations.{Checks}

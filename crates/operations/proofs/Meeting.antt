@@ -17,10 +17,9 @@ use Rattle.algebra.proofs.Levels.{concat-concat, all-concat-is}
 use Rattle.algebra.specs.Tighten.{divisible, solvable}
 use Rattle.algebra.proofs.Tightened.{tight-solvable}
 use Rattle.joining.specs.Joining.{Tightens}
-use Rattle.joining.specs.declared.tightening.Tightened.{Tightened}
+use Rattle.std.specs.Prelude.{Some, None}
 use Rattle.records.specs.Sound.{Sound}
 use Rattle.cutting.specs.Cutting.{Pair, BothIs}
-use Rattle.cutting.specs.declared.pieces.Pairing.{Pairing}
 use Rattle.results.specs.declared.results.Done.{Done}
 use Rattle.results.specs.Results.{Ready, Emits, Made}
 use Rattle.operations.specs.Operations.{tested, admitted, meeting, meetings, meetings_fit, first_meetings, first_meetings_fit}
@@ -35,25 +34,25 @@ pub record SoundOver (p : Stored) (n : ℕ) : Type 0 where
   pub divs : p.divs ≤ 8
   pub cons : p.cons ≤ 48
 
-module _ (p v : Stored) (a : Pair p v) (c : Pairing) (i : BothIs p v c) (h : c.fits ≡ true) where
+module _ {p v : Stored} (a : Pair p v) {c : Stored} (i : BothIs p v (Some c)) where
   fits : both_fits keeps (basic_set_of p) (basic_set_of v) ≡ true
-  fits = sym i.fits ∙ h
+  fits = sym i.fits
 
-  pub meet-sound : Sound c.set
+  pub meet-sound : Sound c
   meet-sound =
       let t = to-T (both_fits keeps (basic_set_of p) (basic_set_of v)) fits in
       let n = length (basic_set_of p).constraints + length (basic_set_of v).constraints in
       let few = leb→le (length (joined_divisions (basic_set_of p) (basic_set_of v))) 8 (and_left (join_fits keeps (basic_set_of p) (basic_set_of v)) (leb n 48) t) in
       record {
         n = a.n;
-        valid = subst (Valid a.n) (sym (i.is h)) (both-valid a.n (basic_set_of p) (basic_set_of v) a.first a.second few (leb→le n 48 (and_right (join_fits keeps (basic_set_of p) (basic_set_of v)) (leb n 48) t)));
-        divs = i.divs h;
-        cons = i.cons h;
+        valid = subst (Valid a.n) (sym i.is) (both-valid a.n (basic_set_of p) (basic_set_of v) a.first a.second few (leb→le n 48 (and_right (join_fits keeps (basic_set_of p) (basic_set_of v)) (leb n 48) t)));
+        divs = i.divs;
+        cons = i.cons;
       }
 
   -- what is admitted of the two in one
-  pub meet-admitted : {o o' : List ℕ} {s r : Done} → Emits (admitted (basic_set_of c.set)) true o s r o' → Emits (meeting (basic_set_of p) (basic_set_of v)) (both_fits keeps (basic_set_of p) (basic_set_of v)) o s r o'
-  meet-admitted {o} {o'} {s} {r} q = subst (λ (b : BasicSet). Emits (admitted b) (both_fits keeps (basic_set_of p) (basic_set_of v)) o s r o') (i.is h) (subst (λ (f : Bool). Emits (admitted (basic_set_of c.set)) f o s r o') (sym fits) q)
+  pub meet-admitted : {o o' : List ℕ} {s r : Done} → Emits (admitted (basic_set_of c)) true o s r o' → Emits (meeting (basic_set_of p) (basic_set_of v)) (both_fits keeps (basic_set_of p) (basic_set_of v)) o s r o'
+  meet-admitted {o} {o'} {s} {r} q = subst (λ (b : BasicSet). Emits (admitted b) (both_fits keeps (basic_set_of p) (basic_set_of v)) o s r o') i.is (subst (λ (f : Bool). Emits (admitted (basic_set_of c)) f o s r o') (sym fits) q)
 
 -- ---- where the test keeps it
 
@@ -81,23 +80,24 @@ first-as l b p u {o} {o'} {s} {r} e =
 pub first_plain : (l : Set) (w : Stored) → any divisible (basic_set_of w).constraints ≡ false → {o o' : List ℕ} {s r : Done} → Emits (meetings l (basic_set_of w)) (meetings_fit l (basic_set_of w)) o s r o' → Emits (first_meetings l (basic_set_of w)) (first_meetings_fit l (basic_set_of w)) o s r o'
 first_plain l w e = first-as l (basic_set_of w) (basic_set_of w) (tight-solvable (basic_set_of w) e)
 
-module _ (w : Stored) (t : Tightened) (e : Tightens w t) where
-  pub admit-sound : t.void ≡ false → Sound w → Sound t.set
-  admit-sound v a = record { n = a.n; valid = tight-over w t e v a.n a.valid; divs = subst (λ (n : ℕ). n ≤ 8) (sym e.divs) a.divs; cons = subst (λ (n : ℕ). n ≤ 48) (sym e.cons) a.cons }
+module _ {w : Stored} (e : Tightens w None) (o : List ℕ) (s : Done) (y : Ready s) where
+  pub admit-void : Emits (admitted (basic_set_of w)) true o s s o
+  admit-void = subst (λ (l : Set). Emits (filter keeps l) true o s s o) (sym (none-solvable w e)) (emits_none o s y)
+
+  -- a basic set of the first
+  pub first-void : (l : Set) → Emits (first_meetings l (basic_set_of w)) (first_meetings_fit l (basic_set_of w)) o s s o
+  first-void l = subst (λ (m : Set). Emits (concat_map (meetings l) m) (all (meetings_fit l) m) o s s o) (sym (none-solvable w e)) (emits_none o s y)
+
+module _ {w t : Stored} (e : Tightens w (Some t)) where
+  pub admit-sound : Sound w → Sound t
+  admit-sound a = record { n = a.n; valid = tight-over w t e a.n a.valid; divs = subst (λ (n : ℕ). n ≤ 8) (sym e.divs) a.divs; cons = subst (λ (n : ℕ). n ≤ 48) (sym e.cons) a.cons }
 
   module _ (o : List ℕ) (s : Done) where
-    pub admit-void : t.void ≡ true → Ready s → Emits (admitted (basic_set_of w)) true o s s o
-    admit-void v y = subst (λ (l : Set). Emits (filter keeps l) true o s s o) (sym (none-solvable w t e v)) (emits_none o s y)
+    pub admit-tested : {r : Done} {o' : List ℕ} → Emits (tested (basic_set_of t)) true o s r o' → Emits (admitted (basic_set_of w)) true o s r o'
+    admit-tested {r} {o'} p = subst (λ (l : Set). Emits (filter keeps l) true o s r o') (sym (one-solvable w t e)) p
 
-    pub admit-tested : t.void ≡ false → {r : Done} {o' : List ℕ} → Emits (tested (basic_set_of t.set)) true o s r o' → Emits (admitted (basic_set_of w)) true o s r o'
-    admit-tested v {r} {o'} p = subst (λ (l : Set). Emits (filter keeps l) true o s r o') (sym (one-solvable w t e v)) p
-
-    -- a basic set of the first
-    pub first-void : (l : Set) → t.void ≡ true → Ready s → Emits (first_meetings l (basic_set_of w)) (first_meetings_fit l (basic_set_of w)) o s s o
-    first-void l v y = subst (λ (m : Set). Emits (concat_map (meetings l) m) (all (meetings_fit l) m) o s s o) (sym (none-solvable w t e v)) (emits_none o s y)
-
-    pub first-emits : (l : Set) → t.void ≡ false → {r : Done} {o' : List ℕ} → Emits (meetings l (basic_set_of t.set)) (meetings_fit l (basic_set_of t.set)) o s r o' → Emits (first_meetings l (basic_set_of w)) (first_meetings_fit l (basic_set_of w)) o s r o'
-    first-emits l v = first-as l (basic_set_of w) (basic_set_of t.set) (one-solvable w t e v)
+    pub first-emits : (l : Set) → {r : Done} {o' : List ℕ} → Emits (meetings l (basic_set_of t)) (meetings_fit l (basic_set_of t)) o s r o' → Emits (first_meetings l (basic_set_of w)) (first_meetings_fit l (basic_set_of w)) o s r o'
+    first-emits l = first-as l (basic_set_of w) (basic_set_of t) (one-solvable w t e)
 
 -- ---- all of them
 

@@ -1,10 +1,11 @@
 -- What the functions of the operations ask and give.
-use Rattle.std.specs.Prelude.{◌≡◌, Bool, List, [], ◌∷◌, ℕ, ◌+◌, length}
+use Rattle.std.specs.Prelude.{◌≡◌, Bool, List, [], ◌∷◌, ℕ, ◌+◌, length, Result, IfOk}
+use Rattle.model.specs.declared.refusal.Refusal.{Refusal}
+use Rattle.model.specs.Refused.{number_in}
 use Rattle.model.specs.Lists.{all, concat_map, filter}
 use Rattle.model.specs.Sets.{BasicSet, Set}
 use Rattle.codec.specs.Bytes.{Answer, refused, decode, number}
 use Rattle.codec.specs.Places.{set_from}
-use Rattle.codec.specs.declared.parts.Verdict.{Verdict}
 use Rattle.algebra.specs.Tighten.{solvable}
 use Rattle.algebra.specs.Cut.{keeps, both, both_fits}
 use Rattle.algebra.specs.Operations.{on_two}
@@ -15,9 +16,9 @@ pub record Checks (n : ℕ) (a b : List ℕ) (k : ℕ) : Type 0 where
   pub bad : (k ≡ 0 → ⊥) → (f : Set → Set → Answer (List ℕ)) → on_two f (decode n a) (decode n b) ≡ refused k
 
 -- the same, with the basic sets of both counted where neither is refused
-pub record ChecksCounting (n : ℕ) (a b : List ℕ) (v : Verdict) : Type 0 where
-  pub checks : Checks n a b v.refusal
-  pub counts : v.refusal ≡ 0 → v.basics ≡ length (set_from a 0) + length (set_from b 0)
+pub record ChecksCounting (n : ℕ) (a b : List ℕ) (r : Result ℕ Refusal) : Type 0 where
+  pub checks : Checks n a b (number_in r)
+  pub counts : IfOk r (λ k. k ≡ length (set_from a 0) + length (set_from b 0))
 
 -- ---- the intersection
 

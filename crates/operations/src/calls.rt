@@ -1,5 +1,6 @@
 // The four operations on the bytes of sets.
 ghost use Rattle.std.specs.Prelude.{◌≡◌, ◌+◌, length};
+ghost use Rattle.model.specs.Refused.{number_in};
 ghost use Rattle.codec.specs.Places.{set_from};
 ghost use Rattle.algebra.specs.Cut as C;
 ghost use Rattle.algebra.specs.Cut.{keeps, union_fits};
@@ -11,45 +12,27 @@ ghost use Rattle.subtraction.specs.Subtraction.{Sets};
 ghost use Rattle.operations.specs.Operations.{Checks, ChecksCounting};
 
 use crate::pairs::intersect;
-use codec::{Verdict, check, check_counting};
-use model::limit;
+use codec::{check, check_counting};
+use model::{Refusal, limit};
 use records::copy_bytes;
-use results::{Done, Outcome, finish, refuse};
+use results::{Done, finish, refuse};
 use subtraction::subtract;
 
-// 0, or the refusal of the first set, or else of the second.
-fn check_two(n: usize, a: &[u8], b: &[u8]) -> u32
-    ensures { Checks n a.now b.now result }
+// The refusal of the first set, or else of the second.
+fn check_two(n: usize, a: &[u8], b: &[u8]) -> Result<(), Refusal>
+    ensures { Checks n a.now b.now (number_in result) }
 {
-    let k = check(n, a);
-    if k != 0 {
-        return k;
-    }
+    check(n, a)?;
     check(n, b)
 }
 
-// The same, with the basic sets of both counted where neither is refused.
-fn check_two_counting(n: usize, a: &[u8], b: &[u8]) -> Verdict
+// The same, with the basic sets of both counted.
+fn check_two_counting(n: usize, a: &[u8], b: &[u8]) -> Result<usize, Refusal>
     ensures { ChecksCounting n a.now b.now result }
 {
-    let x = check_counting(n, a);
-    if x.refusal != 0 {
-        return Verdict {
-            refusal: x.refusal,
-            basics: 0,
-        };
-    }
-    let y = check_counting(n, b);
-    if y.refusal != 0 {
-        return Verdict {
-            refusal: y.refusal,
-            basics: 0,
-        };
-    }
-    Verdict {
-        refusal: 0,
-        basics: x.basics + y.basics,
-    }
+    let first = check_counting(n, a)?;
+    let second = check_counting(n, b)?;
+    Ok(first + second)
 }
 
 // The bytes of two sets that have n basic sets together.
@@ -73,49 +56,52 @@ fn append(a: &[u8], b: &[u8], n: usize, out: &mut [u8]) -> Done
     }
 }
 
-pub fn union(n: usize, a: &[u8], b: &[u8], out: &mut [u8]) -> Outcome
+pub fn union(n: usize, a: &[u8], b: &[u8], out: &mut [u8]) -> Result<usize, Refusal>
     ensures { Result (length out.old) (union_bytes n (length out.old) a.now b.now) (outcome_is result) out.new }
 {
-    let c = check_two_counting(n, a, b);
-    let k = c.refusal;
-    if k != 0 {
-        return refuse(k, out);
+    match check_two_counting(n, a, b) {
+        Ok(basics) => {
+            let d = append(a, b, basics, out);
+            finish(d, out)
+        },
+        Err(refusal) => refuse(refusal, out),
     }
-    let d = append(a, b, c.basics, out);
-    finish(d, out)
 }
 
-pub fn intersection(n: usize, a: &[u8], b: &[u8], out: &mut [u8]) -> Outcome
+pub fn intersection(n: usize, a: &[u8], b: &[u8], out: &mut [u8]) -> Result<usize, Refusal>
     ensures { Result (length out.old) (intersection_bytes n (length out.old) a.now b.now) (outcome_is result) out.new }
 {
-    let k = check_two(n, a, b);
-    if k != 0 {
-        return refuse(k, out);
+    match check_two(n, a, b) {
+        Ok(()) => {
+            let d = intersect(a, b, out);
+            finish(d, out)
+        },
+        Err(refusal) => refuse(refusal, out),
     }
-    let d = intersect(a, b, out);
-    finish(d, out)
 }
 
-pub fn difference(n: usize, a: &[u8], b: &[u8], out: &mut [u8]) -> Outcome
+pub fn difference(n: usize, a: &[u8], b: &[u8], out: &mut [u8]) -> Result<usize, Refusal>
     ensures { Result (length out.old) (difference_bytes n (length out.old) a.now b.now) (outcome_is result) out.new }
 {
-    let k = check_two(n, a, b);
-    if k != 0 {
-        return refuse(k, out);
+    match check_two(n, a, b) {
+        Ok(()) => {
+            let d = subtract(a, b, out);
+            finish(d, out)
+        },
+        Err(refusal) => refuse(refusal, out),
     }
-    let d = subtract(a, b, out);
-    finish(d, out)
 }
 
-// The difference of the rule-less basic set, whose one byte is `11`, and the set.
-pub fn complement(n: usize, a: &[u8], out: &mut [u8]) -> Outcome
+// The difference of the rule-less basic set and the set.
+pub fn complement(n: usize, a: &[u8], out: &mut [u8]) -> Result<usize, Refusal>
     ensures { Result (length out.old) (complement_bytes n (length out.old) a.now) (outcome_is result) out.new }
 {
-    let k = check(n, a);
-    if k != 0 {
-        return refuse(k, out);
+    match check(n, a) {
+        Ok(()) => {
+            let whole = [codec::OPENS];
+            let d = subtract(&whole, a, out);
+            finish(d, out)
+        },
+        Err(refusal) => refuse(refusal, out),
     }
-    let whole = [17u8; 1];
-    let d = subtract(&whole, a, out);
-    finish(d, out)
 }

@@ -5,4 +5,3 @@ mod calls;
 mod pairs;
 
 pub use calls::{complement, difference, intersection, union};
-pub use results::Outcome;

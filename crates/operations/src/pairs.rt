@@ -48,13 +48,10 @@ fn admit_divided(
     requires { Sound w × Ready s × Tables rows.old place.old kinds.old }
     ensures { Emits (admitted (basic_set_of w)) true out.old s result out.new }
 {
-    let t = tight_set(w);
-    let none = t.void;
-    if none {
-        return s;
+    match tight_set(w) {
+        Some(m) => emit_kept(m, out, s, rows, place, kinds),
+        None => s,
     }
-    let m = t.set;
-    emit_kept(m, out, s, rows, place, kinds)
 }
 
 // p and v in one: tightened, where none of its constraints is void and the test for fractions keeps it. Most are tight already.
@@ -70,16 +67,10 @@ fn meet(
     requires { Pair p v × Ready s × Tables rows.old place.old kinds.old }
     ensures { Emits (meeting (basic_set_of p) (basic_set_of v)) (both_fits C.keeps (basic_set_of p) (basic_set_of v)) out.old s result out.new }
 {
-    let c = both(p, v);
-    let fits = c.fits;
-    if !fits {
-        return Done {
-            at: s.at,
-            count: s.count,
-            fits: false,
-        };
-    }
-    let w = c.set;
+    let w = match both(p, v) {
+        Some(w) => w,
+        None => return Done { fits: false, ..s },
+    };
     if any_divisible(w) {
         return admit_divided(w, out, s, rows, place, kinds);
     }
@@ -126,13 +117,10 @@ fn meet_divided(
     requires { Level (length (set_from b.now 0)) p b.now 0 × Ready s × Tables rows.old place.old kinds.old }
     ensures { Emits (first_meetings (set_from b.now 0) (basic_set_of p)) (first_meetings_fit (set_from b.now 0) (basic_set_of p)) out.old s result out.new }
 {
-    let t = tight_set(p);
-    let none = t.void;
-    if none {
-        return s;
+    match tight_set(p) {
+        Some(q) => meet_all(q, b, out, s, rows, place, kinds),
+        None => s,
     }
-    let q = t.set;
-    meet_all(q, b, out, s, rows, place, kinds)
 }
 
 // A basic set of the first set with each basic set of b.

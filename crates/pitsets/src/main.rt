@@ -10,7 +10,7 @@ ghost use Rattle.session.specs.declared.Next.TheVariants.{Reads, Ends};
 ghost use Rattle.pitsets.specs.Moving.{unused, Lent, Refilled};
 
 use model::limit;
-use session::{Listing, Next, State};
+use session::{Next, State};
 use std::fmt::{Display, Formatter};
 use std::io::{Read, Stdin, Stdout, Write};
 use std::process::ExitCode;
@@ -32,28 +32,10 @@ impl Display for Failed {
     }
 }
 
-fn input() -> [u8; 69632]
-    ensures { 69632 ≡ length result }
+fn zeros<const N: usize>() -> [u8; N]
+    ensures { N ≡ length result }
 {
-    [0; 69632]
-}
-
-fn tables() -> [u8; 32000]
-    ensures { 32000 ≡ length result }
-{
-    [0; 32000]
-}
-
-fn result() -> [u8; limit::SET_BYTES]
-    ensures { set_bytes ≡ length result }
-{
-    [0; limit::SET_BYTES]
-}
-
-fn line() -> [u8; 512]
-    ensures { 512 ≡ length result }
-{
-    [0; 512]
+    [0; N]
 }
 
 // What is read and not used, from..have, moved to the front.
@@ -65,11 +47,7 @@ fn forward(read: &mut [u8], from: usize, have: usize) -> usize
     if from == 0 {
         return n;
     }
-    let mut i = 0;
-    while i < n {
-        read[i] = read[from + i];
-        i += 1;
-    }
+    read.copy_within(from..have, 0);
     n
 }
 
@@ -104,36 +82,24 @@ fn refill(
     ensures err { OnErr result (take (have - from) read.new ≡ unused read.old from have) }
 {
     let kept = forward(read, from, have);
-    match more(input, read, kept) {
-        Ok(k) => Ok(Filled {
-            have: kept + k,
-            ended: k == 0,
-            turns,
-        }),
-        Err(e) => Err(Failed::Read(e)),
-    }
+    let k = more(input, read, kept).map_err(Failed::Read)?;
+    Ok(Filled {
+        have: kept + k,
+        ended: k == 0,
+        turns,
+    })
 }
 
 fn asks(next: Next) -> bool
     ensures { (result ≡ true → next ≡ Reads) × (result ≡ false → ¬ (next ≡ Reads)) }
 {
-    match next {
-        Next::Goes => false,
-        Next::Reads => true,
-        Next::Ends => false,
-        Next::Misused => false,
-    }
+    matches!(next, Next::Reads)
 }
 
 fn ends(next: Next) -> bool
     ensures { result ≡ false → ¬ (next ≡ Ends) }
 {
-    match next {
-        Next::Goes => false,
-        Next::Reads => false,
-        Next::Ends => true,
-        Next::Misused => true,
-    }
+    matches!(next, Next::Ends | Next::Misused)
 }
 
 // Writes the n bytes of a turn; the turns that are left behind it: none after the last one.
@@ -141,10 +107,8 @@ fn show(output: &mut Stdout, text: &[u8], n: usize, next: Next, turns: u64) -> R
     requires { (n ≤ length text.now) × (0 < turns) }
     ensures { IfOk result (λ r. (r < turns) × (0 < r → ¬ (next ≡ Ends))) }
 {
-    match output.write_all(&text[..n]) {
-        Ok(()) => Ok(if ends(next) { 0 } else { turns - 1 }),
-        Err(e) => Err(Failed::Write(e)),
-    }
+    output.write_all(&text[..n]).map_err(Failed::Write)?;
+    Ok(if ends(next) { 0 } else { turns - 1 })
 }
 
 // Turn after turn, from four empty sets; read[from..have] is read and not used. The bound on the turns lets it come to an end
@@ -163,7 +127,7 @@ fn run(
 {
     let mut state = State {
         axes: 0,
-        listing: Listing::Nothing,
+        listing: None,
     };
     let mut from = 0;
     let mut have = 0;
@@ -187,11 +151,11 @@ fn run(
 }
 
 fn main(rt: HostRuntime) -> ExitCode {
-    let mut read = input();
-    let mut sets = tables();
+    let mut read = zeros::<69632>();
+    let mut sets = zeros::<32000>();
     let mut lengths = [0usize; 4];
-    let mut answer = result();
-    let mut text = line();
+    let mut answer = zeros::<{ limit::SET_BYTES }>();
+    let mut text = zeros::<512>();
     match run(
         &mut rt.stdin(),
         &mut rt.stdout(),

@@ -1,11 +1,14 @@
 -- The numbers that tests and benchmarks in C get for the answers of the public calls.
-use Rattle.std.specs.Prelude.{◌≡◌, ℕ, ◌+◌, ◌-◌, Bool, true, false, List}
+use Rattle.std.specs.Prelude.{◌≡◌, ℕ, ◌+◌, ◌-◌, Bool, true, false, List, [], ℤ}
 use Rattle.std.proofs.Math.Option.{Option, none, some}
 use Rattle.codec.specs.Bytes.{Answer, refused, gives}
 use Rattle.feasibility.specs.Tableau.{Verdict, point, dropped, long, wide}
 use Rattle.algebra.specs.Result.{length_of, table_of}
-use Rattle.search.specs.declared.first.Outcome.{Outcome}
-use Rattle.search.specs.declared.first.Outcome.TheVariants.{At, Nothing, Spent, Refused}
+use Rattle.query.specs.Member.{padded}
+use Rattle.search.specs.Sides.{point_or_zeros}
+use Rattle.search.specs.declared.levels.Outcome.{Outcome}
+use Rattle.search.specs.declared.levels.Outcome.TheVariants.{At, Nothing, Spent}
+use Rattle.search.specs.declared.first.FirstPoint.{FirstPoint}
 
 -- refusal k of member, a test, a search or a count: no other answer of theirs is over 4
 abbrev pub refusal_number : ℕ → ℕ
@@ -34,11 +37,23 @@ pivots_number (refused k) = 0
 pivots_number (gives none) = 0
 pivots_number (gives (some x)) = x.1
 
-abbrev pub search_number : Outcome → ℕ
-search_number At = 0
-search_number Nothing = 1
-search_number Spent = 2
-search_number (Refused k) = refusal_number k
+abbrev pub outcome_number : Outcome → ℕ
+outcome_number (At p) = 0
+outcome_number Nothing = 1
+outcome_number Spent = 2
+
+abbrev pub search_number : Answer FirstPoint → ℕ
+search_number (refused k) = refusal_number k
+search_number (gives x) = outcome_number x.outcome
+
+-- a refused search tested nothing and has no point
+abbrev pub tested_in : Answer FirstPoint → ℕ
+tested_in (refused k) = 0
+tested_in (gives x) = x.tested
+
+abbrev pub point_in : Answer FirstPoint → List ℤ
+point_in (refused k) = padded []
+point_in (gives x) = point_or_zeros x.outcome
 
 -- the result's length; of refusal k the number 2^64 − 1 − k, which no length is
 abbrev pub length_number : Answer ℕ → ℕ

@@ -9,12 +9,13 @@ ghost use Rattle.query.specs.Handed.{handed};
 ghost use Rattle.probe.specs.Numbers.{member_number};
 
 use crate::numbers::member_number;
+use model::Refusal;
 
 #[unsafe(no_mangle)]
 pub extern "C" fn probe_check(n: usize, set: &[u8]) -> u32
     ensures { result ≡ number (decode n set.now) }
 {
-    codec::check(n, set)
+    codec::check(n, set).map_or_else(Refusal::number, |()| 0)
 }
 
 // codec::basic: the bytes of the part as far as `out` goes; the result is the length of the part.

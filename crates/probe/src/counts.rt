@@ -1,10 +1,25 @@
 // The count: the points of a box that are in a set, all of them and by one axis.
-ghost use Rattle.std.specs.Prelude.{[], ◌∷◌, length};
+ghost use Rattle.std.specs.Prelude.{◌≡◌, [], ◌∷◌, length};
 ghost use Rattle.std.proofs.Math.Option.{none};
+ghost use Rattle.codec.specs.Refusing.{answer_is};
 ghost use Rattle.enumeration.specs.Counting.{count_bytes, counts_bytes};
-ghost use Rattle.probe.specs.Counts.{CountProbed, CountsProbed};
+ghost use Rattle.answers.specs.Numbers.{tested_in};
+ghost use Rattle.probe.specs.Counts.{count_number, whole_in, CountProbed, CountsProbed};
 
 use crate::numbers::count_number;
+use counting::Counted;
+use model::Refusal;
+
+// The number of a count, how many points there are, and the prefixes tested: 0 where the answer has none.
+fn told(count: Result<Counted, Refusal>, whole: &mut u32, tested: &mut u32) -> u64
+    ensures number { result ≡ count_number (answer_is (λ x. x) count) }
+    ensures members { whole.new ≡ whole_in (answer_is (λ x. x) count) }
+    ensures prefixes { tested.new ≡ tested_in (answer_is (λ x. x) count) }
+{
+    *whole = count.map_or(0, |count| count.whole.unwrap_or(0));
+    *tested = count.map_or(0, |count| count.tested);
+    count_number(count)
+}
 
 // counting::count: 0 counted, 2 spent, 100 and the number of a refusal.
 #[unsafe(no_mangle)]
@@ -35,17 +50,14 @@ pub extern "C" fn probe_count(
         (l1 ∷ l2 ∷ l3 ∷ l4 ∷ l5 ∷ l6 ∷ l7 ∷ l8 ∷ []) (h1 ∷ h2 ∷ h3 ∷ h4 ∷ h5 ∷ h6 ∷ h7 ∷ h8 ∷ []) none limit)
         result whole.new tested.new }
 {
-    let r = counting::count(
+    let count = counting::count(
         n,
         set,
         [l1, l2, l3, l4, l5, l6, l7, l8],
         [h1, h2, h3, h4, h5, h6, h7, h8],
         limit,
     );
-    *whole = r.whole;
-    *tested = r.tested;
-    let o = r.outcome;
-    count_number(o)
+    told(count, whole, tested)
 }
 
 // counting::counts, the counts of the axis in the lent table.
@@ -80,7 +92,7 @@ pub extern "C" fn probe_counts(
         (l1 ∷ l2 ∷ l3 ∷ l4 ∷ l5 ∷ l6 ∷ l7 ∷ l8 ∷ []) (h1 ∷ h2 ∷ h3 ∷ h4 ∷ h5 ∷ h6 ∷ h7 ∷ h8 ∷ []) axis limit)
         result each.new whole.new tested.new }
 {
-    let r = counting::counts(
+    let count = counting::counts(
         n,
         set,
         [l1, l2, l3, l4, l5, l6, l7, l8],
@@ -89,8 +101,5 @@ pub extern "C" fn probe_counts(
         limit,
         each,
     );
-    *whole = r.whole;
-    *tested = r.tested;
-    let o = r.outcome;
-    count_number(o)
+    told(count, whole, tested)
 }

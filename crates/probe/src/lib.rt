@@ -1,4 +1,5 @@
-// The public calls for tests and benchmarks written in C alone: each does what the call that it names does.
+// The public calls for tests and benchmarks written in C alone: each does what the call that it names does. The
+// signatures are those of tests/probe.c: coordinates one by one, and what is answered beside the number through a lent place.
 #![tactic(auto)]
 
 mod asking;

@@ -4,6 +4,7 @@ ghost use Rattle.boxes.specs.Range.{range_bytes};
 ghost use Rattle.probe.specs.Ranges.{RangeProbed};
 
 use crate::numbers::range_number;
+use coverage::Reading;
 use model::limit;
 
 // coverage::box_range: 0 sure, 1 never, 2 depends, 3 and 4 spent, 100 and the number of a refusal.
@@ -24,12 +25,9 @@ pub extern "C" fn probe_range(
         (range_bytes n (length out.old) set.now lows.now highs.now within beyond)
         result out.new size.new inside.new outside.new }
 {
-    let x = coverage::box_range(n, set, *lows, *highs, within, beyond, out);
-    *size = x.length;
-    let p = x.inside;
-    *inside = p;
-    let q = x.outside;
-    *outside = q;
-    let k = x.range;
-    range_number(k)
+    let reading = coverage::box_range(n, set, *lows, *highs, within, beyond, out);
+    *size = reading.map_or(0, |reading| reading.length);
+    *inside = reading.map_or([0; limit::AXES], Reading::inside);
+    *outside = reading.map_or([0; limit::AXES], Reading::outside);
+    range_number(reading)
 }

@@ -1,11 +1,13 @@
 // The first-point search: its answer, its tally and its point.
 ghost use Rattle.std.specs.Prelude.{◌≡◌, [], ◌∷◌, get_or, pos, slice_index_or};
+ghost use Rattle.codec.specs.Refusing.{answer_is};
 ghost use Rattle.enumeration.specs.Search.{search_bytes};
 ghost use Rattle.search.specs.Sides.{answer_of};
-ghost use Rattle.probe.specs.Numbers.{search_number};
+ghost use Rattle.probe.specs.Numbers.{search_number, tested_in, point_in};
 
 use crate::numbers::search_number;
-use model::limit;
+use model::{Refusal, limit};
+use search::FirstPoint;
 
 // search::first_point: 0 at a point, 1 none, 2 spent, 100 and the number of a refusal.
 #[unsafe(no_mangle)]
@@ -31,17 +33,16 @@ pub extern "C" fn probe_search(
     h8: i32,
 ) -> u64
     ensures { result ≡ search_number (answer_of (search_bytes n set.now
-        (l1 ∷ l2 ∷ l3 ∷ l4 ∷ l5 ∷ l6 ∷ l7 ∷ l8 ∷ []) (h1 ∷ h2 ∷ h3 ∷ h4 ∷ h5 ∷ h6 ∷ h7 ∷ h8 ∷ []) limit)).outcome }
+        (l1 ∷ l2 ∷ l3 ∷ l4 ∷ l5 ∷ l6 ∷ l7 ∷ l8 ∷ []) (h1 ∷ h2 ∷ h3 ∷ h4 ∷ h5 ∷ h6 ∷ h7 ∷ h8 ∷ []) limit)) }
 {
-    let r = search::first_point(
+    let found = search::first_point(
         n,
         set,
         [l1, l2, l3, l4, l5, l6, l7, l8],
         [h1, h2, h3, h4, h5, h6, h7, h8],
         limit,
     );
-    let o = r.outcome;
-    search_number(o)
+    search_number(found)
 }
 
 // Its tally.
@@ -67,26 +68,30 @@ pub extern "C" fn probe_tally(
     h7: i32,
     h8: i32,
 ) -> u32
-    ensures { result ≡ (answer_of (search_bytes n set.now
-        (l1 ∷ l2 ∷ l3 ∷ l4 ∷ l5 ∷ l6 ∷ l7 ∷ l8 ∷ []) (h1 ∷ h2 ∷ h3 ∷ h4 ∷ h5 ∷ h6 ∷ h7 ∷ h8 ∷ []) limit)).tested }
+    ensures { result ≡ tested_in (answer_of (search_bytes n set.now
+        (l1 ∷ l2 ∷ l3 ∷ l4 ∷ l5 ∷ l6 ∷ l7 ∷ l8 ∷ []) (h1 ∷ h2 ∷ h3 ∷ h4 ∷ h5 ∷ h6 ∷ h7 ∷ h8 ∷ []) limit)) }
 {
-    let r = search::first_point(
+    let found = search::first_point(
         n,
         set,
         [l1, l2, l3, l4, l5, l6, l7, l8],
         [h1, h2, h3, h4, h5, h6, h7, h8],
         limit,
     );
-    r.tested
+    found.map_or(0, |found| found.tested)
 }
 
-fn coordinate(p: [i64; limit::AXES], i: usize) -> i64
-    ensures { result ≡ slice_index_or p i (pos 0) }
+// The point; zeros where there is none.
+fn point_in(found: Result<FirstPoint, Refusal>) -> [i64; limit::AXES]
+    ensures { result ≡ point_in (answer_is (λ x. x) found) }
 {
-    if i < limit::AXES {
-        return p[i];
-    }
-    0
+    found.map_or([0; limit::AXES], FirstPoint::point)
+}
+
+fn coordinate(point: [i64; limit::AXES], i: usize) -> i64
+    ensures { result ≡ slice_index_or point i (pos 0) }
+{
+    point.get(i).copied().unwrap_or(0)
 }
 
 // Its coordinate i, from 0; 0 past the eighth.
@@ -113,17 +118,16 @@ pub extern "C" fn probe_coordinate(
     h8: i32,
     i: usize,
 ) -> i64
-    ensures { result ≡ get_or (answer_of (search_bytes n set.now
-        (l1 ∷ l2 ∷ l3 ∷ l4 ∷ l5 ∷ l6 ∷ l7 ∷ l8 ∷ []) (h1 ∷ h2 ∷ h3 ∷ h4 ∷ h5 ∷ h6 ∷ h7 ∷ h8 ∷ []) limit)).point
+    ensures { result ≡ get_or (point_in (answer_of (search_bytes n set.now
+        (l1 ∷ l2 ∷ l3 ∷ l4 ∷ l5 ∷ l6 ∷ l7 ∷ l8 ∷ []) (h1 ∷ h2 ∷ h3 ∷ h4 ∷ h5 ∷ h6 ∷ h7 ∷ h8 ∷ []) limit)))
         i (pos 0) }
 {
-    let r = search::first_point(
+    let found = search::first_point(
         n,
         set,
         [l1, l2, l3, l4, l5, l6, l7, l8],
         [h1, h2, h3, h4, h5, h6, h7, h8],
         limit,
     );
-    let p = r.point;
-    coordinate(p, i)
+    coordinate(point_in(found), i)
 }

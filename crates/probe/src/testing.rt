@@ -32,8 +32,7 @@ fn built_alone(b: model::BasicSet) -> usize
     let mut rows = [[0i64; 18]; 64];
     let mut place = [0usize; 80];
     let mut kinds = [0u8; 80];
-    let c = carrying::test_counted(b, &mut rows, &mut place, &mut kinds);
-    c.built
+    carrying::test_counted(b, &mut rows, &mut place, &mut kinds).built
 }
 
 // The same of basic set number k of a set's bytes; 0 where there is none or the bytes are refused.
@@ -41,7 +40,7 @@ fn built_alone(b: model::BasicSet) -> usize
 pub extern "C" fn probe_built(n: usize, set: &[u8], k: usize) -> usize
     ensures { result ≡ built_bytes n set.now k }
 {
-    if codec::check(n, set) != 0 {
+    if codec::check(n, set).is_err() {
         return 0;
     }
     if k == 0 {
@@ -69,11 +68,9 @@ fn tests(
     ensures { result ≡ (times * pivots_made (basic_set_of b)) % 2 ^ 64 }
 {
     let mut pivots: usize = 0;
-    let mut i: usize = 0;
-    while i < times {
-        let e = carrying::test_basic(b, rows, place, kinds);
-        pivots = std::num::wrapping_add_usize(pivots, e.pivots);
-        i += 1;
+    for _i in 0..times {
+        let ended = carrying::test_basic(b, rows, place, kinds);
+        pivots = pivots.wrapping_add(ended.pivots);
     }
     pivots
 }
@@ -83,7 +80,7 @@ fn tests(
 pub extern "C" fn probe_tests(n: usize, set: &[u8], times: usize) -> usize
     ensures { result ≡ (times * pivots_number (test_bytes n set.now 1)) % 2 ^ 64 }
 {
-    if codec::check(n, set) != 0 {
+    if codec::check(n, set).is_err() {
         return 0;
     }
     let at = codec::start_of(set, 0);

@@ -1,24 +1,19 @@
 // The greatest and the least value of an expression.
-ghost use Rattle.std.specs.Prelude.{◌≡◌, pos, negsuc};
+ghost use Rattle.std.specs.Prelude.{pos, negsuc};
 ghost use Rattle.extremes.specs.Answers.{extreme_bytes, extent_is};
 ghost use Rattle.rules.specs.Expressions.{expression_by};
-ghost use Rattle.probe.specs.Values.{extent_number, ValueProbed};
+ghost use Rattle.probe.specs.Values.{ValueProbed};
 
+use crate::numbers::extent_number;
 use extremes::Extent;
-use model::limit;
+use model::{Refusal, limit};
 use rules::Expression;
 
-fn extent_number(x: Extent) -> u64
-    ensures { result ≡ extent_number (extent_is x) }
+fn told(extent: Result<Extent, Refusal>, value: &mut [u64; 4]) -> u64
+    ensures { ValueProbed (extent_is extent) result value.new }
 {
-    match x {
-        Extent::Value(_) => 0,
-        Extent::Empty => 1,
-        Extent::Unbounded => 2,
-        Extent::TooWide => 3,
-        Extent::TooLong => 4,
-        Extent::Refused(k) => 100 + k as u64,
-    }
+    *value = extremes::value_words(extent);
+    extent_number(extent)
 }
 
 // extremes::greatest: 0 with the value's words, 1 empty, 2 unbounded, 3 wide, 4 long, 100 and the number of a refusal.
@@ -32,16 +27,15 @@ pub extern "C" fn probe_greatest(
     divisions: &[i32; limit::DIVISIONS],
     value: &mut [u64; 4],
 ) -> u64
-    ensures { ValueProbed (extreme_bytes (negsuc 0) n set.now k (expression_by constant axes.now divisions.now)) result value.new }
+    ensures { ValueProbed
+        (extreme_bytes (negsuc 0) n set.now k (expression_by constant axes.now divisions.now)) result value.new }
 {
     let e = Expression {
-        constant: constant,
+        constant,
         axes: *axes,
         divisions: *divisions,
     };
-    let x = extremes::greatest(n, set, k, e);
-    *value = extremes::value_words(x);
-    extent_number(x)
+    told(extremes::greatest(n, set, k, e), value)
 }
 
 // extremes::least, so too.
@@ -55,14 +49,13 @@ pub extern "C" fn probe_least(
     divisions: &[i32; limit::DIVISIONS],
     value: &mut [u64; 4],
 ) -> u64
-    ensures { ValueProbed (extreme_bytes (pos 1) n set.now k (expression_by constant axes.now divisions.now)) result value.new }
+    ensures { ValueProbed
+        (extreme_bytes (pos 1) n set.now k (expression_by constant axes.now divisions.now)) result value.new }
 {
     let e = Expression {
-        constant: constant,
+        constant,
         axes: *axes,
         divisions: *divisions,
     };
-    let x = extremes::least(n, set, k, e);
-    *value = extremes::value_words(x);
-    extent_number(x)
+    told(extremes::least(n, set, k, e), value)
 }

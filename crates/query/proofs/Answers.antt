@@ -14,7 +14,8 @@ use Rattle.codec.specs.Places.{set_from}
 use Rattle.codec.proofs.Parsing.{decode-bad, axes-zero, axes-over}
 use Rattle.codec.proofs.Boundaries.{decode_is}
 use Rattle.query.specs.Member.{member_bytes, point_fits}
-use Rattle.query.specs.Holder.{first_holding}
+use Rattle.std.specs.Option.{is_some}
+use Rattle.query.specs.Holder.{first_holding, numbered}
 
 refused-of : {A : Type 0} (a : Answer A) (m : ℕ) → m ≡ number a → (m ≡ 0 → ⊥) → a ≡ refused m
 refused-of (refused k) m e h = ap refused (sym e)
@@ -51,19 +52,11 @@ module _ (n : ℕ) (s : List ℕ) where
   unfolding member_bytes
   member-gives x z p r e = rw (decode_is n s z, member_bytes) (ap gives e ∙ ap (λ (b : Bool). cond b (gives (in_set (take n x) (set_from s 0))) (refused 12)) (sym p))
 
--- a number of a basic set that holds the point, or 0
-pub holding-none : (x : List ℤ) (s : Set) (k : ℕ) → first_holding (suc k) x s ≡ 0 → false ≡ in_set x s
-holding-none x [] k e = refl
-holding-none x (b ∷ s) k e = go (in_basic x b) refl e (holding-none x s (suc k))
+-- whether there is a basic set that holds the point
+pub holding_is : (x : List ℤ) (s : Set) (k : ℕ) → is_some (numbered (first_holding (suc k) x s)) ≡ in_set x s
+holding_is x [] k = refl
+holding_is x (b ∷ s) k = go (in_basic x b) (holding_is x s (suc k))
   where
-    go : (c : Bool) → in_basic x b ≡ c → cond c (suc k) (first_holding (suc (suc k)) x s) ≡ 0 → (first_holding (suc (suc k)) x s ≡ 0 → false ≡ in_set x s) → false ≡ (in_basic x b || in_set x s)
-    go true q e ih = absurd (omega arith)
-    go false q e ih = ih e ∙ ap (λ (c : Bool). c || in_set x s) (sym q)
-
-pub holding-some : (x : List ℤ) (s : Set) (k : ℕ) → (first_holding k x s ≡ 0 → ⊥) → true ≡ in_set x s
-holding-some x [] k h = absurd (h refl)
-holding-some x (b ∷ s) k h = go (in_basic x b) refl h (holding-some x s (suc k))
-  where
-    go : (c : Bool) → in_basic x b ≡ c → (cond c k (first_holding (suc k) x s) ≡ 0 → ⊥) → ((first_holding (suc k) x s ≡ 0 → ⊥) → true ≡ in_set x s) → true ≡ (in_basic x b || in_set x s)
-    go true q h ih = ap (λ (c : Bool). c || in_set x s) (sym q)
-    go false q h ih = ih h ∙ ap (λ (c : Bool). c || in_set x s) (sym q)
+    go : (c : Bool) → is_some (numbered (first_holding (suc (suc k)) x s)) ≡ in_set x s → is_some (numbered (cond c (suc k) (first_holding (suc (suc k)) x s))) ≡ (c || in_set x s)
+    go true ih = refl
+    go false ih = ih

@@ -17,7 +17,8 @@ use Rattle.codec.specs.Places.{built, set_from, division_at, constraint_at, next
 use Rattle.codec.specs.declared.layout.Passed.{Passed}
 use Rattle.codec.proofs.Boundaries.{boundary_start, boundary_end, boundary-next, boundary-set}
 use Rattle.query.specs.declared.membership.Span.{Span}
-use Rattle.query.specs.Holder.{first_holding}
+use Rattle.std.proofs.Common.{Some, None}
+use Rattle.query.specs.Holder.{first_holding, numbered}
 use Rattle.query.specs.Holding.{AllWithin, Divided, Judging, Judged, Spanned}
 use Rattle.bounds.proofs.Reading.{set-within}
 use Rattle.codec.proofs.Standing.{DivisionAt, division-at, ConstraintAt, constraint-at, no-division, no-constraint, end-here}
@@ -137,11 +138,8 @@ module _ (s : List ℕ) (x : List ℤ) (at number : ℕ) (g : Finding s x at num
   step : first_holding (suc number) x (set_from s at) ≡ cond r.holds (suc number) (first_holding (suc (suc number)) x (set_from s (end_of s (at + 1))))
   step = ap (first_holding (suc number) x) (boundary-set g.n s at g.here l) ∙ ap (λ (b : Bool). cond b (suc number) (first_holding (suc (suc number)) x (set_from s (end_of s (at + 1))))) (sym v.is)
 
-  pub finding-yes : r.holds ≡ true → number + 1 ≡ first_holding 1 x (set_from s 0)
-  finding-yes e = add-one number ∙ sym (ap (λ (b : Bool). cond b (suc number) (first_holding (suc (suc number)) x (set_from s (end_of s (at + 1))))) e) ∙ sym step ∙ g.is
-
-  pub finding-inside : end_of s (at + 1) ≤ length s
-  finding-inside = (boundary-next g.n s at g.here l).here.inside
+  pub finding-yes : r.holds ≡ true → Some (number + 1) ≡ numbered (first_holding 1 x (set_from s 0))
+  finding-yes e = ap (λ (k : ℕ). Some k) (add-one number) ∙ ap numbered (sym (ap (λ (b : Bool). cond b (suc number) (first_holding (suc (suc number)) x (set_from s (end_of s (at + 1))))) e) ∙ sym step ∙ g.is)
 
   pub finding-next : r.holds ≡ false → Finding s x r.next (number + 1)
   finding-next e =
@@ -155,5 +153,5 @@ module _ (s : List ℕ) (x : List ℤ) (at number : ℕ) (g : Finding s x at num
             ∙ sym (ap (λ (b : Bool). cond b (suc number) (first_holding (suc (suc number)) x (set_from s (end_of s (at + 1))))) e) ∙ sym step ∙ g.is;
       }
 
-pub finding-end : (s : List ℕ) (x : List ℤ) (at number : ℕ) → Finding s x at number → length s ≤ at → 0 ≡ first_holding 1 x (set_from s 0)
-finding-end s x at number g h = sym (ap (first_holding (suc number) x) (boundary_end s at h)) ∙ g.is
+pub finding-end : (s : List ℕ) (x : List ℤ) (at number : ℕ) → Finding s x at number → length s ≤ at → None ≡ numbered (first_holding 1 x (set_from s 0))
+finding-end s x at number g h = ap numbered (sym (ap (first_holding (suc number) x) (boundary_end s at h)) ∙ g.is)

@@ -2,14 +2,12 @@
 use mathlib.Core.Path.{◌≡◌, refl, sym, ap, ap₂, ◌∙◌, subst}
 use mathlib.Core.Bool.{Bool, true, false, ◌&&◌, ◌||◌}
 use mathlib.Core.List.{List, [], ◌∷◌}
-use Prim.Native.Nat.{ℕ, zero, suc, ◌+◌, ◌-◌, ◌≤◌, ◌<◌}
-use native.Mathlib.Numerals.{add-one}
+use Prim.Native.Nat.{ℕ, zero, suc, ◌+◌, ◌-◌, ◌≤◌}
 use native.Mathlib.Omega.{arith}
 use lib.Dec.{T, ltb}
-use lib.IntN.{ℤ, pos}
+use lib.IntN.{ℤ}
 use lib.Signed.{◌<ℤ◌, ◌≤ℤ◌, le_z}
-use lib.ListN.{length, drop, get_or, drop_of_length-le}
-use lib.Seq.{drop-cons}
+use lib.ListN.{length, take, length-take, drop_of_length-le}
 use borrow.Author.Tests.{lt-ltb, le-ltb}
 use Rattle.integers.specs.Lin.{le, lt, lin, lia-no}
 use Rattle.integers.specs.Mach.{le_z-true}
@@ -17,7 +15,9 @@ use Rattle.model.specs.Lists.{all}
 use Rattle.model.specs.Sets.{is_zero, absent}
 use Rattle.query.specs.Member.{coordinate, point_fits}
 use Rattle.query.specs.Holding.{AllWithin, coordinate_fits}
-use Rattle.bounds.proofs.Reading.{within_all}
+use Rattle.std.specs.List.{list_all, enumerate_from}
+use Rattle.query.specs.Holding.{Point}
+use Rattle.bounds.proofs.Reading.{within_all, take_within}
 
 -- a test that is known to hold, and one that is known to fail
 pub le_yes : (a b : ℤ) → a ≤ℤ b → le_z a b ≡ true
@@ -34,9 +34,9 @@ le-no a b h = go (le_z a b) refl
     go false e = e
     go true e = absurd (lia-no (a ∷ b ∷ []) (lt h ∷ le (le_z-true a b e) ∷ []) (search lin depth 30) (omega arith))
 
-abbrev pub fits_from : ℕ → ℕ → List ℤ → Bool
-fits_from n i [] = true
-fits_from n i (z ∷ x) = coordinate_fits n i z && fits_from n (suc i) x
+-- each coordinate, the first of them with the number i, can be one
+abbrev fits_from : ℕ → ℕ → List ℤ → Bool
+fits_from n i x = list_all (λ (p : ℕ × ℤ). coordinate_fits n p.0 p.1) (enumerate_from i x)
 
 regroup : (a b c d : Bool) → ((a && b) && (c && d)) ≡ ((a && c) && (b && d))
 regroup true true c d = refl
@@ -50,15 +50,15 @@ and-true false = refl
 
 fits-from : (n : ℕ) (x : List ℤ) (i : ℕ) → (all coordinate x && absent (n - i) x) ≡ fits_from n i x
 fits-from n [] i = ap (λ (l : List ℤ). true && all is_zero l) (drop_of_length-le [] {i = n - i} (omega arith))
-fits-from n (z ∷ x) i = go (n - i) refl (fits-from n x (suc i))
+fits-from n (z ∷ x) i = go (n - i) refl (fits-from n x (i + 1))
   where
-    go : (m : ℕ) → n - i ≡ m → (all coordinate x && absent (n - suc i) x) ≡ fits_from n (suc i) x → (all coordinate (z ∷ x) && absent m (z ∷ x)) ≡ fits_from n i (z ∷ x)
+    go : (m : ℕ) → n - i ≡ m → (all coordinate x && absent (n - (i + 1)) x) ≡ fits_from n (i + 1) x → (all coordinate (z ∷ x) && absent m (z ∷ x)) ≡ fits_from n i (z ∷ x)
     go zero e ih =
-        let h : ltb i n ≡ false = le-ltb i n (omega arith) in let k : n - suc i ≡ 0 = omega arith in
+        let h : ltb i n ≡ false = le-ltb i n (omega arith) in let k : n - (i + 1) ≡ 0 = omega arith in
         regroup (coordinate z) (all coordinate x) (is_zero z) (all is_zero x)
         ∙ ap₂ ◌&&◌ (ap (λ (b : Bool). coordinate z && (b || is_zero z)) (sym h)) (ap (λ (j : ℕ). all coordinate x && absent j x) (sym k) ∙ ih)
     go (suc m) e ih =
-        let h : ltb i n ≡ true = lt-ltb i n (omega arith) in let k : n - suc i ≡ m = omega arith in
+        let h : ltb i n ≡ true = lt-ltb i n (omega arith) in let k : n - (i + 1) ≡ m = omega arith in
         assoc (coordinate z) (all coordinate x) (absent m x)
         ∙ ap₂ ◌&&◌ (sym (and-true (coordinate z)) ∙ ap (λ (b : Bool). coordinate z && (b || is_zero z)) (sym h)) (ap (λ (j : ℕ). all coordinate x && absent j x) (sym k) ∙ ih)
       where
@@ -66,37 +66,14 @@ fits-from n (z ∷ x) i = go (n - i) refl (fits-from n x (suc i))
         assoc true b c = refl
         assoc false b c = refl
 
--- ---- the loop over the coordinates
-pub fits-start : (n : ℕ) (x : List ℤ) → fits_from n 0 (drop 0 x) ≡ point_fits n x
-fits-start n x = let e : n - 0 ≡ n = omega arith in sym (fits-from n x 0) ∙ ap (λ (m : ℕ). all coordinate x && absent m x) e
-
-module _ (n : ℕ) (x : List ℤ) (i : ℕ) (g : fits_from n i (drop i x) ≡ point_fits n x) where
-  head-is : i < length x → fits_from n i (drop i x) ≡ (coordinate_fits n i (get_or x i (pos 0)) && fits_from n (i + 1) (drop (i + 1) x))
-  head-is l = ap (fits_from n i) (drop-cons x i (pos 0) l) ∙ ap (λ (j : ℕ). coordinate_fits n i (get_or x i (pos 0)) && fits_from n j (drop j x)) (sym (add-one i))
-
-  pub fits_next : i < length x → coordinate_fits n i (get_or x i (pos 0)) ≡ true → fits_from n (i + 1) (drop (i + 1) x) ≡ point_fits n x
-  fits_next l e = ap (λ (b : Bool). b && fits_from n (i + 1) (drop (i + 1) x)) (sym e) ∙ sym (head-is l) ∙ g
-
-  pub fits-stop : i < length x → coordinate_fits n i (get_or x i (pos 0)) ≡ false → false ≡ point_fits n x
-  fits-stop l e = ap (λ (b : Bool). b && fits_from n (i + 1) (drop (i + 1) x)) (sym e) ∙ sym (head-is l) ∙ g
-
-  pub fits-end : length x ≤ i → true ≡ point_fits n x
-  fits-end h = ap (fits_from n i) (sym (drop_of_length-le x h)) ∙ g
+-- ---- the test of each coordinate with its number
+pub fits-all : (n : ℕ) (x : List ℤ) → list_all (λ (p : ℕ × ℤ). coordinate_fits n p.0 p.1) (enumerate_from 0 x) ≡ point_fits n x
+fits-all n x = let e : n - 0 ≡ n = omega arith in sym (fits-from n x 0) ∙ ap (λ (m : ℕ). all coordinate x && absent m x) e
 
 -- ---- what it says of the numbers
 pub point-within : (n : ℕ) (x : List ℤ) → point_fits n x ≡ true → AllWithin 1048576 x
 point-within n x e = within_all 1048575 x (Rattle.model.proofs.Count.and_left (all coordinate x) (absent n x) (subst T (sym e) tt))
 
--- eight numbers, one by one
-pub eight_is : (x : List ℤ) → length x ≡ 8
-    → get_or x 0 (pos 0) ∷ get_or x 1 (pos 0) ∷ get_or x 2 (pos 0) ∷ get_or x 3 (pos 0) ∷ get_or x 4 (pos 0) ∷ get_or x 5 (pos 0) ∷ get_or x 6 (pos 0) ∷ get_or x 7 (pos 0) ∷ [] ≡ x
-eight_is (a ∷ b ∷ c ∷ d ∷ e ∷ f ∷ g ∷ h ∷ []) l = refl
-eight_is [] l = absurd (omega arith)
-eight_is (a ∷ []) l = absurd (omega arith)
-eight_is (a ∷ b ∷ []) l = absurd (omega arith)
-eight_is (a ∷ b ∷ c ∷ []) l = absurd (omega arith)
-eight_is (a ∷ b ∷ c ∷ d ∷ []) l = absurd (omega arith)
-eight_is (a ∷ b ∷ c ∷ d ∷ e ∷ []) l = absurd (omega arith)
-eight_is (a ∷ b ∷ c ∷ d ∷ e ∷ f ∷ []) l = absurd (omega arith)
-eight_is (a ∷ b ∷ c ∷ d ∷ e ∷ f ∷ g ∷ []) l = absurd (omega arith)
-eight_is (a ∷ b ∷ c ∷ d ∷ e ∷ f ∷ g ∷ h ∷ i ∷ x) l = absurd (omega arith)
+-- the first n numbers of a point of n axes
+pub point-taken : (n : ℕ) (x y : List ℤ) → y ≡ x → length y ≡ 8 → n ≤ 8 → point_fits n x ≡ true → Point (take n y)
+point-taken n x y d l h e = record { axes = omega (arith, length-take n y); point = take_within 1048576 y n (subst (AllWithin 1048576) (sym d) (point-within n x e)) }

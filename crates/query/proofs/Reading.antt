@@ -40,46 +40,51 @@ dot-more t x q i h l =
     ∙ ap (λ (r : List ℕ). signed 2 (value_of (take 2 (drop q t))) *ℤ get_or x i (pos 0) +ℤ dot (signed_list (8 - (i + 1)) r) (drop (i + 1) x)) (drop-drop 2 q t)
 
 -- what the loop keeps
-pub record Summed (t : List ℕ) (p : ℕ) (x : List ℤ) (s i q : ℕ) : Type 0 where
-  pub inside : i ≤ length x
-  pub place : q ≡ p + 2 * i
-  pub size : (B : ℕ) → AllWithin B x → Within (i * (32768 * B)) (to_z w64 s)
-  pub same : to_z w64 s +ℤ rest t x q i ≡ dot (signed_list 8 (drop p t)) x
+pub record Summed (t : List ℕ) (p : ℕ) (x : List ℤ) (sum : ℤ) (i : ℕ) : Type 0 where
+  pub size : (B : ℕ) → AllWithin B x → Within (i * (32768 * B)) sum
+  pub same : sum +ℤ rest t x (p + 2 * i) i ≡ dot (signed_list 8 (drop p t)) x
 
-pub summed-start : (t : List ℕ) (p : ℕ) (x : List ℤ) → Summed t p x 0 0 p
-summed-start t p x = record { inside = omega arith; place = omega arith; size = λ B b. record { size = omega arith }; same = +ℤ_idl (rest t x p 0) }
+pub summed-start : (t : List ℕ) (p : ℕ) (x : List ℤ) → Summed t p x (pos 0) 0
+summed-start t p x = record { size = λ B b. record { size = omega arith }; same = let e : p + 2 * 0 ≡ p = omega arith in rw e (+ℤ_idl (rest t x p 0)) }
 
-pub summed-end : (t : List ℕ) (p : ℕ) (x : List ℤ) (s i q : ℕ) → Summed t p x s i q → length x ≤ i → to_z w64 s ≡ dot (signed_list 8 (drop p t)) x
-summed-end t p x s i q m h =
-    sym (ap (λ (z : ℤ). to_z w64 s +ℤ z) (ap (dot (signed_list (8 - i) (drop q t))) (drop_of_length-le x h) ∙ dot-nil (signed_list (8 - i) (drop q t))) ∙ +ℤ_idr (to_z w64 s)) ∙ m.same
+module _ (t : List ℕ) (p : ℕ) (x : List ℤ) (sum : ℤ) (i : ℕ) (m : Summed t p x sum i) where
+  pub summed-next : (sum' a : ℤ) → i < length x → length x ≤ 8 → a ≡ signed 2 (value_of (take 2 (drop (p + 2 * i) t))) → Within 32768 a
+      → sum' ≡ sum +ℤ a *ℤ get_or x i (pos 0) → Summed t p x sum' (i + 1)
+  summed-next sum' a h l ea wa e =
+      let q : p + 2 * (i + 1) ≡ p + 2 * i + 2 = omega arith in
+      record {
+        size = λ B b. subst (Within ((i + 1) * (32768 * B))) (sym e) (within-mono (omega arith) (within-add (m.size B b) (within-mul wa (b.at i))));
+        same =
+            ap₂ (λ (z : ℤ) (j : ℕ). z +ℤ rest t x j (i + 1)) e q
+            ∙ +ℤ_assoc sum (a *ℤ get_or x i (pos 0)) (rest t x (p + 2 * i + 2) (i + 1))
+            ∙ ap (λ (z : ℤ). sum +ℤ z) (ap (λ (z : ℤ). z *ℤ get_or x i (pos 0) +ℤ rest t x (p + 2 * i + 2) (i + 1)) ea ∙ sym (dot-more t x (p + 2 * i) i h l)) ∙ m.same;
+      }
 
-pub summed-next : (t : List ℕ) (p : ℕ) (x : List ℤ) (s i q s' : ℕ) (a : ℤ) → Summed t p x s i q → i < length x → length x ≤ 8 → AllWithin 549755813888 x
-    → a ≡ signed 2 (value_of (take 2 (drop q t))) → Within 32768 a → to_z w64 s' ≡ to_z w64 s +ℤ a *ℤ get_or x i (pos 0) → Summed t p x s' (i + 1) (q + 2)
-summed-next t p x s i q s' a m h l b ea wa e =
-    let u = m.inside in let v = m.place in
-    record {
-      inside = omega arith;
-      place = omega arith;
-      size = λ B bB. subst (Within ((i + 1) * (32768 * B))) (sym e) (within-mono (omega arith) (within-add (m.size B bB) (within-mul wa (bB.at i))));
-      same =
-          ap (λ (z : ℤ). z +ℤ rest t x (q + 2) (i + 1)) e ∙ +ℤ_assoc (to_z w64 s) (a *ℤ get_or x i (pos 0)) (rest t x (q + 2) (i + 1))
-          ∙ ap (λ (z : ℤ). to_z w64 s +ℤ z) (ap (λ (z : ℤ). z *ℤ get_or x i (pos 0) +ℤ rest t x (q + 2) (i + 1)) ea ∙ sym (dot-more t x q i h l)) ∙ m.same;
-    }
+  pub summed-end : length x ≤ i → sum ≡ dot (signed_list 8 (drop p t)) x
+  summed-end h =
+      let q : ℕ = p + 2 * i in
+      sym (ap (λ (z : ℤ). sum +ℤ z) (ap (dot (signed_list (8 - i) (drop q t))) (drop_of_length-le x h) ∙ dot-nil (signed_list (8 - i) (drop q t))) ∙ +ℤ_idr sum) ∙ m.same
 
-pub summed-size : (t : List ℕ) (p : ℕ) (x : List ℤ) (s i q : ℕ) → Summed t p x s i q → length x ≤ 8 → (B : ℕ) → AllWithin B x → Within (8 * (32768 * B)) (to_z w64 s)
-summed-size t p x s i q m h B b = let u = m.inside in let l : i ≤ 8 = omega arith in within-mono (mul-le-mul l (le_refl (32768 * B))) (m.size B b)
+  pub summed-size : i ≤ 8 → (B : ℕ) → AllWithin B x → Within (8 * (32768 * B)) sum
+  summed-size l B b = within-mono (mul-le-mul l (le_refl (32768 * B))) (m.size B b)
 
-pub fit-a : {p : ℤ} → Within 32768 p → SFits w64 p
+fit-a : {p : ℤ} → Within 32768 p → SFits w64 p
 fit-a h = fits_by (search bounds depth 20) (omega arith)
 
-pub fit-x : {q : ℤ} → Within 549755813888 q → SFits w64 q
+fit-x : {q : ℤ} → Within 549755813888 q → SFits w64 q
 fit-x h = fits_by (search bounds depth 20) (omega arith)
 
-pub fit-mul : {p q : ℤ} → Within 32768 p → Within 549755813888 q → SFits w64 (p *ℤ q)
+fit-mul : {p q : ℤ} → Within 32768 p → Within 549755813888 q → SFits w64 (p *ℤ q)
 fit-mul h k = fits_by (search bounds depth 20) (omega arith)
 
 pub fit-add : {n : ℕ} {d p q : ℤ} → Within (n * (32768 * 549755813888)) d → n ≤ 8 → Within 32768 p → Within 549755813888 q → SFits w64 (d +ℤ p *ℤ q)
 fit-add hd hn h k = fits_by (search bounds depth 20) (omega arith)
+
+pub product-fits : {p q : ℤ} → Within 32768 p → Within 549755813888 q → SFits w64 (to_z w64 (of_z w64 p) *ℤ to_z w64 (of_z w64 q))
+product-fits h k = rw (to_z_of_z (fit-a h), to_z_of_z (fit-x k)) (fit-mul h k)
+
+pub product-is : {p q : ℤ} → Within 32768 p → Within 549755813888 q → to_z w64 (of_z w64 (to_z w64 (of_z w64 p) *ℤ to_z w64 (of_z w64 q))) ≡ p *ℤ q
+product-is h k = rw (to_z_of_z (fit-a h), to_z_of_z (fit-x k)) (to_z_of_z (fit-mul h k))
 
 -- ---- a quotient
 pub sum-within : {c a : ℤ} → Within 2147483648 c → Within (8 * (32768 * 1048576)) a → Within 549755813888 (c +ℤ a)

@@ -1,31 +1,31 @@
 -- Which table holds a point first.
-use mathlib.Core.Path.{◌≡◌, refl, sym, ap, ap₂, ◌∙◌}
+use mathlib.Core.Path.{◌≡◌, sym, ap, ap₂, ◌∙◌}
 use mathlib.Core.Bool.{Bool, true, false, cond}
 use mathlib.Core.List.{List}
-use Prim.Native.Nat.{ℕ, zero, suc}
-use native.Mathlib.Omega.{arith}
+use Prim.Native.Nat.{ℕ}
 use lib.IntN.{ℤ}
 use lib.ListN.{take}
 use Rattle.model.specs.Sets.{Set}
 use Rattle.codec.specs.Bytes.{Answer, refused, decode, number}
 use Rattle.codec.specs.Places.{set_from}
+use Rattle.std.proofs.Common.{Result, Ok, Err}
+use Rattle.std.specs.Result.{is_ok}
+use Rattle.std.proofs.lemmas.Bool.{true≢false}
+use Rattle.model.specs.declared.refusal.Refusal.{Refusal}
+use Rattle.model.specs.Refused.{number_of, number_in}
+use Rattle.codec.proofs.Refusing.{refused-by}
 use Rattle.codec.proofs.Boundaries.{decode_is}
 use Rattle.query.specs.Member.{point_fits}
-use Rattle.query.specs.Holder.{first_holding, first, second, nobody, in_either, holder_of, on_both, holder_bytes}
+use Rattle.query.specs.Holder.{first_holding, nobody, in_either, holder_of, on_both, holder_bytes}
 
-pub either_first : (k j : ℕ) → (k ≡ 0 → ⊥) → record { table = first; number = k } ≡ in_either k j
-either_first zero j h = absurd (h refl)
-either_first (suc k) j h = refl
+-- ---- what an answer has by the test of the result that stands for it
+pub refused-some : {A B : Type 0} (r : Result A Refusal) (a : Answer B) → false ≡ is_ok r → number_in r ≡ number a → (m : ℕ) × (a ≡ refused m)
+refused-some (Ok x) a t e = absurd (true≢false (sym t))
+refused-some (Err r) a t e = (number_of r, refused-by r a e)
 
-pub either_second : (k j : ℕ) → k ≡ 0 → (j ≡ 0 → ⊥) → record { table = second; number = j } ≡ in_either k j
-either_second zero zero e h = absurd (h refl)
-either_second zero (suc j) e h = refl
-either_second (suc k) j e h = absurd (omega arith)
-
-pub either-none : (k j : ℕ) → k ≡ 0 → j ≡ 0 → nobody ≡ in_either k j
-either-none zero zero e f = refl
-either-none zero (suc j) e f = absurd (omega arith)
-either-none (suc k) j e f = absurd (omega arith)
+pub accepted-some : {A : Type 0} (r : Result A Refusal) (k : ℕ) → true ≡ is_ok r → number_in r ≡ k → k ≡ 0
+accepted-some (Ok x) k t e = sym e
+accepted-some (Err r) k t e = absurd (true≢false t)
 
 module _ (n : ℕ) (a b : List ℕ) (x : List ℤ) where
   pub bad-first : (m : ℕ) → decode n a ≡ refused m → nobody ≡ holder_bytes n a b x

@@ -1,12 +1,13 @@
 -- The holder of a point, as the code answers it: the very part of the table it came from.
-use Rattle.std.specs.Prelude.{cond, List, ℕ, ◌+◌}
+use Rattle.std.specs.Prelude.{cond, List, ℕ, ◌+◌, Option, Some, None}
 use Rattle.std.specs.Borrow.{Bor}
 use Rattle.codec.specs.Parts.{part_of, held}
-use Rattle.query.specs.Holder.{first, second, Holder}
+use Rattle.query.specs.Holder.{first, second, Holder, nobody}
 use Rattle.query.specs.declared.holders.Seat.{Seat}
 
-abbrev pub holder_is : Seat → Holder
-holder_is s = record { table = cond s.second second first; number = s.number }
+abbrev pub holder_is : Option Seat → Holder
+holder_is None = nobody
+holder_is (Some s) = record { table = cond s.second second first; number = s.number }
 
 -- where a reference points, and the bytes there
 abbrev pub seen : Bor (List ℕ) → (ℕ × ℕ) × List ℕ

@@ -1,5 +1,5 @@
 -- Of two sets, the first basic set that holds a point (document 01, "Asking").
-use Rattle.std.specs.Prelude.{cond, List, [], ◌∷◌, ℕ, zero, suc, ℤ, take}
+use Rattle.std.specs.Prelude.{cond, List, [], ◌∷◌, ℕ, zero, suc, ℤ, take, Option, Some, None}
 use Rattle.model.specs.Sets.{Set, in_basic}
 use Rattle.codec.specs.Bytes.{Answer, refused, gives, decode}
 use Rattle.query.specs.Member.{point_fits}
@@ -8,6 +8,11 @@ use Rattle.query.specs.Member.{point_fits}
 abbrev pub first_holding : ℕ → List ℤ → Set → ℕ
 first_holding k x [] = 0
 first_holding k x (b ∷ s) = cond (in_basic x b) k (first_holding (suc k) x s)
+
+-- a number from 1; 0 is no number
+abbrev pub numbered : ℕ → Option ℕ
+numbered zero = None
+numbered (suc k) = Some (suc k)
 
 pub data Table : Type 0 where
   first second : Table

@@ -1,17 +1,17 @@
 -- What the code knows on its way through the checked bytes of a set, and what its answers mean.
-use Rattle.std.specs.Prelude.{◌≡◌, Bool, true, false, ◌&&◌, ◌||◌, List, ℕ, ◌≤◌, ltb, ℤ, length, take, drop}
+use Rattle.std.specs.Prelude.{◌≡◌, Bool, ◌&&◌, ◌||◌, List, ℕ, ◌≤◌, ltb, ℤ, length, take, drop, Result}
 use Rattle.model.specs.Limits.{most_axes, most_divisions, most_coordinate}
 use Rattle.model.specs.Lists.{all}
 use Rattle.model.specs.Sets.{Constraint, BasicSet, is_zero, quotients}
 use Rattle.query.specs.Member.{coordinate}
-use Rattle.codec.specs.Bytes.{Answer, refused, gives}
+use Rattle.model.specs.declared.refusal.Refusal.{Refusal}
+use Rattle.codec.specs.Bytes.{Answer}
+use Rattle.codec.specs.Refusing.{answer_is}
 use Rattle.codec.specs.Places.{built, basic_at, end_of, Tail, Past}
 use Rattle.codec.specs.declared.layout.Passed.{Passed}
 use Rattle.bounds.specs.Sizes.{most_quotient}
 pub use Rattle.bounds.specs.Ends.{AllWithin}
 use Rattle.query.specs.declared.membership.Span.{Span}
-use Rattle.query.specs.declared.membership.Membership.{Membership}
-use Rattle.query.specs.declared.membership.Membership.TheVariants.{In, Out, Refused}
 
 -- a point as the code has it: whole numbers for the axes, none beyond the range of a coordinate
 pub record Point (x : List ℤ) : Type 0 where
@@ -47,11 +47,9 @@ pub record Spanned (s : List ℕ) (start : ℕ) (ok : BasicSet → Bool) (r : Sp
   pub is : r.holds ≡ ok (basic_at s start)
   pub next : r.next ≡ end_of s start
 
--- the answers of member: 1, 0, or minus the number for the board's host
-abbrev pub member_is : Membership → Answer Bool
-member_is In = gives true
-member_is Out = gives false
-member_is (Refused m) = refused m
+-- the answers of member
+abbrev pub member_is : Result Bool Refusal → Answer Bool
+member_is r = answer_is (λ b. b) r
 
 -- z can be coordinate i, from 0, of a point with n axes
 abbrev pub coordinate_fits : ℕ → ℕ → ℤ → Bool

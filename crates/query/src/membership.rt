@@ -6,12 +6,12 @@ ghost use Rattle.codec.specs.Bytes.{is_constraint, constraint_body, read_constra
 ghost use Rattle.codec.specs.Places.{Opened, Accepted, Tail, set_from};
 ghost use Rattle.bounds.specs.Sizes.{most_quotient};
 ghost use Rattle.query.specs.Member.{member_bytes, point_fits};
-ghost use Rattle.query.specs.Holder.{first_holding};
+ghost use Rattle.query.specs.Holder.{first_holding, numbered};
 ghost use Rattle.query.specs.Holding.{AllWithin, Point, Values, Divided, Judging, Judged, Spanned, member_is, coordinate_fits};
 
 use crate::values::{holds_at, quotient_at};
 use codec::Passed;
-use model::{limit, refusal};
+use model::{Refusal, limit};
 
 const LEAST_COORDINATE: i32 = -limit::COORDINATE;
 
@@ -20,13 +20,6 @@ const LEAST_COORDINATE: i32 = -limit::COORDINATE;
 pub struct Span {
     pub holds: bool,
     pub next: usize,
-}
-
-#[derive(Clone, Copy)]
-pub enum Membership {
-    In,
-    Out,
-    Refused(u32),
 }
 
 // The values of the divisions of the basic set whose commands start at `start`; how many these are, and the place after
@@ -53,10 +46,7 @@ fn still(before: bool, b: u8, t: &[u8], x: &[i64], q: &[i64]) -> bool
     requires { (constraint_body ≤ length t.now) × Point x.now × Values q.now }
     ensures { result ≡ (before && M.holds (pos 1) x.now q.now (read_constraint (kind_of b) t.now)) }
 {
-    if before {
-        return holds_at(b, t, x, q);
-    }
-    false
+    before && holds_at(b, t, x, q)
 }
 
 // The constraint at a place, behind those that hold or not.
@@ -84,10 +74,7 @@ fn bare_judged(s: &[u8], start: usize, so: bool, x: &[i64], q: &[i64]) -> Span
         holds = r.holds;
         at = r.next;
     }
-    Span {
-        holds: holds,
-        next: at,
-    }
+    Span { holds, next: at }
 }
 
 // Whether the constraints from `start` on hold, and the place after them.
@@ -103,10 +90,7 @@ fn judged(s: &[u8], start: usize, x: &[i64], q: &[i64]) -> Span
         holds = r.holds;
         at = r.next;
     }
-    Span {
-        holds: holds,
-        next: at,
-    }
+    Span { holds, next: at }
 }
 
 // The basic set whose commands start at `start`.
@@ -120,92 +104,56 @@ pub fn spanned(s: &[u8], start: usize, x: &[i64]) -> Span
     judged(s, p.next, x, &q[..d])
 }
 
-// The number, from 1, of the first basic set that holds the point; 0: none does.
-pub fn first_holding(s: &[u8], x: &[i64]) -> usize
+// The number, from 1, of the first basic set that holds the point.
+pub fn first_holding(s: &[u8], x: &[i64]) -> Option<usize>
     requires { Accepted s.now × Point x.now }
-    ensures { result ≡ first_holding 1 x.now (set_from s.now 0) }
+    ensures { result ≡ numbered (first_holding 1 x.now (set_from s.now 0)) }
 {
     let mut at = 0;
     let mut number = 0;
     while at < s.len() {
         number += 1;
-        let e = spanned(s, at + 1, x);
-        if e.holds {
-            return number;
+        let span = spanned(s, at + 1, x);
+        if span.holds {
+            return Some(number);
         }
-        at = e.next;
+        at = span.next;
     }
-    0
+    None
 }
 
 // Whether z can be coordinate i of a point with n axes.
 pub fn coordinate_fits(n: usize, i: usize, z: i32) -> bool
     ensures { result ≡ coordinate_fits n i z }
 {
-    if z < LEAST_COORDINATE {
-        return false;
-    }
-    if limit::COORDINATE < z {
-        return false;
-    }
-    if i < n {
-        return true;
-    }
-    z == 0
+    LEAST_COORDINATE <= z && z <= limit::COORDINATE && (i < n || z == 0)
 }
 
 // Whether a point has its coordinates in their range, and 0 on absent axes.
 pub fn point_fits(n: usize, point: [i32; limit::AXES]) -> bool
     ensures { result ≡ point_fits n point }
 {
-    let mut i = 0;
-    while i < limit::AXES {
-        let z = point[i];
-        if !coordinate_fits(n, i, z) {
-            return false;
-        }
-        i += 1;
-    }
-    true
-}
-
-pub fn wide(z: i32) -> i64
-    ensures { result ≡ z }
-{
-    z as i64
+    point
+        .iter()
+        .enumerate()
+        .all(|(i, z)| coordinate_fits(n, i, *z))
 }
 
 // The same numbers, wider.
 pub fn widened(p: [i32; limit::AXES]) -> [i64; limit::AXES]
     ensures { (result ≡ p) × (length result ≡ most_axes) }
 {
-    [
-        wide(p[0]),
-        wide(p[1]),
-        wide(p[2]),
-        wide(p[3]),
-        wide(p[4]),
-        wide(p[5]),
-        wide(p[6]),
-        wide(p[7]),
-    ]
+    p.map(i64::from)
 }
 
 // Whether the point is in the set of the bytes.
-pub fn member(n: usize, set: &[u8], point: [i32; limit::AXES]) -> Membership
+pub fn member(n: usize, set: &[u8], point: [i32; limit::AXES]) -> Result<bool, Refusal>
     ensures { member_is result ≡ member_bytes n set.now point }
 {
-    let c = codec::check(n, set);
-    if c != 0 {
-        return Membership::Refused(c);
-    }
+    codec::check(n, set)?;
     if !point_fits(n, point) {
-        return Membership::Refused(refusal::BAD_POINT);
+        return Err(Refusal::BadPoint);
     }
     let x = widened(point);
-    let k = first_holding(set, &x[..n]);
-    if k == 0 {
-        return Membership::Out;
-    }
-    Membership::In
+    Ok(first_holding(set, &x[..n]).is_some())
 }

@@ -13,15 +13,11 @@ fn dot_at(t: &[u8], p: usize, x: &[i64]) -> i64
     ensures is { result ≡ dot (signed_list coefficient_places (drop p t.now)) x.now }
     ensures size { (B : ℕ) → AllWithin B x.now → Within (coefficient_places * (32768 * B)) result }
 {
-    let mut s: i64 = 0;
-    let mut i = 0;
-    let mut q = p;
-    while i < x.len() {
-        s += codec::s16_at(t, q) * x[i];
-        q += 2;
-        i += 1;
+    let mut sum = 0;
+    for (i, v) in x.iter().enumerate() {
+        sum += codec::s16_at(t, p + 2 * i) * *v;
     }
-    s
+    sum
 }
 
 // The value of the division by d whose body is t.

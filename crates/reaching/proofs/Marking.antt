@@ -20,7 +20,7 @@ use Rattle.planning.proofs.Marks.{Once, NamesBelow, once-marked, once-through, n
 use Rattle.simplex.proofs.Columns.{tabulate-at}
 use Rattle.memory.specs.Memory.{Memory, fitting, Fits, slot_copied, ranks_of, newest, forgotten}
 use Rattle.memory.specs.Sound.{is_word}
-use Rattle.states.specs.declared.Said.TheVariants.{Refused}
+use Rattle.states.specs.Calls.{Refused}
 use Rattle.states.specs.Calls.{Step, stepped, said_of, ranked, marked_in, mark_step, back_in, back_step}
 use Rattle.states.proofs.Stepping.{mark-over, mark-done, back-over, back-never, back_done}
 use Rattle.reaching.specs.Shows.{slot_of, used_of, word_for, rank_in, ShowsState, Shows}

@@ -38,7 +38,7 @@ use Rattle.simplex.proofs.Filled.{sort-free, sort-bound}
 use Rattle.simplex.proofs.Bridge.{Ends, reach-shows}
 use Rattle.carrying.proofs.Runs.{run-keeps}
 use Rattle.memory.specs.Memory.{Memory, Fits, forgotten, ranks_of}
-use Rattle.states.specs.declared.Said.TheVariants.{Refused}
+use Rattle.states.specs.Calls.{Refused}
 use Rattle.rules.specs.Divisions.{divisions_in}
 use Rattle.states.specs.Calls.{Step, stepped, said_of, word_number, first_place, first_kinds, first_rows, start_end, opened_in, opens, start_step}
 use Rattle.states.proofs.Tables.{bounds-count, place-long, kinds-long, kind_at, first-shows, first_fine}

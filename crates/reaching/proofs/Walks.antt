@@ -26,8 +26,8 @@ use Rattle.planning.proofs.Back.{Keeps, KeepsAll, unknown-18, rules-by-state, Re
 use Rattle.planning.proofs.Reached.{reached-on, reached-all, reached-empty, reached-point, reached-back}
 use Rattle.memory.specs.Memory.{Memory, fitting}
 use Rattle.memory.proofs.Copies.{fitting-fits}
-use Rattle.states.specs.declared.Said.{Said}
-use Rattle.states.specs.declared.Said.TheVariants.{Point, Empty, Refused, Misused}
+use Rattle.states.specs.Calls.{Saying}
+use Rattle.states.specs.Calls.{Point, Empty, Refused, Misused}
 use Rattle.rules.specs.declared.Rule.{Rule}
 use Rattle.rules.specs.Rules.{rule_of}
 use Rattle.states.specs.Calls.{Step, stepped}
@@ -60,7 +60,7 @@ walk-on [] f d g y h = record { said = refl; kept = g; shows = h; slots = λ j l
 walk-on (c ∷ cs) f d g y h =
     let m = call-meets c f.0 d g y h in
     let w = walk-on cs f.1 (left (call_answer (meant c) d) d) m.kept (step_of c y).memory m.shows in
-    record { said = ap₂ (λ (x : Said) (l : List Said). x ∷ l) m.said w.said; kept = w.kept; shows = w.shows; slots = λ j l n. w.slots j l n.1 ∙ m.slots j l n.0 }
+    record { said = ap₂ (λ (x : Saying) (l : List Saying). x ∷ l) m.said w.said; kept = w.kept; shows = w.shows; slots = λ j l n. w.slots j l n.1 ∙ m.slots j l n.0 }
 
 -- ---- a mark that is not made anew is the mark it was, or is gone
 
@@ -187,7 +187,7 @@ module _ (y : Memory) (fit : T (fitting y)) (n : ℕ) (xs : List ℤ) (cs : List
   -- what is said is planning's words, one after another
   pub walk-words : saids (start n xs ∷ cs) y ≡ map told (words n (divisions_of xs) (map meant cs))
   walk-words =
-      ap₂ (λ (x : Said) (l : List Said). x ∷ l) begun.said walked.said
+      ap₂ (λ (x : Saying) (l : List Saying). x ∷ l) begun.said walked.said
       ∙ ap (λ (a : Answer (Desk State)). map told (words_from begins adds a (map meant cs))) (sym given)
 
   -- the memory after them shows planning's desk
@@ -285,13 +285,13 @@ never (gives dropped) e = let z : ◌≡◌ {A = ℕ} 0 1 = cc in omega arith
 never (gives long) e = let z : ◌≡◌ {A = ℕ} 0 1 = cc in omega arith
 never (gives wide) e = let z : ◌≡◌ {A = ℕ} 0 1 = cc in omega arith
 
-never-all : (l : List (Answer Verdict)) → All (λ (x : Said). x ≡ Misused → ⊥) (map told l)
+never-all : (l : List (Answer Verdict)) → All (λ (x : Saying). x ≡ Misused → ⊥) (map told l)
 never-all [] = tt
 never-all (a ∷ l) = (never a, never-all l)
 
 pub walk-never-misused : (y : Memory) → T (fitting y) → (n : ℕ) (xs : List ℤ) (cs : List Call) → AllFormed (start n xs ∷ cs) → (d : Desk State) → start_answer n (divisions_of xs) ≡ gives d
-    → All (λ (x : Said). x ≡ Misused → ⊥) (saids (start n xs ∷ cs) y)
-walk-never-misused y fit n xs cs f d q = subst (All (λ (x : Said). x ≡ Misused → ⊥)) (sym (walk-words y fit n xs cs f d q)) (never-all (words n (divisions_of xs) (map meant cs)))
+    → All (λ (x : Saying). x ≡ Misused → ⊥) (saids (start n xs ∷ cs) y)
+walk-never-misused y fit n xs cs f d q = subst (All (λ (x : Saying). x ≡ Misused → ⊥)) (sym (walk-words y fit n xs cs f d q)) (never-all (words n (divisions_of xs) (map meant cs)))
 
 -- a start that is refused says so and leaves every word
 pub start-refused-leaves : (y : Memory) → T (fitting y) → (n : ℕ) (xs : List ℤ) → Formed (start n xs) → (c : ℕ) → start_answer n (divisions_of xs) ≡ refused c → step_of (start n xs) y ≡ stepped (Refused c) y

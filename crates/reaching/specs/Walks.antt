@@ -6,8 +6,8 @@ use Rattle.codec.specs.Bytes.{Answer, refused, gives}
 use Rattle.feasibility.specs.Tableau.{Verdict, point, dropped, wide, long}
 use Rattle.planning.specs.Desk as D
 use Rattle.memory.specs.Memory.{Memory}
-use Rattle.states.specs.declared.Said.{Said}
-use Rattle.states.specs.declared.Said.TheVariants.{Point, Empty, Wide, Long, Refused}
+use Rattle.states.specs.Calls.{Saying}
+use Rattle.states.specs.Calls.{Point, Empty, Wide, Long, Refused}
 use Rattle.rules.specs.declared.Rule.{Rule}
 use Rattle.rules.specs.Rules.{rule_of}
 use Rattle.rules.specs.Divisions.{divisions_in}
@@ -59,7 +59,7 @@ step_of (add r) y = add_step (rule_of r) y
 step_of (mark k) y = mark_step k y
 step_of (back k) y = back_step k y
 
-abbrev pub saids : List Call → Memory → List Said
+abbrev pub saids : List Call → Memory → List Saying
 saids [] y = []
 saids (c ∷ cs) y = (step_of c y).said ∷ saids cs (step_of c y).memory
 
@@ -69,12 +69,12 @@ memory_after (c ∷ cs) y = memory_after cs (step_of c y).memory
 
 -- ---- what the document's answers are called here
 
-abbrev pub saying_of : Verdict → Said
+abbrev pub saying_of : Verdict → Saying
 saying_of point = Point
 saying_of dropped = Empty
 saying_of wide = Wide
 saying_of long = Long
 
-abbrev pub told : Answer Verdict → Said
+abbrev pub told : Answer Verdict → Saying
 told (refused k) = Refused k
 told (gives v) = saying_of v

@@ -1,29 +1,21 @@
 -- Laws of what is put into a table, and of the bytes that are put.
 use mathlib.Core.Path.{◌≡◌, refl, sym, ap, ap₂, ◌∙◌, subst}
-use mathlib.Core.Bool.{true, false}
 use mathlib.Core.List.{List, [], ◌∷◌, ◌++◌, map, append_assoc, append-nil}
-use Prim.Native.Nat.{ℕ, zero, suc, ◌+◌, ◌-◌, ◌/◌, ◌%◌, ◌^◌, ◌≤◌, ◌<◌}
+use Prim.Native.Nat.{ℕ, zero, suc, ◌+◌, ◌-◌, ◌/◌, ◌%◌, ◌≤◌, ◌<◌}
 use native.Mathlib.Numerals.{add-one}
 use native.Mathlib.Nat.{add-zero}
 use native.Mathlib.Omega.{arith}
-use lib.IntN.{ℤ, pos, negsuc, ◌+ℤ◌}
-use lib.Dec.{ltb→lt}
-use lib.Signed.{◌<ℤ◌, ◌≤ℤ◌, lt_z, mag}
-use mir.Syntax.{Width, w64}
-use mir.Val.{SFits, hbits, to_z, of_z}
-use Rattle.integers.specs.Mach.{to_z_of_z, lt_z-true, lt_z-false}
 use lib.ListN.{length, take, drop, get_or, set, replicate, length-append, length-replicate, drop_of_length-le}
-use lib.Seq.{sets, sets-eq, length-sets, set_out, take-suc, take_at, length-take-le, take_all, drop-length}
-use Rattle.integers.specs.Lin.{lin, lia-eq}
+use lib.Seq.{sets, sets-eq, length-sets, set_out, take-suc, take_at, length-take-le, take_all, drop-length, drop-drop}
 use Rattle.model.specs.Lists.{concat_map}
 use Rattle.model.specs.Sets as S
 use Rattle.model.specs.Values.{division_of, constraint_of, basic_set_of}
 use Rattle.model.specs.declared.Division.{Division}
 use Rattle.model.specs.declared.Constraint.{Constraint}
 use Rattle.model.specs.declared.BasicSet.{BasicSet}
-use Rattle.codec.specs.Bytes.{bytes_of, unsigned, Command, division, constraint, encode_command, encode}
+use Rattle.codec.specs.Bytes.{bytes_of, Command, division, constraint, encode_command, encode}
 use Rattle.codec.proofs.Commands.{concat-more, concat-map}
-use Rattle.records.specs.Writing.{put, Emitted, cleared}
+use Rattle.records.specs.Writing.{put, Emitted}
 
 -- ---- put
 put-sets : (at : ℕ) (l o : List ℕ) → put at l o ≡ sets o at l
@@ -39,10 +31,6 @@ pub put_one : (at b : ℕ) (o : List ℕ) → put at (b ∷ []) o ≡ set o at b
 unfolding put
 put_one at b o = refl
 
-pub put-cons : (at b : ℕ) (l o : List ℕ) → put at (b ∷ l) o ≡ put (at + 1) l (set o at b)
-unfolding put
-put-cons at b l o = rw add-one
-
 -- l, and then m behind it
 pub put-more : (at : ℕ) (l m o : List ℕ) → put at (l ++ m) o ≡ put (at + length l) m (put at l o)
 unfolding put
@@ -55,6 +43,12 @@ put-length at l o = ap length (put-sets at l o) ∙ length-sets o at l
 -- with room for all of l
 pub put_whole : (at : ℕ) (l o : List ℕ) → at + length l ≤ length o → put at l o ≡ take at o ++ (l ++ drop (at + length l) o)
 put_whole at l o h = put-sets at l o ∙ sets-eq l o at h ∙ append_assoc (take at o) l (drop (at + length l) o)
+
+-- as a part of the table that l is copied to
+pub put-mid : (at n : ℕ) (l m o : List ℕ) → m ≡ l → n ≡ length l → at + length l ≤ length o → take at o ++ (m ++ drop n (drop at o)) ≡ put at l o
+put-mid at n l m o e f h =
+    ap₂ (λ (x : List ℕ) (i : ℕ). take at o ++ (x ++ drop i (drop at o))) e f
+    ∙ ap (λ (t : List ℕ). take at o ++ (l ++ t)) (drop-drop (length l) at o) ∙ sym (put_whole at l o h)
 
 -- with room for none
 pub put-past : (at : ℕ) (l o : List ℕ) → length o ≤ at → put at l o ≡ o
@@ -83,32 +77,6 @@ put_next at i l o h =
     ∙ ap (λ (j : ℕ). put (at + j) (get_or l i 0 ∷ []) (put at (take i l) o)) (sym e)
     ∙ sym (put-more at (take i l) (get_or l i 0 ∷ []) o) ∙ ap (λ (m : List ℕ). put at m o) (sym (take-suc l i 0 h) ∙ ap (λ (j : ℕ). take j l) (sym (add-one i)))
 
--- zeros, one by one
-pub zeros-next : (from d : ℕ) (o : List ℕ) → set (put from (replicate d 0) o) (from + d) 0 ≡ put from (replicate (d + 1) 0) o
-zeros-next from d o =
-    sym (put_one (from + d) 0 (put from (replicate d 0) o))
-    ∙ ap (λ (j : ℕ). put (from + j) (0 ∷ []) (put from (replicate d 0) o)) (sym (length-replicate d 0))
-    ∙ sym (put-more from (replicate d 0) (0 ∷ []) o) ∙ ap (λ (m : List ℕ). put from m o) (last d ∙ ap (λ (j : ℕ). replicate j 0) (sym (add-one d)))
-  where
-    last : (d : ℕ) → replicate {A = ℕ} d 0 ++ 0 ∷ [] ≡ replicate (suc d) 0
-    last zero = refl
-    last (suc d) = ap (λ (r : List ℕ). 0 ∷ r) (last d)
-
-pub zeros-end : (from d : ℕ) (o : List ℕ) → length o ≤ from + d → d ≤ length o - from → put from (replicate d 0) o ≡ cleared from o
-zeros-end from d o h k = by (length o - from) refl
-  where
-    by : (x : ℕ) → length o - from ≡ x → put from (replicate d 0) o ≡ cleared from o
-    by zero q =
-        put-past from (replicate d 0) o (omega arith)
-        ∙ sym (ap (λ (j : ℕ). take from o ++ replicate j 0) q ∙ append-nil (take from o) ∙ take_all from o (omega arith))
-    by (suc x) q =
-        let e : d ≡ length o - from = omega arith in
-        let n = length-replicate {A = ℕ} d 0 in
-        let past : length o ≤ from + length (replicate {A = ℕ} d 0) = omega arith in
-        put_whole from (replicate d 0) o (omega arith)
-        ∙ ap (λ (r : List ℕ). take from o ++ (replicate d 0 ++ r)) (drop_of_length-le o past)
-        ∙ ap (λ (r : List ℕ). take from o ++ r) (append-nil (replicate d 0)) ∙ ap (λ (j : ℕ). take from o ++ replicate j 0) e
-
 -- a table of its own that is filled whole
 pub put-fresh : (l o : List ℕ) → length o ≡ length l → put 0 l o ≡ l
 put-fresh l o e =
@@ -123,12 +91,6 @@ put_front l o h = ap (take (length l)) (put_whole 0 l o (omega arith)) ∙ take_
 pub emitted-none : (o : List ℕ) (at : ℕ) → Emitted [] o at at o
 emitted-none o at = record { ends = omega arith; bytes = sym (put-none at o) }
 
-pub emitted-one : (o : List ℕ) (at b : ℕ) → Emitted (b ∷ []) o at (at + 1) (set o at b)
-emitted-one o at b = record { ends = refl; bytes = sym (put_one at b o) }
-
-pub emitted-two : (o : List ℕ) (at b c : ℕ) → Emitted (b ∷ c ∷ []) o at (at + 2) (set (set o at b) (at + 1) c)
-emitted-two o at b c = record { ends = refl; bytes = sym (put-cons at b (c ∷ []) o ∙ put_one (at + 1) c (set o at b)) }
-
 pub emitted-more : {l m o o₁ o₂ : List ℕ} {at a e : ℕ} → Emitted l o at a o₁ → Emitted m o₁ a e o₂ → Emitted (l ++ m) o at e o₂
 emitted-more {l} {m} {o} {o₁} {o₂} {at} {a} {e} p q =
     record {
@@ -136,44 +98,8 @@ emitted-more {l} {m} {o} {o₁} {o₂} {at} {a} {e} p q =
       bytes = q.bytes ∙ ap₂ (λ (i : ℕ) (r : List ℕ). put i m r) p.ends p.bytes ∙ sym (put-more at l m o);
     }
 
--- ---- the bits of a signed number x of width w, k bytes
-unsigned-nonneg : (k : ℕ) (z : ℤ) → pos 0 ≤ℤ z → z ≡ pos (unsigned k z)
-unsigned-nonneg k (pos n) h = refl
-unsigned-nonneg k (negsuc n) h = absurd h.le
-
-unsigned_negative : (k W H : ℕ) → 256 ^ k ≡ W → H ≤ W → (z : ℤ) → mag z < H → z <ℤ pos 0 → z +ℤ pos W ≡ pos (unsigned k z)
-unsigned_negative k W H e h (pos n) f l = absurd (omega (arith, ltb→lt n 0 l.lt))
-unsigned_negative k W H e h (negsuc n) f l =
-    let m = W - suc n in lia-eq (pos n ∷ pos W ∷ pos m ∷ []) [] (search lin depth 30) (omega arith) ∙ ap (λ (x : ℕ). pos (x - suc n)) (sym e)
-
-unsigned-below : (k W H : ℕ) → 256 ^ k ≡ W → H ≤ W → (z : ℤ) → mag z < H → unsigned k z ≤ W
-unsigned-below k W H e h (pos n) f = omega arith
-unsigned-below k W H e h (negsuc n) f = ap-le (256 ^ k) e
-  where
-    ap-le : (x : ℕ) → x ≡ W → x - suc n ≤ W
-    ap-le x q = omega arith
-
-module _ (w : Width) (k W : ℕ) (e : 256 ^ k ≡ W) (big : 2 ^ hbits w ≤ W) (small : W ≤ 4294967296) (x : ℤ) (f : SFits w x) where
-  pub bits-wide : SFits w64 (to_z w (of_z w x))
-  bits-wide = rw (to_z_of_z f) (record { sfits = let m = f.sfits in omega arith })
-
-  pub bits_below : unsigned k x ≤ 4294967296
-  bits_below = let l = unsigned-below k W (2 ^ hbits w) e big x f.sfits in omega arith
-
-  pub bits-nonneg : lt_z (to_z w (of_z w x)) (pos 0) ≡ false → to_z w (of_z w x) ≡ pos (unsigned k x)
-  bits-nonneg t = to_z_of_z f ∙ unsigned-nonneg k x (lt_z-false x (pos 0) (rw (to_z_of_z f) at t))
-
-  module _ (t : lt_z (to_z w (of_z w x)) (pos 0) ≡ true) where
-    sum_is : to_z w64 (of_z w64 (to_z w (of_z w x))) +ℤ pos W ≡ pos (unsigned k x)
-    sum_is =
-        ap (λ (z : ℤ). z +ℤ pos W) (to_z_of_z bits-wide ∙ to_z_of_z f)
-        ∙ unsigned_negative k W (2 ^ hbits w) e big x f.sfits (lt_z-true x (pos 0) (rw (to_z_of_z f) at t))
-
-    pub bits-sum : SFits w64 (to_z w64 (of_z w64 (to_z w (of_z w x))) +ℤ pos W)
-    bits-sum = rw sum_is (record { sfits = let l = bits_below in omega arith })
-
-    pub bits-negative : to_z w64 (of_z w64 (to_z w64 (of_z w64 (to_z w (of_z w x))) +ℤ pos W)) ≡ pos (unsigned k x)
-    bits-negative = to_z_of_z bits-sum ∙ sum_is
+pub emitted-of : {l m o o' : List ℕ} {at e : ℕ} → l ≡ m → Emitted l o at e o' → Emitted m o at e o'
+emitted-of {l} {m} {o} {o'} {at} {e} q p = subst (λ (x : List ℕ). Emitted x o at e o') q p
 
 -- ---- the bytes of numbers, commands and basic sets
 pub bytes_4 : (v : ℕ) → bytes_of 4 v ≡ bytes_of 2 v ++ bytes_of 2 (v / 65536)

@@ -13,6 +13,8 @@ use codec::{
 use integers::{i16_at, i32_at};
 use model::{BasicSet, Constraint, Division, limit};
 
+// Eight calls, one by one: with `array::from_fn` it is not proved that these are the coefficients (the goal `returns`), since what `from_fn` promises
+// of its closure does not give the list.
 fn coefficients(t: &[u8], p: usize) -> [i16; limit::PLACES]
     requires { p + 16 ≤ length t.now }
     ensures { result ≡ signed_list coefficient_places (drop p t.now) }
@@ -34,12 +36,10 @@ fn read_division(d: u64, t: &[u8]) -> Division
     requires { (division_body ≤ length t.now) × (d < 4294967296) }
     ensures { division_of result ≡ read_division d t.now }
 {
-    let c = i32_at(t, CONSTANT_PLACE);
-    let a = coefficients(t, AXES_PLACE);
     Division {
         divisor: d as u32,
-        constant: c,
-        axes: a,
+        constant: i32_at(t, CONSTANT_PLACE),
+        axes: coefficients(t, AXES_PLACE),
     }
 }
 
@@ -48,15 +48,12 @@ fn read_constraint(b: u8, m: u16, t: &[u8]) -> Constraint
     requires { constraint_body ≤ length t.now }
     ensures { constraint_of result ≡ numbered m (read_constraint (kind_of b) t.now) }
 {
-    let c = i32_at(t, CONSTANT_PLACE);
-    let a = coefficients(t, AXES_PLACE);
-    let e = coefficients(t, DIVISIONS_PLACE);
     Constraint {
         equality: is_equality(b),
         number: m,
-        constant: c,
-        axes: a,
-        divisions: e,
+        constant: i32_at(t, CONSTANT_PLACE),
+        axes: coefficients(t, AXES_PLACE),
+        divisions: coefficients(t, DIVISIONS_PLACE),
     }
 }
 

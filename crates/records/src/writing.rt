@@ -16,20 +16,9 @@ use model::{BasicSet, Constraint, Division, limit};
 pub fn clear(out: &mut [u8], from: usize)
     ensures { out.new ≡ cleared from out.old }
 {
-    let mut i = from;
-    while i < out.len() {
-        out[i] = 0;
-        i += 1;
+    if from < out.len() {
+        out[from..].fill(0);
     }
-}
-
-fn least(a: usize, b: usize) -> usize
-    ensures { (result ≤ a) × (result ≤ b) × ((result < a) → result ≡ b) }
-{
-    if a < b {
-        return a;
-    }
-    b
 }
 
 // Bytes as they are; the result is the place behind them.
@@ -37,59 +26,21 @@ pub fn copy_bytes(from: &[u8], out: &mut [u8], at: usize) -> usize
     requires { at + length from.now < 2 ^ 64 }
     ensures { Emitted from.now out.old at result out.new }
 {
-    if out.len() <= at {
-        return at + from.len();
-    }
-    let m = least(from.len(), out.len() - at);
-    let mut i = 0;
-    while i < m {
-        out[at + i] = from[i];
-        i += 1;
+    if at < out.len() {
+        let n = from.len().min(out.len() - at);
+        out[at..at + n].copy_from_slice(&from[..n]);
     }
     at + from.len()
 }
 
-fn half(x: i16) -> u64
-    ensures { result ≡ unsigned 2 x }
+// The same where the table has room for them.
+fn put(out: &mut [u8], at: usize, bytes: &[u8]) -> usize
+    requires { at + length bytes.now ≤ length out.old }
+    ensures { Emitted bytes.now out.old at result out.new }
 {
-    if x < 0 {
-        return (x as i64 + 65536) as u64;
-    }
-    x as u64
-}
-
-fn whole(x: i32) -> u64
-    ensures { result ≡ unsigned 4 x }
-{
-    if x < 0 {
-        return (x as i64 + 4294967296) as u64;
-    }
-    x as u64
-}
-
-fn put_8(out: &mut [u8], at: usize, b: u8) -> usize
-    requires { at < length out.old }
-    ensures { Emitted (b ∷ []) out.old at result out.new }
-{
-    out[at] = b;
-    at + 1
-}
-
-fn put_16(out: &mut [u8], at: usize, v: u64) -> usize
-    requires { at + 2 ≤ length out.old }
-    ensures { Emitted (bytes_of 2 v) out.old at result out.new }
-{
-    out[at] = (v % 256) as u8;
-    out[at + 1] = (v / 256 % 256) as u8;
-    at + 2
-}
-
-fn put_32(out: &mut [u8], at: usize, v: u64) -> usize
-    requires { at + 4 ≤ length out.old }
-    ensures { Emitted (bytes_of 4 v) out.old at result out.new }
-{
-    let p = put_16(out, at, v);
-    put_16(out, p, v / 65536)
+    let end = at + bytes.len();
+    out[at..end].copy_from_slice(bytes);
+    end
 }
 
 fn put_coefficients(out: &mut [u8], at: usize, a: [i16; limit::PLACES]) -> usize
@@ -98,10 +49,8 @@ fn put_coefficients(out: &mut [u8], at: usize, a: [i16; limit::PLACES]) -> usize
     ensures size { result ≡ at + 16 }
 {
     let mut p = at;
-    let mut i = 0;
-    while i < limit::PLACES {
-        p = put_16(out, p, half(a[i]));
-        i += 1;
+    for x in &a {
+        p = put(out, p, &x.to_le_bytes());
     }
     p
 }
@@ -111,29 +60,10 @@ fn put_division(out: &mut [u8], at: usize, e: Division) -> usize
     ensures bytes { Emitted (encode_command (division (division_of e))) out.old at result out.new }
     ensures size { result ≡ at + division_width (division_of e) }
 {
-    let p = put_8(out, at, DIVISION);
-    let p = put_16(out, p, e.divisor as u64);
-    let p = put_32(out, p, whole(e.constant));
-    let a = e.axes;
-    put_coefficients(out, p, a)
-}
-
-fn command(equality: bool) -> u8
-    ensures { result ≡ opcode (kind_is equality) }
-{
-    if equality {
-        return EQUALITY;
-    }
-    INEQUALITY
-}
-
-fn numbered_command(equality: bool) -> u8
-    ensures { result ≡ numbered_opcode (kind_is equality) }
-{
-    if equality {
-        return NUMBERED_EQUALITY;
-    }
-    NUMBERED_INEQUALITY
+    let p = put(out, at, &[DIVISION]);
+    let p = put(out, p, &e.divisor.to_le_bytes()[..2]);
+    let p = put(out, p, &e.constant.to_le_bytes());
+    put_coefficients(out, p, e.axes)
 }
 
 // What stands before the body of a constraint: the command, and its number where it has one.
@@ -143,10 +73,15 @@ fn put_head(out: &mut [u8], at: usize, equality: bool, number: u16) -> usize
     ensures size { result ≤ at + 3 }
 {
     if number == 0 {
-        return put_8(out, at, command(equality));
+        return put(out, at, &[if equality { EQUALITY } else { INEQUALITY }]);
     }
-    let p = put_8(out, at, numbered_command(equality));
-    put_16(out, p, number as u64)
+    let command = if equality {
+        NUMBERED_EQUALITY
+    } else {
+        NUMBERED_INEQUALITY
+    };
+    let p = put(out, at, &[command]);
+    put(out, p, &number.to_le_bytes())
 }
 
 fn put_constraint(out: &mut [u8], at: usize, r: Constraint) -> usize
@@ -155,21 +90,18 @@ fn put_constraint(out: &mut [u8], at: usize, r: Constraint) -> usize
     ensures size { result ≤ at + longest_constraint }
 {
     let p = put_head(out, at, r.equality, r.number);
-    let p = put_32(out, p, whole(r.constant));
-    let a = r.axes;
-    let p = put_coefficients(out, p, a);
-    let e = r.divisions;
-    put_coefficients(out, p, e)
+    let p = put(out, p, &r.constant.to_le_bytes());
+    let p = put_coefficients(out, p, r.axes);
+    put_coefficients(out, p, r.divisions)
 }
 
 fn emit_opening(out: &mut [u8], at: usize) -> usize
     requires { at < 2 ^ 63 }
     ensures { Emitted (encode_command opens) out.old at result out.new }
 {
-    if out.len() <= at {
-        return at + 1;
+    if at < out.len() {
+        out[at] = OPENS;
     }
-    out[at] = OPENS;
     at + 1
 }
 
@@ -204,20 +136,12 @@ pub fn encode_basic(b: BasicSet, out: &mut [u8], at: usize) -> usize
     requires { Encodable b at }
     ensures { Emitted (encode (basic_set_of b ∷ [])) out.old at result out.new }
 {
-    let divs = b.divs;
-    let cons = b.cons;
     let mut p = emit_opening(out, at);
-    let mut i = 0;
-    while i < divs {
-        let e = b.divisions[i];
-        p = emit_division(out, p, e);
-        i += 1;
+    for e in &b.divisions[..b.divs] {
+        p = emit_division(out, p, *e);
     }
-    let mut j = 0;
-    while j < cons {
-        let r = b.constraints[j];
-        p = emit_constraint(out, p, r);
-        j += 1;
+    for r in &b.constraints[..b.cons] {
+        p = emit_constraint(out, p, *r);
     }
     p
 }

@@ -1,9 +1,11 @@
 -- What a call answers (document 01, "Asking": the result's length, or the refusal's number).
-use Rattle.std.specs.Prelude.{ℕ}
-use Rattle.codec.specs.Bytes.{Answer, refused, gives}
-use Rattle.results.specs.declared.results.Outcome.{Outcome}
-use Rattle.results.specs.declared.results.Outcome.TheVariants.{Length, Refused}
+use Rattle.std.specs.Prelude.{ℕ, Result}
+use Rattle.model.specs.declared.refusal.Refusal.{Refusal}
+use Rattle.codec.specs.Bytes.{Answer}
+use Rattle.codec.specs.Refusing.{answer_is}
+
+abbrev pub Outcome : Type 0
+Outcome = Result ℕ Refusal
 
 abbrev pub outcome_is : Outcome → Answer ℕ
-outcome_is (Length l) = gives l
-outcome_is (Refused k) = refused k
+outcome_is r = answer_is (λ l. l) r

@@ -7,9 +7,8 @@ use Rattle.codec.specs.Bytes.{encode}
 use Rattle.records.specs.Writing.{Emitted}
 use Rattle.algebra.specs.Operations.{result}
 use Rattle.algebra.specs.Result.{Result}
-use Rattle.results.specs.declared.results.Outcome.{Outcome}
 use Rattle.results.specs.declared.results.Done.{Done}
-use Rattle.results.specs.Outcome.{outcome_is}
+use Rattle.results.specs.Outcome.{Outcome, outcome_is}
 
 -- a result that may go on: no basic set has more than longest_basic bytes
 pub record Ready (s : Done) : Type 0 where

@@ -3,4 +3,4 @@
 
 mod results;
 
-pub use results::{Done, Outcome, emit, finish, refuse};
+pub use results::{Done, emit, finish, refuse};

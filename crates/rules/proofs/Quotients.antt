@@ -1,16 +1,15 @@
 -- The divisions of a list of numbers, and their refusals. Assumes nothing.
-use mathlib.Core.Path.{◌≡◌, refl, sym, ap, ap₂, ◌∙◌, subst}
-use mathlib.Core.Bool.{Bool, true, false, ◌&&◌, cond}
+use mathlib.Core.Path.{◌≡◌, refl, sym, ap, ap₂, ◌∙◌}
+use mathlib.Core.Bool.{Bool, true, false, ◌&&◌}
 use mathlib.Core.List.{List, [], ◌∷◌, ◌++◌, map}
 use Prim.Native.Nat.{ℕ, zero, suc, ◌+◌, ◌-◌, ◌*◌, ◌≤◌, ◌<◌}
 use native.Mathlib.Nat.{le_of_suc-le-suc, not-suc-le-zero}
 use native.Mathlib.Omega.{arith}
-use borrow.Author.Tests.{ltb-true, lt-ltb, le-leb}
+use borrow.Author.Tests.{ltb-true}
 use lib.Dec.{T, leb, ltb}
 use lib.IntN.{ℤ, pos, negsuc}
-use lib.Signed.{le_z, mag}
-use lib.ListN.{length, get_or, drop, take, set}
-use lib.Seq.{drop-drop, take-suc-set, get_or-drop}
+use lib.ListN.{length, drop, take, set}
+use lib.Seq.{drop-drop, take-suc-set}
 use Rattle.model.specs.Lists.{all}
 use Rattle.model.specs.Sets as S
 use Rattle.model.specs.Sets.{absent}
@@ -18,11 +17,9 @@ use Rattle.model.specs.Values.{division_of}
 use Rattle.model.specs.declared.Division.{Division}
 use Rattle.model.proofs.Count.{and_left, and_right, to-T}
 use Rattle.model.proofs.Lists.{map-append}
-use Rattle.codec.specs.Bytes.{within, coefficient, refusal, division, constant_fits, first_failing, axes_fit}
-use Rattle.rules.specs.Expressions.{numbers_refusal}
+use Rattle.codec.specs.Bytes.{within, coefficient, refusal, division, first_failing, axes_fit}
 use Rattle.planning.specs.State.{divisions_refusal, start_refusal}
-use Rattle.rules.specs.Rules.{rule_number}
-use Rattle.rules.specs.Divisions.{unsigned, division_by, divisions_in, Proper, Listed}
+use Rattle.rules.specs.Divisions.{division_by, divisions_in, Proper, Listed}
 
 pub divisions-long : (k : ℕ) (xs : List ℤ) → length (divisions_in k xs) ≡ k
 unfolding divisions_in
@@ -72,9 +69,6 @@ module _ (n count i : ℕ) (xs : List ℤ) where
   pub rest_end : (b : ℕ) → count ≤ i → rest ≡ b → 0 ≡ b
   unfolding divisions_in
   rest_end b h g = let e : 0 ≡ count - i = omega arith in ap (λ m. divisions_refusal n i (divisions_in m (drop (10 * i) xs))) e ∙ g
-
-pub rest-start : (n count : ℕ) (xs : List ℤ) → rest n count 0 xs ≡ divisions_refusal n 0 (divisions_in count xs)
-rest-start n count xs = let e : count - 0 ≡ count = omega arith in ap (λ m. divisions_refusal n 0 (divisions_in m xs)) e
 
 -- ---- none is refused
 
@@ -138,45 +132,3 @@ made-next i xs ds d h e f =
     ∙ ap₂ (λ l x. l ++ (x ∷ [])) e f
     ∙ sym (divisions-more i xs)
     ∙ ap (λ m. divisions_in m xs) (sym s)
-
--- ---- the tests of numbers
-
-pub divisor-yes : (z : ℤ) → le_z (pos 1) z ≡ true → le_z z (pos 32767) ≡ (ltb 0 (unsigned z) && leb (unsigned z) 32767)
-divisor-yes (pos zero) e = absurd (subst T (sym e) tt)
-divisor-yes (pos (suc n)) e = rw (lt-ltb 0 (suc n) (omega arith))
-divisor-yes (negsuc n) e = absurd (subst T (sym e) tt)
-
-pub divisor-no : (z : ℤ) → le_z (pos 1) z ≡ false → false ≡ (ltb 0 (unsigned z) && leb (unsigned z) 32767)
-divisor-no (pos zero) e = refl
-divisor-no (pos (suc n)) e = let q : true ≡ false = sym (le-leb 1 (suc n) (omega arith)) ∙ e in absurd (subst T q tt)
-divisor-no (negsuc n) e = refl
-
-pub over-is : (z : ℤ) → 0 < unsigned z → z ≡ pos (unsigned z)
-over-is (pos n) h = refl
-over-is (negsuc n) h = absurd (not-suc-le-zero h)
-
--- 7 and 8 first, then 10
-pub ten-last : (a b d : Bool) → first_failing ((a, 7) ∷ (b, 8) ∷ (d, 10) ∷ []) ≡ or (first_failing ((a, 7) ∷ (b, 8) ∷ [])) (cond d 0 10)
-ten-last true true d = refl
-ten-last true false d = refl
-ten-last false b d = refl
-
-pub unsigned-mag : (z : ℤ) → 0 < unsigned z → unsigned z ≡ mag z
-unsigned-mag (pos n) h = refl
-unsigned-mag (negsuc n) h = absurd (not-suc-le-zero h)
-
-pub number_by : (n k rules : ℕ) (r : S.Constraint) → constant_fits r.kind r.constant ≡ true → rule_number n k rules r ≡ or (numbers_refusal n k r) (cond (ltb rules 48) 0 10)
-number_by n k rules r e =
-    let a = all coefficient r.axes && all coefficient r.divisions in
-    let b = absent n r.axes && absent k r.divisions in
-    ap (λ x. first_failing ((x && a, 7) ∷ (b, 8) ∷ (ltb rules 48, 10) ∷ [])) e ∙ ten-last a b (ltb rules 48)
-
--- ten numbers read from place `at` on
-pub quotient_is : (xs : List ℤ) (at : ℕ) (d c : ℤ) (a : List ℤ) → d ≡ get_or xs at (pos 0) → c ≡ get_or xs (at + 1) (pos 0) → a ≡ take 8 (drop (at + 2) xs)
-    → record { divisor = unsigned d; constant = c; axes = a } ≡ division_by (drop at xs)
-quotient_is xs at d c a p q r =
-    let z : at ≡ at + 0 = omega arith in
-    let x = p ∙ ap (λ i. get_or xs i (pos 0)) z ∙ sym (get_or-drop at xs 0 (pos 0)) in
-    let y = q ∙ sym (get_or-drop at xs 1 (pos 0)) in
-    let w = r ∙ ap (take 8) (sym (drop-drop 2 at xs)) in
-    rw (x, y, w)

@@ -17,30 +17,14 @@ fn is_coefficient(x: i32) -> bool
 pub fn are_coefficients(a: [i32; limit::PLACES]) -> bool
     ensures { result ≡ all coefficient a }
 {
-    let mut i: usize = 0;
-    while i < limit::PLACES {
-        let x = a[i];
-        if !is_coefficient(x) {
-            return false;
-        }
-        i += 1;
-    }
-    true
+    a.iter().all(|x| is_coefficient(*x))
 }
 
 // Whether a has nothing but 0 from place n on.
 pub fn are_absent(n: usize, a: [i32; limit::PLACES]) -> bool
     ensures { result ≡ absent n a }
 {
-    let mut i = n;
-    while i < limit::PLACES {
-        let x = a[i];
-        if x != 0 {
-            return false;
-        }
-        i += 1;
-    }
-    true
+    a.iter().skip(n).all(|x| *x == 0)
 }
 
 pub fn narrowed(a: [i32; limit::PLACES]) -> [i16; limit::PLACES]
@@ -48,11 +32,8 @@ pub fn narrowed(a: [i32; limit::PLACES]) -> [i16; limit::PLACES]
     ensures { result ≡ a }
 {
     let mut r = [0i16; limit::PLACES];
-    let mut i: usize = 0;
-    while i < limit::PLACES {
-        let x = a[i];
-        r[i] = x as i16;
-        i += 1;
+    for i in 0..limit::PLACES {
+        r[i] = a[i] as i16;
     }
     r
 }

@@ -1,33 +1,26 @@
 // An expression's own numbers: refused by 7 or 8, else an inequality's.
 ghost use Rattle.std.specs.Prelude.{◌≡◌, T};
 ghost use Rattle.model.specs.Lists.{all};
+ghost use Rattle.model.specs.Refused.{number_in};
 ghost use Rattle.model.specs.Values.{constraint_of};
 ghost use Rattle.codec.specs.Bytes.{coefficient};
 ghost use Rattle.rules.specs.Expressions.{expression_of, numbers_refusal};
 
-use crate::Expression;
-use crate::coefficients::{are_absent, are_coefficients, narrowed};
-use model::{Constraint, refusal};
+use crate::coefficients::{are_absent, are_coefficients};
+use crate::{Expression, Rule, constraint_of};
+use model::{Constraint, Refusal};
 
-// 7, 8, or 0 where the expression is one over n axes and k divisions.
-pub fn refusal(n: usize, k: usize, e: Expression) -> u32
-    ensures { result ≡ numbers_refusal n k (expression_of e) }
+// Refused by 7 or 8 unless the expression is one over n axes and k divisions.
+pub fn check_expression(n: usize, k: usize, e: Expression) -> Result<(), Refusal>
+    ensures { number_in result ≡ numbers_refusal n k (expression_of e) }
 {
-    let a = e.axes;
-    let d = e.divisions;
-    if !are_coefficients(a) {
-        return refusal::OUT_OF_RANGE;
+    if !are_coefficients(e.axes) || !are_coefficients(e.divisions) {
+        return Err(Refusal::OutOfRange);
     }
-    if !are_coefficients(d) {
-        return refusal::OUT_OF_RANGE;
+    if !are_absent(n, e.axes) || !are_absent(k, e.divisions) {
+        return Err(Refusal::NotAbsent);
     }
-    if !are_absent(n, a) {
-        return refusal::NOT_ABSENT;
-    }
-    if !are_absent(k, d) {
-        return refusal::NOT_ABSENT;
-    }
-    0
+    Ok(())
 }
 
 // The same numbers as an inequality.
@@ -35,16 +28,15 @@ pub fn inequality_of(e: Expression) -> Constraint
     requires { T (all coefficient e.axes) × T (all coefficient e.divisions) }
     ensures { constraint_of result ≡ expression_of e }
 {
-    let z = e.constant;
-    let x = e.axes;
-    let q = e.divisions;
-    let axes = narrowed(x);
-    let divisions = narrowed(q);
-    Constraint {
+    let Expression {
+        constant,
+        axes,
+        divisions,
+    } = e;
+    constraint_of(Rule {
         equality: false,
-        number: 0,
-        constant: z,
-        axes: axes,
-        divisions: divisions,
-    }
+        constant,
+        axes,
+        divisions,
+    })
 }

@@ -4,11 +4,11 @@
 mod coefficients;
 mod constraints;
 mod divisions;
-pub mod expressions;
+mod expressions;
 
-pub use constraints::{constraint_of, rule_refusal};
-pub use divisions::{divisions_of, start_refusal};
-pub use expressions::inequality_of;
+pub use constraints::{check_rule, constraint_of};
+pub use divisions::{check_start, divisions_of};
+pub use expressions::{check_expression, inequality_of};
 use model::limit;
 
 // An expression as an inequality's numbers: constant + axes·x + divisions·q.

@@ -1,2 +1,3 @@
 pub mod Upward
 mod Helped
+pub mod Stops

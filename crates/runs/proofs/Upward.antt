@@ -1,15 +1,19 @@
 -- Values of one axis further up: the side that they make, and what a constraint says there.
-use mathlib.Core.Path.{◌≡◌, sym, ap, ◌∙◌, subst}
-use mathlib.Core.Bool.{Bool, false}
-use mathlib.Core.List.{List, [], ◌∷◌, map}
+use mathlib.Core.Path.{◌≡◌, refl, sym, ap, ap₂, ◌∙◌, subst}
+use mathlib.Core.Bool.{false}
+use mathlib.Core.List.{List, [], ◌∷◌, ◌++◌, map}
 use Prim.Native.Nat.{ℕ, ◌+◌, ◌≤◌, ◌<◌}
 use native.Mathlib.Omega.{arith}
-use lib.Dec.{ltb, eqb, le→leb}
+use lib.Dec.{eqb, le→leb}
 use lib.IntN.{ℤ, pos, ◌+ℤ◌}
 use lib.Signed.{◌≤ℤ◌}
-use lib.ListN.{length, take, get_or, set, length-set, length-take}
-use lib.Seq.{get_or-set_same, get_or-set_other, get_or-take, take-set-lt, ext_get_or, set-get_or}
-use borrow.Author.Tests.{eqb-true, eqb-false, ltb-true, ltb-false, ne_eqb}
+use lib.ListN.{length, take, get_or, set, length-set}
+use mir.Syntax.{w64}
+use mir.Val.{SFits, to_z, of_z}
+use Rattle.integers.specs.Mach.{to_z_of_z, to_z-nat}
+use Rattle.integers.specs.Size.{within-add, within-fits}
+use lib.Seq.{take_at, get_or-set_other, get_or-take, take-set-lt, set-get_or}
+use borrow.Author.Tests.{ne_eqb}
 use Rattle.integers.specs.Z.{Within}
 use Rattle.integers.specs.Lin.{le, abs, lin, lia-le, lia-eq, lia-nat, lia-abs}
 use Rattle.integers.specs.Order.{pos-nonneg}
@@ -19,35 +23,23 @@ use Rattle.bounds.specs.Intervals.{Interval, quotient_side, box_of}
 use Rattle.bounds.specs.Ends.{AllWithin, Ends, can_stand}
 use Rattle.bounds.specs.Rows.{Row, Settled}
 use Rattle.runs.specs.Upward.{widened, Reach, Lasts}
-use Rattle.bounds.proofs.Reading.{by, set-within}
+use Rattle.bounds.proofs.Reading.{set-within}
 
 -- ---- a copy of the highs
-pub record Copying (high w : List ℤ) (i : ℕ) : Type 0 where
-  pub inside : i ≤ length high
-  pub places : length w ≡ 8
-  pub same : (j : ℕ) → j < i → get_or w j (pos 0) ≡ get_or high j (pos 0)
+-- the highs in front of others, with that of axis k up
+pub raised-is : (high rest w : List ℤ) (k up : ℕ) (v : ℤ) → k < length high → w ≡ high → v ≡ get_or high k (pos 0) +ℤ pos up → take (length high) (set (w ++ rest) k v) ≡ widened k up high
+raised-is high rest w k up v h e q =
+    ap (λ (l : List ℤ). take (length high) (set (l ++ rest) k v)) e ∙ take-set-lt (length high) (high ++ rest) k v h
+    ∙ ap (λ (l : List ℤ). set l k v) (take_at high rest (length high) refl) ∙ ap (set high k) q
 
-module _ (high w : List ℤ) (i : ℕ) (g : Copying high w i) (l : length high ≤ 8) where
-  pub copying-next : i < length high → (x : ℤ) → x ≡ get_or high i (pos 0) → Copying high (set w i x) (i + 1)
-  copying-next h x e =
-      let p = g.places in
-      record {
-        inside = omega arith;
-        places = length-set w i x ∙ p;
-        same = λ j o. by (λ (b : Bool). get_or (set w i x) j (pos 0) ≡ get_or high j (pos 0)) (eqb j i)
-            (λ q. let z = eqb-true j i q in ap (λ (m : ℕ). get_or (set w i x) m (pos 0)) z ∙ get_or-set_same w i x (pos 0) (omega arith) ∙ e ∙ ap (λ (m : ℕ). get_or high m (pos 0)) (sym z))
-            (λ q. let z = eqb-false j i q in get_or-set_other w i j x (pos 0) z ∙ g.same j (below j i o z));
-      }
-    where
-      below : (j i : ℕ) → j < i + 1 → (j ≡ i → ⊥) → j < i
-      below j i o z = by (λ (b : Bool). j < i) (ltb j i) (λ q. ltb-true j i q) (λ q. let a = ltb-false j i q in absurd (z (omega arith)))
+pub up-fits : (z : ℤ) (up : ℕ) → Within 1048576 z → up ≤ 2097152 → SFits w64 (to_z w64 (of_z w64 z) +ℤ to_z w64 up)
+up-fits z up h l =
+    let i : Within 2097152 (pos up) = record { size = l } in
+    rw (to_z_of_z {w = w64} {z = z} (within-fits (omega arith) h), to_z-nat w64 up 2097153 (omega arith) tt) (within-fits (omega arith) (within-add h i))
 
-  pub copying-end : length high ≤ i → (k : ℕ) → k < length high → (v : ℤ) → take (length high) (set w k v) ≡ set high k v
-  copying-end h k o v =
-      let p = g.places in let a = g.inside in
-      take-set-lt (length high) w k v o
-      ∙ ap (λ (x : List ℤ). set x k v) (ext_get_or (pos 0) (take (length high) w) high (let z : length (take (length high) w) ≡ length high = omega (arith, length-take (length high) w) in z)
-      (λ j q. let q' : j < length high = omega (arith, length-take (length high) w) in get_or-take (length high) w j (pos 0) q' ∙ g.same j (omega arith)))
+pub up_is : (z : ℤ) (up : ℕ) → Within 1048576 z → up ≤ 2097152 → to_z w64 (of_z w64 (to_z w64 (of_z w64 z) +ℤ to_z w64 up)) ≡ z +ℤ pos up
+up_is z up h l =
+    to_z_of_z (up-fits z up h l) ∙ ap₂ ◌+ℤ◌ (to_z_of_z {w = w64} {z = z} (within-fits (omega arith) h)) (to_z-nat w64 up 2097153 (omega arith) tt)
 
 -- ---- the side of m values
 pub widened_none : (k : ℕ) (high : List ℤ) → widened k 0 high ≡ high

@@ -1,5 +1,5 @@
 -- Values of axis k further up: the side that they make, and what fails over it.
-use Rattle.std.specs.Prelude.{◌≡◌, Bool, true, false, List, map, ℕ, ◌-◌, ◌≤◌, ◌<◌, eqb, ℤ, pos, ◌+ℤ◌, ◌≤ℤ◌, length, get_or, set}
+use Rattle.std.specs.Prelude.{◌≡◌, Bool, true, false, List, map, ℕ, ◌-◌, ◌≤◌, ◌<◌, eqb, ℤ, pos, ◌+ℤ◌, ◌≤ℤ◌, length, get_or, set, Option, Some, None}
 use Rattle.model.specs.Lists.{all}
 use Rattle.model.specs.Sets.{Constraint}
 use Rattle.codec.specs.Places.{basic_at, constraint_at}
@@ -20,12 +20,16 @@ pub record Reach (k : ℕ) (high : List ℤ) (m : ℕ) : Type 0 where
 pub record Lasts (s : List ℕ) (k : ℕ) (low high : List ℤ) (start : ℕ) (c : Constraint) (m : ℕ) : Type 0 where
   pub fails : can_stand (box_of low (widened k (m - 1) high)) (map (quotient_side (box_of low (widened k (m - 1) high))) (basic_at s start).divisions) c ≡ false
 
--- p is at a constraint of the basic set of a row that does not pass a test, or all of them pass it
-pub record Stopped (s : List ℕ) (r : List ℤ) (ok : Constraint → Bool) (p : Stop) : Type 0 where
-  pub rule : p.fails ≡ true → Numbered s r p.at p.i
-  pub falls : p.fails ≡ true → ok (constraint_at s p.at) ≡ false
-  pub among : p.fails ≡ true → (f : Constraint → Bool) → f (constraint_at s p.at) ≡ false → all f (basic_at s (start_of r)).constraints ≡ false
-  pub stands : p.fails ≡ false → all ok (basic_at s (start_of r)).constraints ≡ true
+-- p is at a constraint of the basic set of a row that does not pass a test
+pub record FailsAt (s : List ℕ) (r : List ℤ) (ok : Constraint → Bool) (p : Stop) : Type 0 where
+  pub rule : Numbered s r p.at p.i
+  pub falls : ok (constraint_at s p.at) ≡ false
+  pub among : (f : Constraint → Bool) → f (constraint_at s p.at) ≡ false → all f (basic_at s (start_of r)).constraints ≡ false
+
+-- there is such a one, or all of them pass it
+abbrev pub Stopped : List ℕ → List ℤ → (Constraint → Bool) → Option Stop → Type 0
+Stopped s r ok (Some p) = FailsAt s r ok p
+Stopped s r ok None = all ok (basic_at s (start_of r)).constraints ≡ true
 
 -- m is 0 where the basic set at a place can hold over the box from low to high; otherwise it cannot over the side of m values of axis k
 pub record Failing (s : List ℕ) (k : ℕ) (low high : List ℤ) (start most m : ℕ) : Type 0 where

@@ -10,13 +10,11 @@ ghost use Rattle.runs.specs.Upward.{Reach, Stopped, Failing, Told};
 
 use crate::lasting::constraint_run;
 
-// Where a walk over the constraints of a basic set stops: the place and the number of one that cannot hold by itself, or the
-// end.
+// A constraint of a basic set that cannot hold by itself: its place and its number.
 #[derive(Clone, Copy)]
 pub struct Stop {
     pub at: usize,
     pub i: usize,
-    pub fails: bool,
 }
 
 // The first constraint, from that at `first` on, that cannot hold by itself. Those without a number have a loop of their own,
@@ -30,7 +28,7 @@ fn first_failing(
     ql: &[i64],
     qh: &[i64],
     first: usize,
-) -> Stop
+) -> Option<Stop>
     requires { Settled s.now k low.now high.now r.now × Ends low.now high.now most_coordinate × Ends ql.now qh.now most_quotient × Past s.now (start_of r.now) first × (length ql.now ≡ length (basic_at s.now (start_of r.now)).divisions) }
     ensures { Stopped s.now r.now (can_stand (box_of low.now high.now) (box_of ql.now qh.now)) result }
 {
@@ -39,20 +37,16 @@ fn first_failing(
     loop {
         while codec::bare_at(s, at) {
             if !bounds::can_stand(s, k, low, high, r, ql, qh, at, i) {
-                return Stop { at, i, fails: true };
+                return Some(Stop { at, i });
             }
             at = codec::next(s, at);
             i += 1;
         }
         if !codec::constraint_at(s, at) {
-            return Stop {
-                at,
-                i,
-                fails: false,
-            };
+            return None;
         }
         if !bounds::can_stand(s, k, low, high, r, ql, qh, at, i) {
-            return Stop { at, i, fails: true };
+            return Some(Stop { at, i });
         }
         at = codec::next(s, at);
         i += 1;
@@ -75,11 +69,10 @@ fn constraints_run(
     requires { Settled s.now k low.now high.now r.now × Ends low.now high.now most_coordinate × Ends ql.now qh.now most_quotient × Past s.now (start_of r.now) first × (length ql.now ≡ length (basic_at s.now (start_of r.now)).divisions) × (box_of ql.now qh.now ≡ map (quotient_side (box_of low.now high.now)) (basic_at s.now (start_of r.now)).divisions) × Reach k high.now most × (0 < most) }
     ensures { Failing s.now k low.now high.now (start_of r.now) most result }
 {
-    let p = first_failing(s, k, low, high, r, ql, qh, first);
-    if !p.fails {
-        return 0;
+    match first_failing(s, k, low, high, r, ql, qh, first) {
+        Some(stop) => constraint_run(s, k, low, high, r, ql, qh, stop.at, stop.i, most),
+        None => 0,
     }
-    constraint_run(s, k, low, high, r, ql, qh, p.at, p.i, most)
 }
 
 // 0 where the basic set of row r can hold over the box from low to high; otherwise for how many values of axis k, at
@@ -113,6 +106,5 @@ pub fn can_hold(s: &[u8], k: usize, low: &[i64], high: &[i64], r: &[i64; 129]) -
     let mut qh = bounds::no_values();
     let p = bounds::bounded(s, k, low, high, r, &mut ql, &mut qh);
     let d = p.count;
-    let f = first_failing(s, k, low, high, r, &ql[..d], &qh[..d], p.next);
-    !f.fails
+    first_failing(s, k, low, high, r, &ql[..d], &qh[..d], p.next).is_none()
 }

@@ -32,7 +32,7 @@ fn constraint_keeps(
     let t = codec::body(s, at);
     let f = bounds::end_at(t, k, from, to, r[i]);
     let low = bounds::extreme(t, codec::DIVISIONS_PLACE, ql, qh, f);
-    let short = integers::magnitude(low) + 1;
+    let short = low.unsigned_abs() + 1;
     let m = guess_from(s, t, k, from, to, r, short, false, most);
     if codec::is_equality(codec::code(s, at)) {
         return guess_from(s, t, k, from, to, r, 1, true, m);

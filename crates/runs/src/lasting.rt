@@ -19,13 +19,8 @@ pub fn raised(high: &[i64], k: usize, up: u64) -> [i64; limit::AXES]
     ensures places { length result ≡ most_axes }
 {
     let mut w = bounds::no_values();
-    let mut i = 0;
-    while i < high.len() {
-        w[i] = high[i];
-        i += 1;
-    }
-    let v = high[k];
-    w[k] = v + up as i64;
+    w[..high.len()].copy_from_slice(high);
+    w[k] += up as i64;
     w
 }
 
@@ -91,11 +86,9 @@ pub fn constraint_run(
     let from = bounds::gap(low, k, r, 56);
     let to = bounds::gap(high, k, r, 120);
     let m = guess(s, k, from, to, r, ql, qh, at, i, most);
-    if m == 1 {
-        return 1;
+    if m != 1 && lasts(s, k, low, high, r, at, i, m) {
+        m
+    } else {
+        1
     }
-    if lasts(s, k, low, high, r, at, i, m) {
-        return m;
-    }
-    1
 }

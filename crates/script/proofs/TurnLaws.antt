@@ -10,16 +10,15 @@ use lib.Dec.{ltb, leb, eqb}
 use lib.ListN.{length, get_or, take, drop, take-append-drop}
 use lib.Seq.{drop-cons, length-take-le}
 use Rattle.model.specs.Lists.{all}
-use Rattle.codec.specs.Bytes.{is_opening, is_division, width_of, first_failing}
+use Rattle.std.proofs.Common.{Option, Some, None}
+use Rattle.codec.specs.Bytes.{Answer, refused, gives, is_opening, is_division, width_of, first_failing}
 use Rattle.session.specs.Script.{room, fixed_width, load_length, command_width, in_place, ending, refused_line, execute}
 use Rattle.listing.specs.Written.{Wrote, Writes}
 use Rattle.session.specs.Turns.{Memory, memory, state_of, effect_of, shown, memory_of, goes_on, Turned, quiet, state_at, line_of, past, there, line_turn, command_turn, front_turn, front_of, cursor_in, cursor_fits, usable}
 use Rattle.commands.specs.Promises.{CommandIs, Holds, Single, Usable}
 use Rattle.script.specs.Promises.{Says, TurnIs, CursorIn, silent_turn, after_turn}
 use Rattle.commands.specs.declared.commands.CommandDone.{CommandDone}
-use Rattle.session.specs.declared.Front.TheVariants.{Whole, More, Stop}
 use Rattle.session.specs.declared.Cursor.{Cursor}
-use Rattle.session.specs.declared.Listing.TheVariants.{Nothing, From}
 use Rattle.session.specs.declared.State.{State}
 use Rattle.script.specs.declared.turns.Turn.{Turn}
 use Rattle.session.specs.declared.Next.{Next}
@@ -27,11 +26,6 @@ use Rattle.session.specs.declared.Next.TheVariants.{Goes, Ends}
 use Rattle.session.proofs.Turning.{and_left, and_right, all_fit}
 use Rattle.listing.proofs.Writing.{wrote_none}
 use Rattle.session.proofs.Steps.{load-known}
-
-pub past_is : (c : Cursor) (b p k d : ℕ) → p ≡ c.place + width_of b → k ≡ cond (is_opening b) (c.basics + 1) c.basics → d ≡ cond (is_opening b) 0 (cond (is_division b) (c.divisions + 1) c.divisions)
-    → record { set = c.set; place = p; basics = k; divisions = d } ≡ past c b
-past_is c b p k d x y z =
-    ap (λ (p : ℕ). record { set = c.set; place = p; basics = k; divisions = d }) x ∙ ap₂ (λ (k d : ℕ). record { set = c.set; place = c.place + width_of b; basics = k; divisions = d }) y z
 
 pub says-quiet : (st : State) (y : Memory) (x : Next) {r : Turn} (out : List ℕ) → r ≡ silent_turn st x → Says (quiet st y x) r out out
 says-quiet st y x {r} out e =
@@ -44,9 +38,6 @@ says-quiet st y x {r} out e =
 
 pub says_same : {e e' : Turned} {r : Turn} {out out' : List ℕ} → e ≡ e' → Says e r out out' → Says e' r out out'
 says_same {r = r} {out} {out'} q s = subst (λ (x : Turned). Says x r out out') q s
-
-pub all_from : (i : ℕ) (l : List ℕ) → i < length l → all (λ (x : ℕ). leb x room) (drop i l) ≡ (leb (get_or l i 0) room && all (λ (x : ℕ). leb x room) (drop (i + 1) l))
-all_from i l h = ap (all (λ (x : ℕ). leb x room)) (drop-cons l i 0 h) ∙ ap (λ (j : ℕ). leb (get_or l i 0) room && all (λ (x : ℕ). leb x room) (drop j l)) (sym (add-one i))
 
 pub cursor-in : (c : Cursor) (lengths : List ℕ) → cursor_in lengths c ≡ true → CursorIn c lengths
 cursor-in c lengths e =
@@ -101,8 +92,8 @@ pub line-memory : (n : ℕ) (y : Memory) (c : Cursor) (l : List ℕ) {r : Turn} 
 line-memory n y c [] s = record { says = record { text = s.text; used = s.used; state = s.state; next = s.next }; holds = unchanged y }
 line-memory n y c (b ∷ t) {r} {out} {out'} s = at (there (b ∷ t)) s
   where
-    at : (x : Bool) → Says (cond x (record { text = line_of n c b t; used = 0; state = state_at n (From (past c b)); next = Goes; memory = memory [] [] [] }) (quiet (state_at n Nothing) (memory [] [] []) Goes)) r out out'
-        → TurnIs (cond x (record { text = line_of n c b t; used = 0; state = state_at n (From (past c b)); next = Goes; memory = y }) (quiet (state_at n Nothing) y Goes)) r out out' y.tables y.lengths y.result
+    at : (x : Bool) → Says (cond x (record { text = line_of n c b t; used = 0; state = state_at n (Some (past c b)); next = Goes; memory = memory [] [] [] }) (quiet (state_at n None) (memory [] [] []) Goes)) r out out'
+        → TurnIs (cond x (record { text = line_of n c b t; used = 0; state = state_at n (Some (past c b)); next = Goes; memory = y }) (quiet (state_at n None) y Goes)) r out out' y.tables y.lengths y.result
     at true s = record { says = record { text = s.text; used = s.used; state = s.state; next = s.next }; holds = unchanged y }
     at false s = record { says = record { text = s.text; used = s.used; state = s.state; next = s.next }; holds = unchanged y }
 
@@ -110,17 +101,17 @@ pub record Fronted (axes w : ℕ) (s : List ℕ) : Type 0 where
   pub inside : w ≤ length s
   pub single : Single axes (take w s)
 
-pub fronted : (axes : ℕ) (e : Bool) (s : List ℕ) (w : ℕ) → front_of axes e s ≡ Whole w → Fronted axes w s
+pub fronted : (axes : ℕ) (e : Bool) (s : List ℕ) (w : ℕ) → front_of axes e s ≡ gives (Some w) → Fronted axes w s
 unfolding front_of ending
 fronted axes e [] w q = absurd (cut e q)
   where
-    cut : (e : Bool) → cond (not e) More (Stop 3) ≡ Whole w → ⊥
+    cut : (e : Bool) → cond (not e) (gives None) (refused 3) ≡ gives (Some w) → ⊥
     cut true q = let z : ◌≡◌ {A = ℕ} 0 1 = cc in omega arith
     cut false q = let z : ◌≡◌ {A = ℕ} 0 1 = cc in omega arith
 fronted axes e (b ∷ s) w q =
     at (ltb 0 (fixed_width b)) refl (in_place axes b) refl (leb (command_width (b ∷ s)) (suc (length s))) refl q
   where
-    stop : (k : ℕ) (x : Bool) → cond x More (Stop k) ≡ Whole w → ⊥
+    stop : (k : ℕ) (x : Bool) → cond x (gives None) (refused k) ≡ gives (Some w) → ⊥
     stop k true q = let z : ◌≡◌ {A = ℕ} 0 1 = cc in omega arith
     stop k false q = let z : ◌≡◌ {A = ℕ} 0 1 = cc in omega arith
 
@@ -151,7 +142,7 @@ fronted axes e (b ∷ s) w q =
         })
 
     at : (p : Bool) → ltb 0 (fixed_width b) ≡ p → (r : Bool) → in_place axes b ≡ r → (z : Bool) → leb (command_width (b ∷ s)) (suc (length s)) ≡ z
-        → elim (first_failing ((p, 2) ∷ (r, 15) ∷ (z, 3) ∷ [])) [ zero ↦ Whole (command_width (b ∷ s)) | suc k ↦ cond (eqb (suc k) 3 && not e) More (Stop (suc k)) ] ≡ Whole w → Fronted axes w (b ∷ s)
+        → elim (first_failing ((p, 2) ∷ (r, 15) ∷ (z, 3) ∷ [])) [ zero ↦ gives (Some (command_width (b ∷ s))) | suc k ↦ cond (eqb (suc k) 3 && not e) (gives None) (refused (suc k)) ] ≡ gives (Some w) → Fronted axes w (b ∷ s)
     at true x true y true z q = done (command_width (b ∷ s)) refl x y z (let i : command_width (b ∷ s) ≡ w = cc in i)
     at true x true y false z q = absurd (stop 3 (not e) q)
     at true x false y z u q = absurd (stop 15 false q)
@@ -171,11 +162,6 @@ command-turn st y c w {r} {d} {out} {out'} e q i h =
           };
       holds = h;
     }
-
--- the script ends by a number
-pub stop-turn : (st : State) (y : Memory) (s : List ℕ) (k : ℕ) {n : ℕ} {out out' : List ℕ} → Writes 30 (refused_line k) out 0 n out'
-    → TurnIs (front_turn st y s (Stop k)) (record { text = n; used = 0; state = st; next = Ends }) out out' y.tables y.lengths y.result
-stop-turn st y s k w = record { says = record { text = w.wrote; used = refl; state = refl; next = refl }; holds = unchanged y }
 
 pub quiet-turn : (st : State) (y : Memory) (x : Next) {r : Turn} (out : List ℕ) → r ≡ silent_turn st x → TurnIs (quiet st y x) r out out y.tables y.lengths y.result
 quiet-turn st y x out e = record { says = says-quiet st y x out e; holds = unchanged y }

@@ -20,9 +20,14 @@ use Rattle.model.specs.Lists.{any}
 use Rattle.model.specs.Sets.{Set}
 use Rattle.codec.specs.Places.{set_from}
 use Rattle.enumeration.specs.Search.{Interval, only, can_hold, Walk, or_else, one_more, upward, width, walk, Found, at, nothing, spent, Tallied, found_of, box_of}
-use Rattle.search.specs.Sides.{side, limited, sides_of, Standing, padded, trail_of}
-use Rattle.search.specs.Levels.{ok_at, walk_at, level_of, span_at, value_at, rest_at, passes_at, Ready, ended, next_of, stop_at, lows_at, highs_at, Failed, Climbed, past, exhausted, passing}
-use Rattle.search.specs.declared.levels.Trail.{Trail}
+use Rattle.search.specs.Sides.{side, limited, sides_of, Standing, padded, outcome_of, trail_of}
+use Rattle.search.specs.Levels.{ok_at, walk_at, level_of, span_at, value_at, rest_at, passes_at, Ready, trail, next_of, way_at, stop_at, lows_at, highs_at, Failed, Climbed, past, exhausted, passing}
+use Rattle.search.specs.declared.levels.Passed.{Passed}
+use Rattle.search.specs.declared.levels.Way.TheVariants.{Past, Point, Below}
+use Rattle.search.specs.declared.levels.Way.TheVariants as W
+use Rattle.search.specs.declared.levels.Outcome.{Outcome}
+use Rattle.search.specs.declared.levels.Outcome.TheVariants.{At, Nothing, Spent}
+use Rattle.search.specs.declared.first.FirstPoint.{FirstPoint}
 use Rattle.search.specs.declared.levels.Prefix.{Prefix}
 use Rattle.search.specs.declared.levels.Stop.{Stop}
 use Rattle.enumeration.proofs.Windows.{box-take}
@@ -113,18 +118,19 @@ module _ (limit t : ℕ) (w v : Walk) where
       go none r true q = absurd (h (ap (λ (x : Tallied). x.found) (limited-in limit t w (borrow.Author.Tests.leb-true (t + w.tested) limit q)) ∙ ap found_of r))
       go none r false q = over (borrow.Author.Tests.leb-false (t + w.tested) limit q) r
 
--- ---- the code's trail
+-- ---- how a walk ended
 
-pub way-none : (t : Tallied) → (trail_of t).way ≡ 0 → t ≡ record { found = nothing; tested = (trail_of t).tested }
-way-none t e = go t.found t.tested e
+-- it found nothing, or not
+pub trail-none : (t : Tallied) (m : ℕ) → trail Nothing m ≡ trail_of t → t ≡ record { found = nothing; tested = m }
+trail-none t m e = go t.found t.tested e
   where
-    go : (f : Found) (m : ℕ) → (trail_of (record { found = f; tested = m })).way ≡ 0 → ◌≡◌ {A = Tallied} (record { found = f; tested = m }) (record { found = nothing; tested = (trail_of (record { found = f; tested = m })).tested })
-    go (at p) m e = absurd (omega arith)
-    go nothing m e = refl
-    go spent m e = absurd (omega arith)
+    go : (f : Found) (j : ℕ) → trail Nothing m ≡ trail_of (record { found = f; tested = j }) → ◌≡◌ {A = Tallied} (record { found = f; tested = j }) (record { found = nothing; tested = m })
+    go (at p) j e = let z : Nothing ≡ At (padded p) = ap (λ (r : FirstPoint). r.outcome) e in cc
+    go nothing j e = let z : m ≡ j = ap (λ (r : FirstPoint). r.tested) e in cc
+    go spent j e = let z : Nothing ≡ Spent = ap (λ (r : FirstPoint). r.outcome) e in cc
 
-pub way-some : (t : Tallied) → ((trail_of t).way ≡ 0 → ⊥) → t.found ≡ nothing → ⊥
-way-some t h e = h (ap (λ (f : Found). (trail_of (record { found = f; tested = t.tested })).way) e)
+pub trail-some : (t : Tallied) (o : Outcome) (m : ℕ) → trail o m ≡ trail_of t → (o ≡ Nothing → ⊥) → t.found ≡ nothing → ⊥
+trail-some t o m e h z = h (ap (λ (r : FirstPoint). r.outcome) e ∙ ap outcome_of z)
 
 -- ---- sides
 box-drop : (k : ℕ) (u v : List ℤ) → drop k (box_of u v) ≡ box_of (drop k u) (drop k v)
@@ -304,7 +310,7 @@ module _ (s : List ℕ) (n k : ℕ) (low high : List ℤ) (g : Standing s n k lo
     within : t ≤ limit
     is : limited limit t (from i) ≡ G
 
-  climb-end : (G : Tallied) (limit t i : ℕ) → Climbing G limit t i → span < i → record { way = 0; point = padded []; tested = t } ≡ trail_of G
+  climb-end : (G : Tallied) (limit t i : ℕ) → Climbing G limit t i → span < i → trail Nothing t ≡ trail_of G
   climb-end G limit t i c h =
       let w = c.within in
       let e : suc span - i ≡ 0 = omega arith in
@@ -325,7 +331,7 @@ module _ (s : List ℕ) (n k : ℕ) (low high : List ℤ) (g : Standing s n k lo
         let j : suc span - (i + 1) ≡ span - i = omega arith in
         ap₂ (λ (d : ℕ) (y : ℤ). upward (ok_at S (take k low) rest) (below S (take k low) rest) d y) j x
 
-    climb-spent : t ≡ limit → record { way = 2; point = padded []; tested = t } ≡ trail_of G
+    climb-spent : t ≡ limit → trail Spent t ≡ trail_of G
     climb-spent e = sym (ap trail_of (sym now-is ∙ limited-spent (ok_at S (take k low) rest) (below S (take k low) rest) (span - i) (first +ℤ pos i) limit t e))
 
     climb-fail : t < limit → ok_at S (take k low) rest (first +ℤ pos i) ≡ false → Climbing G limit (t + 1) (i + 1)
@@ -336,12 +342,12 @@ module _ (s : List ℕ) (n k : ℕ) (low high : List ℤ) (g : Standing s n k lo
       passed : limited limit (t + 1) (or_else (below S (take k low) rest (first +ℤ pos i)) more) ≡ G
       passed = sym (limited-pass (ok_at S (take k low) rest) (below S (take k low) rest) (span - i) (first +ℤ pos i) limit t e) ∙ now-is
 
-      climb-at : k + 1 ≡ n → record { way = 1; point = set low k (first +ℤ pos i); tested = t + 1 } ≡ trail_of G
+      climb-at : k + 1 ≡ n → trail (At (set low k (first +ℤ pos i))) (t + 1) ≡ trail_of G
       climb-at q =
           let w : Walk = record { found = some (take k low ++ ((first +ℤ pos i) ∷ [])); tested = 0 } in
           let z : t + 1 + 0 ≡ t + 1 = omega arith in
           sym (ap trail_of (sym passed ∙ ap (λ (x : Walk). limited limit (t + 1) (or_else x more)) (below_end (first +ℤ pos i) q) ∙ limited-in limit (t + 1) w (omega arith) ∙ ap (λ (j : ℕ). record { found = at (take k low ++ ((first +ℤ pos i) ∷ [])); tested = j }) z)
-          ∙ ap (λ (p : List ℤ). record { way = 1; point = p; tested = t + 1 }) (padded-is (first +ℤ pos i) q))
+          ∙ ap (λ (p : List ℤ). trail (At p) (t + 1)) (padded-is (first +ℤ pos i) q))
 
       climb-below : G ≡ limited limit (t + 1) (or_else (walk S (take (k + 1) (set low k (first +ℤ pos i))) (drop (k + 1) (sides_of n (set low k (first +ℤ pos i)) (set high k (first +ℤ pos i))))) (from (i + 1)))
       climb-below = sym passed ∙ ap₂ (λ (w v : Walk). limited limit (t + 1) (or_else w v)) (fixed-is (first +ℤ pos i) (walk S)) (sym more-is)
@@ -377,45 +383,51 @@ module _ (s : List ℕ) (p : Prefix) (from t : ℕ) (f : Failed s p from t) (i :
 -- ---- where a climb stops, whatever is walked
 
 -- a prefix of all axes is a point, and one with an axis left is gone below
-pub way-last : (a b : ℕ) → ◌≡◌ {A = ℕ} (cond (eqb a b) 1 3) 1 → a ≡ b
-way-last a b w = go (eqb a b) refl w
+pub way-last : (p : Prefix) (x q : Passed) → way_at p x ≡ Point q → (p.k + 1 ≡ p.n) × (q ≡ x)
+way-last p x q w = go (eqb (p.k + 1) p.n) refl w
   where
-    go : (x : Bool) → eqb a b ≡ x → ◌≡◌ {A = ℕ} (cond x 1 3) 1 → a ≡ b
-    go true e w = eqb-true a b e
-    go false e w = absurd (omega arith)
+    go : (b : Bool) → eqb (p.k + 1) p.n ≡ b → cond b (Point x) (Below x) ≡ Point q → (p.k + 1 ≡ p.n) × (q ≡ x)
+    go true e w = (eqb-true (p.k + 1) p.n e, cc)
+    go false e w = cc
 
-way-more : (a b : ℕ) → ◌≡◌ {A = ℕ} (cond (eqb a b) 1 3) 3 → a ≡ b → ⊥
-way-more a b w = go (eqb a b) refl w
+pub way-more : (p : Prefix) (x q : Passed) → way_at p x ≡ Below q → (p.k + 1 ≡ p.n → ⊥) × (q ≡ x)
+way-more p x q w = go (eqb (p.k + 1) p.n) refl w
   where
-    go : (x : Bool) → eqb a b ≡ x → ◌≡◌ {A = ℕ} (cond x 1 3) 3 → a ≡ b → ⊥
-    go true e w = absurd (omega arith)
-    go false e w = eqb-false a b e
+    go : (b : Bool) → eqb (p.k + 1) p.n ≡ b → cond b (Point x) (Below x) ≡ Below q → (p.k + 1 ≡ p.n → ⊥) × (q ≡ x)
+    go true e w = cc
+    go false e w = (eqb-false (p.k + 1) p.n e, cc)
 
-pub record Descends (s : List ℕ) (p : Prefix) (t : ℕ) (r : Stop) : Type 0 where
-  pub axes : r.at.n ≡ p.n
-  pub limit : r.at.limit ≡ p.limit
-  pub count : r.at.count ≡ p.count
-  pub deeper : r.at.n - r.at.k < p.n - p.k
-  pub ready : Ready s r.at (t + r.tested)
+-- the prefix q.at to go below, with t tested before it
+pub record Descends (s : List ℕ) (p : Prefix) (t : ℕ) (q : Prefix) : Type 0 where
+  pub axes : q.n ≡ p.n
+  pub limit : q.limit ≡ p.limit
+  pub count : q.count ≡ p.count
+  pub deeper : q.n - q.k < p.n - p.k
+  pub ready : Ready s q t
+
+-- the prefix that passed with value i + m
+abbrev pub passed_at : Prefix → ℕ → List Bool → Passed
+passed_at p i live = record { at = next_of p (lows_at p i) (highs_at p i) live; next = i + 1 }
 
 module _ (s : List ℕ) (p : Prefix) (i t : ℕ) where
   pub climbed-most : (r : Stop) → Climbed s p i t r → t + r.tested ≤ p.limit
-  climbed-most _ (past m f e l j) = l
-  climbed-most _ (exhausted m f h e j) = omega arith
+  climbed-most _ (past m f e l) = l
+  climbed-most _ (exhausted m f h e) = omega arith
   climbed-most _ (passing m f h l e live v) = omega arith
 
   -- past a value that passes fewer are left
-  pub climbed-fewer : (r : Stop) → Climbed s p i t r → (r.way ≡ 0 → ⊥) → (r.way ≡ 2 → ⊥) → suc (span_at p) - r.next < suc (span_at p) - i
-  climbed-fewer _ (past m f e l j) a b = absurd (a refl)
-  climbed-fewer _ (exhausted m f h e j) a b = absurd (b refl)
-  climbed-fewer _ (passing m f h l e live v) a b = omega arith
+  pub climbed-fewer : (r : Stop) → Climbed s p i t r → (q : Passed) → r.way ≡ Below q → suc (span_at p) - q.next < suc (span_at p) - i
+  climbed-fewer _ (past m f e l) q w = cc
+  climbed-fewer _ (exhausted m f h e) q w = cc
+  climbed-fewer _ (passing m f h l e live v) q w = let z = ap (λ (x : Passed). x.next) (way-more p (passed_at p (i + m) live) q w).1 in omega arith
 
-  pub climbed-below : Ready s p t → (r : Stop) → Climbed s p i t r → r.way ≡ 3 → Descends s p t r
-  climbed-below d _ (past m f e l j) w = absurd (omega arith)
-  climbed-below d _ (exhausted m f h e j) w = absurd (omega arith)
-  climbed-below d _ (passing m f h l e live v) w =
-      let b = d.standing.left in let o : p.k + 1 < p.n = lt_of (p.k + 1) p.n (omega arith) (way-more (p.k + 1) p.n w) in
-      record {
+  pub climbed-below : Ready s p t → (r : Stop) → Climbed s p i t r → (q : Passed) → r.way ≡ Below q → Descends s p (t + r.tested) q.at
+  climbed-below d _ (past m f e l) q w = cc
+  climbed-below d _ (exhausted m f h e) q w = cc
+  climbed-below d _ (passing m f h l e live v) q w =
+      let y = way-more p (passed_at p (i + m) live) q w in
+      let b = d.standing.left in let o : p.k + 1 < p.n = lt_of (p.k + 1) p.n (omega arith) y.0 in
+      let g : Descends s p (t + (m + 1)) (next_of p (lows_at p (i + m)) (highs_at p (i + m)) live) = record {
         axes = refl;
         limit = refl;
         count = refl;
@@ -426,13 +438,13 @@ module _ (s : List ℕ) (p : Prefix) (i t : ℕ) where
           fits = d.fits;
           lives = v;
         };
-      }
+      } in subst (λ (x : Passed). Descends s p (t + (m + 1)) x.at) (sym y.1) g
 
 -- ---- what it says of the first-point walk
 
--- the level goes below a prefix, and then on with its next values
-abbrev pub Goes : List ℕ → Prefix → ℕ → ℕ → Stop → Type 0
-Goes s p i t r = onward s p i t ≡ limited p.limit (t + r.tested) (or_else (walk_at s r.at) (values_from s p r.next))
+-- the level goes below a prefix, with t tested before it, and then on with its next values
+abbrev pub Goes : List ℕ → Prefix → Tallied → ℕ → Passed → Type 0
+Goes s p whole t q = whole ≡ limited p.limit t (or_else (walk_at s q.at) (values_from s p q.next))
 
 module _ (s : List ℕ) (p : Prefix) (i t : ℕ) (d : Ready s p t) where
   -- m values failed
@@ -443,43 +455,58 @@ module _ (s : List ℕ) (p : Prefix) (i t : ℕ) (d : Ready s p t) where
   and_one : (m : ℕ) → t + (m + 1) ≡ t + m + 1
   and_one m = omega arith
 
-  pub climbed-ends : (r : Stop) → Climbed s p i t r → (r.way ≡ 3 → ⊥) → ended r (t + r.tested) ≡ trail_of (onward s p i t)
-  climbed-ends _ (past m f e l j) n = climb-end s p.n p.k p.low p.high d.standing (onward s p i t) p.limit (t + m) (i + m) (after m f (omega arith) l) (omega arith)
-  climbed-ends _ (exhausted m f h e j) n = climb-spent s p.n p.k p.low p.high d.standing (onward s p i t) p.limit (t + m) (i + m) (after m f (omega arith) (omega arith)) h e
-  climbed-ends _ (passing m f h l e live v) n = go (eqb (p.k + 1) p.n) refl n
+  pub climbed-past : (r : Stop) → Climbed s p i t r → r.way ≡ Past → trail Nothing (t + r.tested) ≡ trail_of (onward s p i t)
+  climbed-past _ (past m f e l) w = climb-end s p.n p.k p.low p.high d.standing (onward s p i t) p.limit (t + m) (i + m) (after m f (omega arith) l) (omega arith)
+  climbed-past _ (exhausted m f h e) w = cc
+  climbed-past _ (passing m f h l e live v) w = go (eqb (p.k + 1) p.n) w
     where
-      at : Bool → Stop
-      at b = record { way = cond b 1 3; tested = m + 1; next = i + m + 1; at = next_of p (lows_at p (i + m)) (highs_at p (i + m)) live }
+      go : (b : Bool) → cond b (Point (passed_at p (i + m) live)) (Below (passed_at p (i + m) live)) ≡ Past → trail Nothing (t + (m + 1)) ≡ trail_of (onward s p i t)
+      go true w = cc
+      go false w = cc
 
-      go : (b : Bool) → eqb (p.k + 1) p.n ≡ b → ((at b).way ≡ 3 → ⊥) → ended (at b) (t + (m + 1)) ≡ trail_of (onward s p i t)
-      go true q n =
-          ap (λ (j : ℕ). record { way = 1; point = lows_at p (i + m); tested = j }) (and_one m)
-          ∙ climb-at s p.n p.k p.low p.high d.standing (onward s p i t) p.limit (t + m) (i + m) (after m f (omega arith) (omega arith)) h l e (eqb-true (p.k + 1) p.n q)
-      go false q n = absurd (n refl)
+  pub climbed-spent : (r : Stop) → Climbed s p i t r → r.way ≡ W.Spent → trail Spent (t + r.tested) ≡ trail_of (onward s p i t)
+  climbed-spent _ (past m f e l) w = cc
+  climbed-spent _ (exhausted m f h e) w = climb-spent s p.n p.k p.low p.high d.standing (onward s p i t) p.limit (t + m) (i + m) (after m f (omega arith) (omega arith)) h e
+  climbed-spent _ (passing m f h l e live v) w = go (eqb (p.k + 1) p.n) w
+    where
+      go : (b : Bool) → cond b (Point (passed_at p (i + m) live)) (Below (passed_at p (i + m) live)) ≡ W.Spent → trail Spent (t + (m + 1)) ≡ trail_of (onward s p i t)
+      go true w = cc
+      go false w = cc
 
-  pub climbed-goes : (r : Stop) → Climbed s p i t r → r.way ≡ 3 → Goes s p i t r
-  climbed-goes _ (past m f e l j) w = absurd (omega arith)
-  climbed-goes _ (exhausted m f h e j) w = absurd (omega arith)
-  climbed-goes _ (passing m f h l e live v) w =
-      let c = after m f (omega arith) (omega arith) in climb-below s p.n p.k p.low p.high d.standing (onward s p i t) p.limit (t + m) (i + m) c h l e
-      ∙ ap (λ (j : ℕ). limited p.limit j (or_else (walk_at s (next_of p (lows_at p (i + m)) (highs_at p (i + m)) live)) (values_from s p (i + m + 1)))) (sym (and_one m))
+  pub climbed-point : (r : Stop) → Climbed s p i t r → (q : Passed) → r.way ≡ Point q → trail (At q.at.low) (t + r.tested) ≡ trail_of (onward s p i t)
+  climbed-point _ (past m f e l) q w = cc
+  climbed-point _ (exhausted m f h e) q w = cc
+  climbed-point _ (passing m f h l e live v) q w =
+      let y = way-last p (passed_at p (i + m) live) q w in
+      ap (λ (x : Passed). trail (At x.at.low) (t + (m + 1))) y.1
+      ∙ ap (trail (At (lows_at p (i + m)))) (and_one m)
+      ∙ climb-at s p.n p.k p.low p.high d.standing (onward s p i t) p.limit (t + m) (i + m) (after m f (omega arith) (omega arith)) h l e y.0
 
--- ---- what the level below said
-module _ (s : List ℕ) (p : Prefix) (i t : ℕ) (r : Stop) (same : r.at.limit ≡ p.limit) (g : Goes s p i t r) (x : Stop) (m : ℕ) (e : ended x m ≡ trail_of (level_of s r.at (t + r.tested))) where
+  pub climbed-goes : (r : Stop) → Climbed s p i t r → (q : Passed) → r.way ≡ Below q → Goes s p (onward s p i t) (t + r.tested) q
+  climbed-goes _ (past m f e l) q w = cc
+  climbed-goes _ (exhausted m f h e) q w = cc
+  climbed-goes _ (passing m f h l e live v) q w =
+      let y = way-more p (passed_at p (i + m) live) q w in
+      let c = after m f (omega arith) (omega arith) in
+      subst (λ (x : Passed). Goes s p (onward s p i t) (t + (m + 1)) x) (sym y.1)
+      (climb-below s p.n p.k p.low p.high d.standing (onward s p i t) p.limit (t + m) (i + m) c h l e
+      ∙ ap (λ (j : ℕ). limited p.limit j (or_else (walk_at s (next_of p (lows_at p (i + m)) (highs_at p (i + m)) live)) (values_from s p (i + m + 1)))) (sym (and_one m)))
+
+-- ---- what the level below said: its walk, if t were tested before it
+module _ (s : List ℕ) (p : Prefix) (whole : Tallied) (t : ℕ) (q : Passed) (same : q.at.limit ≡ p.limit) (g : Goes s p whole t q) (o : Outcome) (m : ℕ) (e : trail o m ≡ trail_of (level_of s q.at t)) where
   abbrev under : Tallied
-  under = limited p.limit (t + r.tested) (walk_at s r.at)
+  under = limited p.limit t (walk_at s q.at)
 
-  said : ended x m ≡ trail_of under
-  said = e ∙ ap (λ (j : ℕ). trail_of (limited j (t + r.tested) (walk_at s r.at))) same
+  said : trail o m ≡ trail_of under
+  said = e ∙ ap (λ (j : ℕ). trail_of (limited j t (walk_at s q.at))) same
 
   -- a point, or the limit: so it is of this level
-  pub level-found : (x.way ≡ 0 → ⊥) → ended x m ≡ trail_of (onward s p i t)
-  level-found f = said ∙ sym (ap trail_of (g ∙ limited-some p.limit (t + r.tested) (walk_at s r.at) (values_from s p r.next) (way-some under (λ z. f (ap (λ (y : Trail). y.way) said ∙ z)))))
+  pub level-found : (o ≡ Nothing → ⊥) → trail o m ≡ trail_of whole
+  level-found f = said ∙ sym (ap trail_of (g ∙ limited-some p.limit t (walk_at s q.at) (values_from s p q.next) (trail-some under o m said f)))
 
   -- nothing: the next values
-  pub level-none : x.way ≡ 0 → (m ≤ p.limit) × (onward s p r.next m ≡ onward s p i t)
+  pub level-none : o ≡ Nothing → (m ≤ p.limit) × (onward s p q.next m ≡ whole)
   level-none z =
-      let u = way-none under (sym (ap (λ (y : Trail). y.way) said) ∙ z) in
-      let d : m ≡ (trail_of under).tested = ap (λ (y : Trail). y.tested) said in
-      let l = limited-most p.limit (t + r.tested) (walk_at s r.at) in let y = ap (λ (q : Tallied). q.tested) u in
-      (omega arith, ap (λ (j : ℕ). onward s p r.next j) d ∙ sym (g ∙ limited-none p.limit (t + r.tested) (walk_at s r.at) (values_from s p r.next) (trail_of under).tested u))
+      let u = trail-none under m (sym (ap (λ (x : Outcome). trail x m) z) ∙ said) in
+      let l = limited-most p.limit t (walk_at s q.at) in let y = ap (λ (x : Tallied). x.tested) u in
+      (omega arith, sym (g ∙ limited-none p.limit t (walk_at s q.at) (values_from s p q.next) m u))

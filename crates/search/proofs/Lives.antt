@@ -28,7 +28,7 @@ use Rattle.runs.specs.Upward.{widened, Reach}
 use Rattle.runs.proofs.Upward.{widened-take}
 use Rattle.enumeration.specs.Search.{Interval, can_hold, box_of}
 use Rattle.search.specs.Sides.{sides_of, Standing}
-use Rattle.search.specs.Live.{row_basic, Rows, Live, Laid, wide_box, Fails, Tested, Sided}
+use Rattle.search.specs.Live.{row_basic, Rows, Live, Laid, wide_box, Fails, Holding, Failing, Sided}
 use Rattle.search.specs.Levels.{ok_at}
 use Rattle.enumeration.proofs.Windows.{box-take}
 use Rattle.search.proofs.Climbs.{lt_of, span, value-within, ok-is}
@@ -155,13 +155,21 @@ module _ (s : List ℕ) (n : ℕ) (xs : List Interval) (wide : ℕ → List Inte
   none_left : length rows ≤ b → (ys : List Interval) (i : ℕ) → b ≤ i → get_or (map (can_hold ys) (set_from s 0)) i false ≡ false
   none_left h ys i o = get_or-eq_default (map (can_hold ys) (set_from s 0)) false (let z : length (map (can_hold ys) (set_from s 0)) ≤ i = omega (arith, length-map (set_from s 0) (can_hold ys), rows-length s n rows g.right) in z)
 
-  pub opens-end : length rows ≤ b → Tested s xs wide most (record { any = found; run = run; live = kept })
-  opens-end h = record {
-    any_holds = sym (or-false found) ∙ ap (λ (y : List Bool). found || any (λ (y : Bool). y) y) (sym (drop_of_length-le can (let z : length can ≤ b = omega (arith, long) in z))) ∙ g.any_is;
+  any_of : length rows ≤ b → found ≡ any (can_hold xs) (set_from s 0)
+  any_of h = sym (or-false found) ∙ ap (λ (y : List Bool). found || any (λ (y : Bool). y) y) (sym (drop_of_length-le can (let z : length can ≤ b = omega (arith, long) in z))) ∙ g.any_is
+
+  pub opens-holding : length rows ≤ b → found ≡ true → Holding s xs kept
+  opens-holding h e = record {
+    some = sym (any_of h) ∙ e;
     still = record { places = g.places; dead = λ i e. by (λ (y : Bool). get_or can i false ≡ false) (ltb i b) (λ z. sym (g.is i (ltb-true i b z)) ∙ e) (λ z. none_left h xs i (ltb-false i b z)) };
+  }
+
+  pub opens-failing : length rows ≤ b → found ≡ false → Failing s xs wide most run
+  opens-failing h e = record {
+    none = sym (any_of h) ∙ e;
     some = g.some;
     few = g.few;
-    far = λ y i. by (λ (y : Bool). Fails s wide run i) (ltb i b) (λ z. g.far y i (ltb-true i b z)) (λ z. record { reach = run; enough = omega arith; is = none_left h (wide run) i (ltb-false i b z) });
+    far = λ i. by (λ (y : Bool). Fails s wide run i) (ltb i b) (λ z. g.far e i (ltb-true i b z)) (λ z. record { reach = run; enough = omega arith; is = none_left h (wide run) i (ltb-false i b z) });
   }
 
 -- ---- live sets

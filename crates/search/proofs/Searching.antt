@@ -18,12 +18,10 @@ use Rattle.codec.specs.Bytes.{Answer, refused, gives, decode, number}
 use Rattle.codec.specs.Places.{set_from}
 use Rattle.codec.proofs.Boundaries.{decode_is}
 use Rattle.query.specs.Member.{coordinate, point_fits}
-use Rattle.enumeration.specs.Search.{Interval, walk, Walk, Found, at, nothing, spent, Tallied, found_of, first_point, box_of, upright, shut, search_box, corners_fit, box_fits, limit_fits, search_bytes}
-use Rattle.search.specs.Sides.{limited, sides_of, Standing, Boxed, trail_of, answer_of}
+use Rattle.enumeration.specs.Search.{Interval, walk, Walk, spent, Tallied, found_of, first_point, box_of, upright, shut, search_box, corners_fit, box_fits, limit_fits, search_bytes}
+use Rattle.search.specs.Sides.{limited, sides_of, Standing, Boxed, answer_of}
 use Rattle.search.specs.Levels.{Begun}
 use Rattle.search.specs.declared.levels.Prefix.{Prefix}
-use Rattle.search.specs.declared.levels.Trail.{Trail}
-use Rattle.search.specs.declared.first.Outcome.TheVariants.{At, Nothing, Spent}
 use Rattle.enumeration.proofs.Windows.{corners-upright}
 use Rattle.query.proofs.Points.{point-within}
 use Rattle.query.proofs.Answers.{axes-some, axes-most}
@@ -143,28 +141,3 @@ module _ (n : ℕ) (s : List ℕ) (low high : List ℤ) (limit : ℕ) where
             by : (b : Bool) → upright (box_of low high) ≡ b → upright (box_of low high) ≡ false
             by true e = clash_ℤ o (sides-at low high l (to-T (upright (box_of low high)) e) i)
             by false e = e
-
--- ---- by the trail's way
-pub answer_at : (x : Tallied) (t : Trail) → t ≡ trail_of x → t.way ≡ 1 → record { outcome = At; point = t.point; tested = t.tested } ≡ answer_of (gives x)
-answer_at x t e w = go x.found x.tested e
-  where
-    go : (f : Found) (m : ℕ) → t ≡ trail_of (record { found = f; tested = m }) → record { outcome = At; point = t.point; tested = t.tested } ≡ answer_of (gives (record { found = f; tested = m }))
-    go (at p) m e = ap (λ (r : Trail). record { outcome = At; point = r.point; tested = r.tested }) e
-    go nothing m e = absurd (omega (arith, w, ap (λ (r : Trail). r.way) e))
-    go spent m e = absurd (omega (arith, w, ap (λ (r : Trail). r.way) e))
-
-pub answer-spent : (x : Tallied) (t : Trail) → t ≡ trail_of x → t.way ≡ 2 → record { outcome = Spent; point = t.point; tested = t.tested } ≡ answer_of (gives x)
-answer-spent x t e w = go x.found x.tested e
-  where
-    go : (f : Found) (m : ℕ) → t ≡ trail_of (record { found = f; tested = m }) → record { outcome = Spent; point = t.point; tested = t.tested } ≡ answer_of (gives (record { found = f; tested = m }))
-    go (at p) m e = absurd (omega (arith, w, ap (λ (r : Trail). r.way) e))
-    go nothing m e = absurd (omega (arith, w, ap (λ (r : Trail). r.way) e))
-    go spent m e = ap (λ (r : Trail). record { outcome = Spent; point = r.point; tested = r.tested }) e
-
-pub answer-nothing : (x : Tallied) (t : Trail) → t ≡ trail_of x → (t.way ≡ 1 → ⊥) → (t.way ≡ 2 → ⊥) → record { outcome = Nothing; point = t.point; tested = t.tested } ≡ answer_of (gives x)
-answer-nothing x t e v w = go x.found x.tested e
-  where
-    go : (f : Found) (m : ℕ) → t ≡ trail_of (record { found = f; tested = m }) → record { outcome = Nothing; point = t.point; tested = t.tested } ≡ answer_of (gives (record { found = f; tested = m }))
-    go (at p) m e = absurd (v (ap (λ (r : Trail). r.way) e))
-    go nothing m e = ap (λ (r : Trail). record { outcome = Nothing; point = r.point; tested = r.tested }) e
-    go spent m e = absurd (w (ap (λ (r : Trail). r.way) e))

@@ -3,11 +3,15 @@ use Rattle.std.specs.Prelude.{◌≡◌, Bool, true, false, cond, List, [], ◌�
 use Rattle.model.specs.Sets.{Set}
 use Rattle.codec.specs.Places.{set_from}
 use Rattle.enumeration.specs.Search.{Interval, box_of, passes, Walk, walk, Tallied}
-use Rattle.search.specs.Sides.{limited, sides_of, Standing, padded}
+use Rattle.search.specs.Sides.{limited, sides_of, Standing}
 use Rattle.search.specs.Live.{Rowed, Live}
 use Rattle.search.specs.declared.levels.Prefix.{Prefix}
 use Rattle.search.specs.declared.levels.Stop.{Stop}
-use Rattle.search.specs.declared.levels.Trail.{Trail}
+use Rattle.search.specs.declared.levels.Passed.{Passed}
+use Rattle.search.specs.declared.levels.Way.{Way}
+use Rattle.search.specs.declared.levels.Way.TheVariants.{Past, Spent, Point, Below}
+use Rattle.search.specs.declared.levels.Outcome.{Outcome}
+use Rattle.search.specs.declared.first.FirstPoint.{FirstPoint}
 
 -- one value after the prefix p, with the sides bs open below it
 abbrev pub ok_at : Set → List ℤ → List Interval → ℤ → Bool
@@ -41,16 +45,19 @@ pub record Ready (s : List ℕ) (p : Prefix) (t : ℕ) : Type 0 where
   pub fits : p.limit < 4294967296
   pub lives : Live s (sides_of p.n p.low p.high) p.live
 
--- how a level ended, if m were tested by then
-abbrev pub ended : Stop → ℕ → Trail
-ended r m = record { way = r.way; point = cond (eqb r.way 1) r.at.low (padded []); tested = m }
+-- how a walk ended, if m were tested by then
+abbrev pub trail : Outcome → ℕ → FirstPoint
+trail o m = record { outcome = o; tested = m }
 
 -- a prefix that passed
 abbrev pub next_of : Prefix → List ℤ → List ℤ → List Bool → Prefix
 next_of p l h live = record { n = p.n; k = p.k + 1; limit = p.limit; count = p.count; low = l; high = h; live = live }
 
+abbrev pub way_at : Prefix → Passed → Way
+way_at p q = cond (eqb (p.k + 1) p.n) (Point q) (Below q)
+
 abbrev pub stop_at : Prefix → List ℤ → List ℤ → List Bool → ℕ → ℕ → Stop
-stop_at p l h live tested next = record { way = cond (eqb (p.k + 1) p.n) 1 3; tested = tested; next = next; at = next_of p l h live }
+stop_at p l h live tested next = record { way = way_at p (record { at = next_of p l h live; next = next }); tested = tested }
 
 -- the sides with value i fixed
 abbrev pub lows_at : Prefix → ℕ → List ℤ
@@ -66,8 +73,8 @@ Failed s p i m = (j : ℕ) → j < m → passes_at s p (i + j) ≡ false
 -- how the values from number i on went, t prefixes having been tested before: m fail, and then the side is at its end, the limit
 -- is reached, or a value passes
 pub data Climbed (s : List ℕ) (p : Prefix) (i t : ℕ) : Stop → Type 0 where
-  past : (m : ℕ) → Failed s p i m → m ≡ suc (span_at p) - i → t + m ≤ p.limit → (j : ℕ) → Climbed s p i t (record { way = 0; tested = m; next = j; at = p })
-  exhausted : (m : ℕ) → Failed s p i m → i + m ≤ span_at p → t + m ≡ p.limit → (j : ℕ) → Climbed s p i t (record { way = 2; tested = m; next = j; at = p })
+  past : (m : ℕ) → Failed s p i m → m ≡ suc (span_at p) - i → t + m ≤ p.limit → Climbed s p i t (record { way = Past; tested = m })
+  exhausted : (m : ℕ) → Failed s p i m → i + m ≤ span_at p → t + m ≡ p.limit → Climbed s p i t (record { way = Spent; tested = m })
   passing : (m : ℕ) → Failed s p i m → i + m ≤ span_at p → t + m < p.limit → passes_at s p (i + m) ≡ true
       → (live : List Bool) → Live s (sides_of p.n (lows_at p (i + m)) (highs_at p (i + m))) live
       → Climbed s p i t (stop_at p (lows_at p (i + m)) (highs_at p (i + m)) live (m + 1) (i + m + 1))

@@ -9,6 +9,7 @@ use Rattle.bounds.specs.Rows.{start_of, Row}
 use Rattle.runs.specs.Upward.{widened, Reach}
 use Rattle.enumeration.specs.Search.{Interval, can_hold, box_of}
 use Rattle.search.specs.declared.opening.Opening.{Opening}
+use Rattle.search.specs.declared.opening.Opening.TheVariants.{Open, Shut}
 
 -- the basic set of a row
 abbrev pub row_basic : List ℕ → List ℤ → BasicSet
@@ -40,13 +41,21 @@ pub record Fails (s : List ℕ) (wide : ℕ → List Interval) (m i : ℕ) : Typ
   pub enough : m ≤ reach
   pub is : get_or (map (can_hold (wide reach)) (set_from s 0)) i false ≡ false
 
--- whether a basic set can hold over the sides, for how many values none can, and which are live there
-pub record Tested (s : List ℕ) (xs : List Interval) (wide : ℕ → List Interval) (most : ℕ) (r : Opening) : Type 0 where
-  pub any_holds : r.any ≡ any (can_hold xs) (set_from s 0)
-  pub still : Live s xs r.live
-  pub some : 0 < r.run
-  pub few : r.run ≤ most
-  pub far : r.any ≡ false → (i : ℕ) → Fails s wide r.run i
+-- some basic set can hold over the sides, and these are live there
+pub record Holding (s : List ℕ) (xs : List Interval) (live : List Bool) : Type 0 where
+  pub some : any (can_hold xs) (set_from s 0) ≡ true
+  pub still : Live s xs live
+
+-- none can, nor for m values
+pub record Failing (s : List ℕ) (xs : List Interval) (wide : ℕ → List Interval) (most m : ℕ) : Type 0 where
+  pub none : any (can_hold xs) (set_from s 0) ≡ false
+  pub some : 0 < m
+  pub few : m ≤ most
+  pub far : (i : ℕ) → Fails s wide m i
+
+abbrev pub Tested : List ℕ → List Interval → (ℕ → List Interval) → ℕ → Opening → Type 0
+Tested s xs wide most (Open live) = Holding s xs live
+Tested s xs wide most (Shut m) = Failing s xs wide most m
 
 -- m values of axis k, the first of them that of the box: over the side from the last down to the first, if they are more than one, some basic set can hold
 pub record Kept (s : List ℕ) (k : ℕ) (low high : List ℤ) (most m : ℕ) : Type 0 where

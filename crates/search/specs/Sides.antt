@@ -3,13 +3,13 @@ use Rattle.std.specs.Prelude.{◌≡◌, true, cond, List, [], ℕ, ◌+◌, ◌
 use Rattle.model.specs.Limits.{most_axes, most_coordinate}
 use Rattle.codec.specs.Bytes.{Answer, refused, gives, decode, number}
 use Rattle.codec.specs.Places.{Accepted}
-use Rattle.enumeration.specs.Search.{Interval, box_of, Walk, at, nothing, spent, Tallied, found_of, box_fits}
+use Rattle.enumeration.specs.Search.{Interval, box_of, Walk, Found, at, nothing, spent, Tallied, found_of, box_fits}
 pub use Rattle.query.specs.Member.{padded}
 pub use Rattle.bounds.specs.Ends.{side}
 use Rattle.bounds.specs.Ends.{AllWithin}
-use Rattle.search.specs.declared.levels.Trail.{Trail}
+use Rattle.search.specs.declared.levels.Outcome.{Outcome}
+use Rattle.search.specs.declared.levels.Outcome.TheVariants.{At, Nothing, Spent}
 use Rattle.search.specs.declared.first.FirstPoint.{FirstPoint}
-use Rattle.search.specs.declared.first.Outcome.TheVariants.{At, Nothing, Spent, Refused}
 
 -- ---- the walk
 
@@ -39,20 +39,21 @@ pub record Boxed (n : ℕ) (s : List ℕ) (low high : List ℤ) : Type 0 where
   pub accepted : number (decode n s) ≡ 0
   pub box : box_fits n low high ≡ true
 
-abbrev pub trail_of : Tallied → Trail
-trail_of t =
-    elim t.found [
-      | at p ↦ record { way = 1; point = padded p; tested = t.tested }
-      | nothing ↦ record { way = 0; point = padded []; tested = t.tested }
-      | spent ↦ record { way = 2; point = padded []; tested = t.tested }
-    ]
+-- the code's answer of a walk: a point has 0 on absent axes
+abbrev pub outcome_of : Found → Outcome
+outcome_of (at p) = At (padded p)
+outcome_of nothing = Nothing
+outcome_of spent = Spent
 
--- the answers of a search: the point of `At`, zeros otherwise
-abbrev pub answer_of : Answer Tallied → FirstPoint
-answer_of (refused m) = record { outcome = Refused m; point = padded []; tested = 0 }
-answer_of (gives t) =
-    elim t.found [
-      | at p ↦ record { outcome = At; point = padded p; tested = t.tested }
-      | nothing ↦ record { outcome = Nothing; point = padded []; tested = t.tested }
-      | spent ↦ record { outcome = Spent; point = padded []; tested = t.tested }
-    ]
+abbrev pub trail_of : Tallied → FirstPoint
+trail_of t = record { outcome = outcome_of t.found; tested = t.tested }
+
+abbrev pub point_or_zeros : Outcome → List ℤ
+point_or_zeros (At p) = p
+point_or_zeros Nothing = padded []
+point_or_zeros Spent = padded []
+
+-- the answers of a search
+abbrev pub answer_of : Answer Tallied → Answer FirstPoint
+answer_of (refused m) = refused m
+answer_of (gives t) = gives (trail_of t)

@@ -1,28 +1,31 @@
 // The first point of a set in a box: the call, its refusals, and its walk from the whole box.
 ghost use Rattle.std.specs.Prelude.{◌≡◌, [], take};
-ghost use Rattle.codec.specs.Bytes as B;
+ghost use Rattle.codec.specs.Refusing.{answer_is};
 ghost use Rattle.codec.specs.Places.{set_from};
-ghost use Rattle.enumeration.specs.Search.{box_of, walk, search_bytes, Tallied};
-ghost use Rattle.search.specs.Sides.{limited, padded, trail_of, Boxed, answer_of};
+ghost use Rattle.enumeration.specs.Search.{box_of, walk, search_bytes};
+ghost use Rattle.search.specs.Sides.{limited, trail_of, point_or_zeros, Boxed, answer_of};
 
-use crate::levels::{Trail, tallied, zeros};
+use crate::levels::{Outcome, level};
 use crate::windows::{begin, corners_fit, limit_fits, upright};
-use model::{limit, refusal};
+use model::{Refusal, limit};
 
-#[derive(Clone, Copy)]
-pub enum Outcome {
-    At,
-    Nothing,
-    Spent,
-    Refused(u32),
-}
-
-// The answer of a search: the point of `At`, zeros otherwise and on absent axes; the number of prefixes tested.
+// The answer of a search: how it ended, and the number of prefixes tested.
 #[derive(Clone, Copy)]
 pub struct FirstPoint {
     pub outcome: Outcome,
-    pub point: [i64; limit::AXES],
     pub tested: u32,
+}
+
+impl FirstPoint {
+    // The point that was found; zeros if none was.
+    pub fn point(self) -> [i64; limit::AXES]
+        ensures { result ≡ point_or_zeros self.outcome }
+    {
+        match self.outcome {
+            Outcome::At(point) => point,
+            Outcome::Nothing | Outcome::Spent => [0; limit::AXES],
+        }
+    }
 }
 
 // The walk of checked bytes over a box that fits and is not shut.
@@ -32,50 +35,15 @@ fn walked(
     low: [i32; limit::AXES],
     high: [i32; limit::AXES],
     limit: u32,
-) -> Trail
+) -> FirstPoint
     requires { Boxed n s.now low high }
     ensures { result ≡ trail_of (limited limit 0 (walk (set_from s.now 0) [] (take n (box_of low high)))) }
 {
     let mut rows = [[0i64; 129]; limit::BASIC_SETS];
     let all = begin(n, s, low, high, limit, &mut rows);
-    tallied(s, all, &mut rows)
-}
-
-// An answer for which no prefix is tested.
-fn untested(answer: Outcome) -> FirstPoint
-    ensures { result ≡ record { outcome = answer; point = padded []; tested = 0 } }
-{
-    let z = zeros();
-    FirstPoint {
-        outcome: answer,
-        point: z,
-        tested: 0,
-    }
-}
-
-fn answered(t: Trail) -> FirstPoint
-    ensures { (x : Tallied) → t ≡ trail_of x → result ≡ answer_of (B.gives x) }
-{
-    let p = t.point;
-    if t.way == 1 {
-        return FirstPoint {
-            outcome: Outcome::At,
-            point: p,
-            tested: t.tested,
-        };
-    }
-    if t.way == 2 {
-        return FirstPoint {
-            outcome: Outcome::Spent,
-            point: p,
-            tested: t.tested,
-        };
-    }
-    FirstPoint {
-        outcome: Outcome::Nothing,
-        point: p,
-        tested: t.tested,
-    }
+    let mut tested = 0;
+    let outcome = level(s, all, &mut tested, &mut rows);
+    FirstPoint { outcome, tested }
 }
 
 // The first point of the set in the box, with the number of prefixes tested.
@@ -85,21 +53,21 @@ pub fn first_point(
     lows: [i32; limit::AXES],
     highs: [i32; limit::AXES],
     limit: u32,
-) -> FirstPoint
-    ensures { result ≡ answer_of (search_bytes n set.now lows highs limit) }
+) -> Result<FirstPoint, Refusal>
+    ensures { answer_is (λ x. x) result ≡ answer_of (search_bytes n set.now lows highs limit) }
 {
-    let c = codec::check(n, set);
-    if c != 0 {
-        return untested(Outcome::Refused(c));
-    }
+    codec::check(n, set)?;
     if !corners_fit(n, lows, highs) {
-        return untested(Outcome::Refused(refusal::BAD_POINT));
+        return Err(Refusal::BadPoint);
     }
     if !limit_fits(limit) {
-        return untested(Outcome::Refused(refusal::BAD_LIMIT));
+        return Err(Refusal::BadLimit);
     }
     if !upright(lows, highs) {
-        return untested(Outcome::Nothing);
+        return Ok(FirstPoint {
+            outcome: Outcome::Nothing,
+            tested: 0,
+        });
     }
-    answered(walked(n, set, lows, highs, limit))
+    Ok(walked(n, set, lows, highs, limit))
 }

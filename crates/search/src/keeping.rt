@@ -7,7 +7,7 @@ ghost use Rattle.runs.specs.Upward.{Reach, Keeping};
 ghost use Rattle.search.specs.Live.{Rows, Rowed, Kept};
 ghost use Rattle.search.specs.Levels.{passes_at, span_at, Ready, Lasting};
 
-use crate::levels::{Prefix, fewer, span_of, value_at};
+use crate::levels::{Prefix, span_of, value_at};
 use model::limit;
 
 // 1, or for how many values the basic set of row r, if it is live, holds.
@@ -24,9 +24,10 @@ fn row_keeps(
     ensures { Keeping s.now k low.now high.now r.old r.new most result }
 {
     if live {
-        return runs::keeping_run(s, k, low, high, r, most);
+        runs::keeping_run(s, k, low, high, r, most)
+    } else {
+        1
     }
-    1
 }
 
 // The same of the first row that has more than 1.
@@ -43,14 +44,11 @@ fn kept(
     ensures is { Kept s.now k low.now high.now most result }
     ensures rows { Rows s.now (length low.now) rows.new }
 {
-    let mut b = 0;
-    while b < rows.len() {
-        let o = live[b];
-        let m = row_keeps(s, o, k, low, high, &mut rows[b], most);
+    for (b, row) in rows.iter_mut().enumerate() {
+        let m = row_keeps(s, live[b], k, low, high, row, most);
         if 1 < m {
             return m;
         }
-        b += 1;
     }
     1
 }
@@ -91,16 +89,12 @@ pub fn lasting(
     if !ask {
         return 1;
     }
-    let n = p.n;
-    let k = p.k;
-    let side = p.low;
+    let span = span_of(p.low, p.high, p.k);
+    let most = (span - i + 1).min(u64::from(p.limit - tested));
+    let v = value_at(p.low, p.k, i);
     let mut low = p.low;
     let mut high = p.high;
-    let limit = p.limit;
-    let span = span_of(low, high, k);
-    let most = fewer(span - i + 1, limit - tested);
-    let v = value_at(side, k, i);
-    low[k] = v;
-    high[k] = v;
-    kept_in(s, k, &low[..n], &high[..n], live, p.count, rows, most)
+    low[p.k] = v;
+    high[p.k] = v;
+    kept_in(s, p.k, &low[..p.n], &high[..p.n], live, p.count, rows, most)
 }

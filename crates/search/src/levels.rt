@@ -1,21 +1,15 @@
 // The levels of the first-point search: prefixes in dictionary order, each axis upward, below those only that can still
 // hold.
-ghost use Rattle.std.specs.Prelude.{◌≡◌, [], ◌≤◌, ◌<◌, pos, nat_abs, ◌+ℤ◌, ◌-ℤ◌, ◌≤ℤ◌, get_or};
+ghost use Rattle.std.specs.Prelude.{◌≡◌, ◌≤◌, pos, nat_abs, ◌+ℤ◌, ◌-ℤ◌, ◌≤ℤ◌, ◌<◌, get_or};
 ghost use Rattle.model.specs.Limits.{most_axes, most_coordinate};
 ghost use Rattle.bounds.specs.Sizes.{most_move};
 ghost use Rattle.bounds.specs.Ends.{AllWithin};
-ghost use Rattle.search.specs.Sides.{padded, trail_of};
+ghost use Rattle.search.specs.Sides.{trail_of};
 ghost use Rattle.search.specs.Live.{Rowed};
-ghost use Rattle.search.specs.Levels.{Ready, Climbed, ended, stop_at, level_of};
+ghost use Rattle.search.specs.Levels.{Ready, Climbed, stop_at, level_of, trail};
 
-use crate::opening::opened_in;
+use crate::opening::{Opening, opened_in};
 use model::limit;
-
-// How many prefixes were tested: one record lent to each level, which adds to it there.
-#[derive(Clone, Copy)]
-pub struct Tally {
-    pub tested: u32,
-}
 
 // A prefix of k numbers, on whose axes low and high are the same, and the basic sets that can hold over the box
 // (`live`); with what all levels share: the number of axes, the limit, and how many rows are in use.
@@ -30,22 +24,35 @@ pub struct Prefix {
     pub live: [bool; limit::BASIC_SETS],
 }
 
-// Where a level stops: 0 past its last value, 1 at a point, 2 spent, 3 at a prefix to go below, before value `next`.
-// `at` is that prefix; `tested` is how many were tested on the way.
+// A prefix that passed, and the number of the value after its last one.
 #[derive(Clone, Copy)]
-pub struct Stop {
-    pub way: u8,
-    pub tested: u32,
-    pub next: u64,
+pub struct Passed {
     pub at: Prefix,
+    pub next: u64,
 }
 
-// How a walk ended: 0 nothing found, 1 at a point, 2 spent.
+// How far a level came: past its last value, to the limit, to a point, or to a prefix to go below.
 #[derive(Clone, Copy)]
-pub struct Trail {
-    pub way: u8,
-    pub point: [i64; limit::AXES],
+pub enum Way {
+    Past,
+    Spent,
+    Point(Passed),
+    Below(Passed),
+}
+
+// Where a level stops, and how many prefixes were tested on the way.
+#[derive(Clone, Copy)]
+pub struct Stop {
+    pub way: Way,
     pub tested: u32,
+}
+
+// How a search ended: at its first point, which has 0 on absent axes, with none in the box, or at the limit.
+#[derive(Clone, Copy)]
+pub enum Outcome {
+    At([i64; limit::AXES]),
+    Nothing,
+    Spent,
 }
 
 // How far the side of axis k goes.
@@ -54,9 +61,7 @@ pub fn span_of(low: [i64; limit::AXES], high: [i64; limit::AXES], k: usize) -> u
     ensures is { result ≡ nat_abs (get_or high k (pos 0) -ℤ get_or low k (pos 0)) }
     ensures size { result ≤ most_move }
 {
-    let a = low[k];
-    let b = high[k];
-    (b - a) as u64
+    (high[k] - low[k]) as u64
 }
 
 // Value i of the side of axis k.
@@ -64,18 +69,11 @@ pub fn value_at(low: [i64; limit::AXES], k: usize, i: u64) -> i64
     requires { (k < most_axes) × (i ≤ most_move) × AllWithin most_coordinate low }
     ensures { result ≡ get_or low k (pos 0) +ℤ pos i }
 {
-    let a = low[k];
-    a + i as i64
-}
-
-pub fn zeros() -> [i64; limit::AXES]
-    ensures { result ≡ padded [] }
-{
-    [0i64; limit::AXES]
+    low[k] + i as i64
 }
 
 // The prefix that passed: a point if no axis is left.
-fn passed(
+fn stop_at(
     p: Prefix,
     low: [i64; limit::AXES],
     high: [i64; limit::AXES],
@@ -86,40 +84,21 @@ fn passed(
     requires { p.k < most_axes }
     ensures { result ≡ stop_at p low high live tested next }
 {
-    let q = Prefix {
-        n: p.n,
-        k: p.k + 1,
-        limit: p.limit,
-        count: p.count,
-        low: low,
-        high: high,
-        live: live,
+    let k = p.k + 1;
+    let at = Prefix {
+        k,
+        low,
+        high,
+        live,
+        ..p
     };
-    if p.k + 1 == p.n {
-        return Stop {
-            way: 1,
-            tested: tested,
-            next: next,
-            at: q,
-        };
-    }
-    Stop {
-        way: 3,
-        tested: tested,
-        next: next,
-        at: q,
-    }
-}
-
-// The lesser of the two.
-pub fn fewer(a: u64, b: u32) -> u64
-    ensures { (result ≤ a) × (result ≤ b) × (0 < a → 0 < b → 0 < result) }
-{
-    let c = b as u64;
-    if a < c {
-        return a;
-    }
-    c
+    let passed = Passed { at, next };
+    let way = if k == p.n {
+        Way::Point(passed)
+    } else {
+        Way::Below(passed)
+    };
+    Stop { way, tested }
 }
 
 // The values of axis k from number `from` on, up to one that passes; `tested` prefixes were tested before. A run of
@@ -135,93 +114,68 @@ pub fn climb(
     ensures is { Climbed s.now p from tested result }
     ensures rows { Rowed s.now p.n p.count rows.new }
 {
-    let n = p.n;
-    let k = p.k;
-    let side = p.low;
     let mut low = p.low;
     let mut high = p.high;
-    let live = p.live;
-    let limit = p.limit;
-    let span = span_of(low, high, k);
+    let span = span_of(p.low, p.high, p.k);
     let mut t = 0;
     let mut i = from;
     while i <= span {
-        if tested + t == limit {
+        if tested + t == p.limit {
             return Stop {
-                way: 2,
+                way: Way::Spent,
                 tested: t,
-                next: i,
-                at: p,
             };
         }
-        let v = value_at(side, k, i);
-        low[k] = v;
-        high[k] = v;
-        let most = fewer(span - i + 1, limit - (tested + t));
-        let o = opened_in(s, k, &low[..n], &high[..n], live, p.count, rows, most);
-        if o.any {
-            let w = o.live;
-            return passed(p, low, high, w, t + 1, i + 1);
+        let v = value_at(p.low, p.k, i);
+        low[p.k] = v;
+        high[p.k] = v;
+        let most = (span - i + 1).min(u64::from(p.limit - (tested + t)));
+        match opened_in(
+            s,
+            p.k,
+            &low[..p.n],
+            &high[..p.n],
+            p.live,
+            p.count,
+            rows,
+            most,
+        ) {
+            Opening::Open(live) => return stop_at(p, low, high, live, t + 1, i + 1),
+            Opening::Shut(run) => {
+                t += run as u32;
+                i += run;
+            }
         }
-        let run = o.run;
-        t += run as u32;
-        i += run;
     }
     Stop {
-        way: 0,
+        way: Way::Past,
         tested: t,
-        next: i,
-        at: p,
     }
 }
 
-// The walk below a prefix. `rows` has a row of ends for each basic set, over whatever box it was last asked.
-pub fn level(s: &[u8], p: Prefix, t: &mut Tally, rows: &mut [[i64; 129]; limit::BASIC_SETS]) -> Stop
-    requires { Ready s.now p t.old.tested × Rowed s.now p.n p.count rows.old }
-    ensures { Rowed s.now p.n p.count rows.new × (ended result t.new.tested ≡ trail_of (level_of s.now p t.old.tested)) }
+// The walk below a prefix. `rows` has a row of ends for each basic set, over whatever box it was last asked; each level
+// adds to `tested` the prefixes that it tests.
+pub fn level(
+    s: &[u8],
+    p: Prefix,
+    tested: &mut u32,
+    rows: &mut [[i64; 129]; limit::BASIC_SETS],
+) -> Outcome
+    requires { Ready s.now p tested.old × Rowed s.now p.n p.count rows.old }
+    ensures { Rowed s.now p.n p.count rows.new × (trail result tested.new ≡ trail_of (level_of s.now p tested.old)) }
 {
-    let mut i = 0;
+    let mut from = 0;
     loop {
-        let x = climb(s, p, i, t.tested, rows);
-        t.tested = t.tested + x.tested;
-        if x.way != 3 {
-            return x;
+        let stop = climb(s, p, from, *tested, rows);
+        *tested += stop.tested;
+        match stop.way {
+            Way::Past => return Outcome::Nothing,
+            Way::Spent => return Outcome::Spent,
+            Way::Point(passed) => return Outcome::At(passed.at.low),
+            Way::Below(passed) => match level(s, passed.at, tested, rows) {
+                Outcome::Nothing => from = passed.next,
+                found => return found,
+            },
         }
-        let r = level(s, x.at, t, rows);
-        if r.way != 0 {
-            return r;
-        }
-        i = x.next;
     }
-}
-
-// How it ended, with the tally.
-fn final_trail(r: Stop, tested: u32) -> Trail
-    ensures { result ≡ ended r tested }
-{
-    let z = zeros();
-    let q = r.at;
-    let l = q.low;
-    if r.way == 1 {
-        return Trail {
-            way: 1,
-            point: l,
-            tested: tested,
-        };
-    }
-    Trail {
-        way: r.way,
-        point: z,
-        tested: tested,
-    }
-}
-
-// The walk below a prefix, with a tally of its own: what every other caller calls.
-pub fn tallied(s: &[u8], p: Prefix, rows: &mut [[i64; 129]; limit::BASIC_SETS]) -> Trail
-    requires { Ready s.now p 0 × Rowed s.now p.n p.count rows.old }
-    ensures { result ≡ trail_of (level_of s.now p 0) }
-{
-    let mut t = Tally { tested: 0 };
-    let r = level(s, p, &mut t, rows);
-    final_trail(r, t.tested)
 }

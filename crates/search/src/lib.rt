@@ -7,7 +7,7 @@ mod levels;
 mod opening;
 mod windows;
 
-pub use first::{FirstPoint, Outcome, first_point};
+pub use first::{FirstPoint, first_point};
 pub use keeping::lasting;
-pub use levels::{Prefix, Stop, climb, span_of, value_at};
+pub use levels::{Outcome, Passed, Prefix, Stop, Way, climb, span_of, value_at};
 pub use windows::{begin, corners_fit, limit_fits, upright};

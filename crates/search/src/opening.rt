@@ -1,5 +1,5 @@
 // Which basic sets can still hold over a box, by their rows of ends; where none can, for how many values of an axis.
-ghost use Rattle.std.specs.Prelude.{◌≡◌, false, ◌||◌, ◌<◌, length};
+ghost use Rattle.std.specs.Prelude.{◌≡◌, false, ◌<◌, length};
 ghost use Rattle.model.specs.Limits.{most_coordinate};
 ghost use Rattle.codec.specs.Places.{basic_at};
 ghost use Rattle.bounds.specs.Ends.{Ends};
@@ -25,37 +25,17 @@ fn row_run(
     ensures { Told s.now k low.now high.now r.old r.new most result }
 {
     if live {
-        return runs::failing_run(s, k, low, high, r, most);
+        runs::failing_run(s, k, low, high, r, most)
+    } else {
+        most
     }
-    most
 }
 
-fn either(a: bool, b: bool) -> bool
-    ensures { result ≡ (a || b) }
-{
-    if a {
-        return true;
-    }
-    b
-}
-
-// The shortest run once one of m values is known: 1 where m is 0, since one that can hold ends them all.
-fn shortened(m: u64) -> u64
-    ensures is { (m ≡ 0 → ⊥) → result ≡ m }
-    ensures size { (0 < result) × (m ≡ 0 → result ≡ 1) }
-{
-    if m == 0 {
-        return 1;
-    }
-    m
-}
-
-// Which basic sets can hold over a box, whether any can, and if not, for how many values none can.
+// Over a box: which basic sets can hold, if any can, and otherwise for how many values none can.
 #[derive(Clone, Copy)]
-pub struct Opening {
-    pub any: bool,
-    pub run: u64,
-    pub live: [bool; limit::BASIC_SETS],
+pub enum Opening {
+    Open([bool; limit::BASIC_SETS]),
+    Shut(u64),
 }
 
 // `live` has those that can over a box around it and the next values of axis k, `most` in all.
@@ -75,19 +55,16 @@ fn opened(
     let mut kept = live;
     let mut any = false;
     let mut run = most;
-    let mut b = 0;
-    while b < rows.len() {
-        let o = live[b];
-        let m = row_run(s, o, k, low, high, &mut rows[b], run);
+    for (b, row) in rows.iter_mut().enumerate() {
+        let m = row_run(s, live[b], k, low, high, row, run);
         kept[b] = m == 0;
-        any = either(any, m == 0);
-        run = shortened(m);
-        b += 1;
+        any |= m == 0;
+        run = m.max(1);
     }
-    Opening {
-        any: any,
-        run: run,
-        live: kept,
+    if any {
+        Opening::Open(kept)
+    } else {
+        Opening::Shut(run)
     }
 }
 

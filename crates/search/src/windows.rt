@@ -15,34 +15,19 @@ use model::limit;
 pub fn upright(low: [i32; limit::AXES], high: [i32; limit::AXES]) -> bool
     ensures { result ≡ S.upright (box_of low high) }
 {
-    let mut i = 0;
-    while i < limit::AXES {
-        let a = low[i];
-        let b = high[i];
-        if b < a {
-            return false;
-        }
-        i += 1;
-    }
-    true
+    low.iter().zip(&high).all(|(low, high)| low <= high)
 }
 
 pub fn corners_fit(n: usize, low: [i32; limit::AXES], high: [i32; limit::AXES]) -> bool
     ensures { result ≡ corners_fit n low high }
 {
-    if !query::point_fits(n, low) {
-        return false;
-    }
-    query::point_fits(n, high)
+    query::point_fits(n, low) && query::point_fits(n, high)
 }
 
 pub fn limit_fits(limit: u32) -> bool
     ensures { result ≡ limit_fits limit }
 {
-    if limit == 0 {
-        return false;
-    }
-    limit <= limit::PREFIXES
+    0 < limit && limit <= limit::PREFIXES
 }
 
 // The rows of the basic sets, and how many they are.
@@ -72,16 +57,16 @@ pub fn begin(
     requires { Boxed n s.now low high }
     ensures { Begun s.now n low high limit rows.new result }
 {
-    let l = query::widened(low);
-    let h = query::widened(high);
+    let low = query::widened(low);
+    let high = query::widened(high);
     let count = laid(s, rows);
     Prefix {
-        n: n,
+        n,
         k: 0,
-        limit: limit,
-        count: count,
-        low: l,
-        high: h,
+        limit,
+        count,
+        low,
+        high,
         live: [true; limit::BASIC_SETS],
     }
 }

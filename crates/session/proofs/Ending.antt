@@ -11,6 +11,7 @@ use lib.Seq.{length-take-le, get_or-set_same, get_or-set_other}
 use lib.IntN.{pos}
 use Rattle.model.specs.Lists.{all}
 use Rattle.model.specs.Sets.{Set}
+use Rattle.std.proofs.Common.{Option, Some, None}
 use Rattle.codec.specs.Bytes.{Answer, refused, gives, decode, axes_fit, width_of}
 use Rattle.codec.proofs.Walking.{head}
 use Rattle.algebra.specs.Result.{table_of}
@@ -20,10 +21,7 @@ use Rattle.session.specs.Script as S
 use Rattle.session.specs.Script.{room, set_numbers, command_width, ending, Done, execute, script}
 use Rattle.session.specs.Turns.{Memory, state_of, table_at, keeps, Effect, none, listed, is_assignment, answer_of, effect_of, performs, listing_of, memory_of, Turned, quiet, state_at, line_turn, command_turn, front_turn, front_of, turn_of, cursor_fits, usable, Fitted}
 use Rattle.session.specs.Session.{Session, goes, reads, closes, ends, Fresh}
-use Rattle.session.specs.declared.Front.TheVariants.{Whole, More, Stop}
 use Rattle.session.specs.declared.Cursor.{Cursor}
-use Rattle.session.specs.declared.Listing.{Listing}
-use Rattle.session.specs.declared.Listing.TheVariants.{Nothing, From}
 use Rattle.session.specs.declared.State.{State}
 use Rattle.session.specs.declared.Next.{Next}
 use Rattle.session.specs.declared.Next.TheVariants.{Goes, Reads, Ends, Misused}
@@ -36,12 +34,12 @@ use Rattle.session.proofs.Sessions.{Fine, turned, joined, never, session-script}
 
 -- ---- what turns leave
 
-abbrev pub Named : Listing → Type 0
-Named Nothing = Unit {0}
-Named (From c) = c.set ≤ 3
+abbrev pub Named : Option Cursor → Type 0
+Named None = Unit {0}
+Named (Some c) = c.set ≤ 3
 
 -- the memory, n and the listing, but for where its cursor stands
-pub record Kept (n : ℕ) (y : Memory) (l : Listing) : Type 0 where
+pub record Kept (n : ℕ) (y : Memory) (l : Option Cursor) : Type 0 where
   pub fitted : Fitted y.tables y.lengths
   pub result_long : length y.result ≡ room
   pub axes : n ≤ 8
@@ -51,9 +49,9 @@ all-fits : (l : List ℕ) → ((m : ℕ) → get_or l m 0 ≤ room) → all (λ 
 all-fits [] h = refl
 all-fits (x ∷ l) h = ap₂ ◌&&◌ (le-leb x room (h 0)) (all-fits l (λ m. h (suc m)))
 
-cursor-fits : (n : ℕ) (y : Memory) (l : Listing) → Named l → Fine n y l → cursor_fits y.lengths l ≡ true
-cursor-fits n y Nothing m f = refl
-cursor-fits n y (From c) m f =
+cursor-fits : (n : ℕ) (y : Memory) (l : Option Cursor) → Named l → Fine n y l → cursor_fits y.lengths l ≡ true
+cursor-fits n y None m f = refl
+cursor-fits n y (Some c) m f =
     let i = f.here.inside in let b = f.basics in let d = f.divisions in let p = f.most in let q = f.few in
     ap₂ ◌&&◌ (le-leb c.set 3 m)
     (ap₂ ◌&&◌ (le-leb c.place (get_or y.lengths c.set 0) (omega (arith, length-take (get_or y.lengths c.set 0) (drop (room * c.set) y.tables))))
@@ -69,7 +67,7 @@ usable-kept w st y h k f =
 
 -- ---- a command keeps them
 
-kept-assigned : (n : ℕ) (y : Memory) (m : ℕ) (a : Answer (List ℕ)) → m ≤ 3 → Bounded a → Fitted y.tables y.lengths → n ≤ 8 → Kept n (keeps y m a) Nothing
+kept-assigned : (n : ℕ) (y : Memory) (m : ℕ) (a : Answer (List ℕ)) → m ≤ 3 → Bounded a → Fitted y.tables y.lengths → n ≤ 8 → Kept n (keeps y m a) None
 kept-assigned n y m (refused k) h b f x = record { fitted = f; result_long = length-replicate {A = ℕ} room 0; axes = x; named = tt }
 kept-assigned n y m (gives l) h b f x =
     let g = b.within_room l refl in
@@ -98,7 +96,7 @@ Keeps y n e = Kept n (memory_of y e) (listing_of e)
 keeps_same : (y : Memory) {n n' : ℕ} {e e' : Effect} → n ≡ n' → e ≡ e' → Keeps y n e → Keeps y n' e'
 keeps_same y {n} {n'} {e} {e'} p q k = subst (λ (i : ℕ). Keeps y i e') p (subst (λ (x : Effect). Keeps y n x) q k)
 
-module _ (y : Memory) (n : ℕ) (k : Kept n y Nothing) where
+module _ (y : Memory) (n : ℕ) (k : Kept n y None) where
   keeps-listed : (m : ℕ) (a : Answer Set) → m ≤ 3 → Keeps y n (listed m a)
   keeps-listed m (refused j) h = k
   keeps-listed m (gives t) h = record { fitted = k.fitted; result_long = k.result_long; axes = k.axes; named = h }
@@ -117,7 +115,7 @@ module _ (y : Memory) (n : ℕ) (k : Kept n y Nothing) where
   keeps-opened : (m : ℕ) → Keeps y (S.opened (state_of n y) m).state.axes none
   keeps-opened m = at (axes_fit m) refl
     where
-      at : (x : Bool) → axes_fit m ≡ x → Kept (cond x (S.says (record { axes = m; sets = (state_of n y).sets }) (line "axes" (pos m ∷ []))) (S.ends (state_of n y) (S.refused_line 1))).state.axes y Nothing
+      at : (x : Bool) → axes_fit m ≡ x → Kept (cond x (S.says (record { axes = m; sets = (state_of n y).sets }) (line "axes" (pos m ∷ []))) (S.ends (state_of n y) (S.refused_line 1))).state.axes y None
       at true e = record { fitted = k.fitted; result_long = k.result_long; axes = leb-true m 8 (and_right (ltb 0 m) (leb m 8) e); named = tt }
       at false e = k
 
@@ -140,16 +138,16 @@ module _ (y : Memory) (n : ℕ) (k : Kept n y Nothing) where
 -- ---- a turn keeps them, and brings the end nearer
 
 -- the bytes of a listing that are left
-abbrev left : Memory → Listing → ℕ
-left y Nothing = 0
-left y (From c) = suc (length (table_at y.tables y.lengths c.set) - c.place)
+abbrev left : Memory → Option Cursor → ℕ
+left y None = 0
+left y (Some c) = suc (length (table_at y.tables y.lengths c.set) - c.place)
 
-left-most : (y : Memory) (l : Listing) → Fitted y.tables y.lengths → left y l ≤ 8001
-left-most y Nothing f = omega arith
-left-most y (From c) f = let b = f.fit c.set in omega (arith, length-take (get_or y.lengths c.set 0) (drop (room * c.set) y.tables))
+left-most : (y : Memory) (l : Option Cursor) → Fitted y.tables y.lengths → left y l ≤ 8001
+left-most y None f = omega arith
+left-most y (Some c) f = let b = f.fit c.set in omega (arith, length-take (get_or y.lengths c.set 0) (drop (room * c.set) y.tables))
 
 -- a listing is shorter than a byte of input
-abbrev size : Memory → Listing → List ℕ → ℕ
+abbrev size : Memory → Option Cursor → List ℕ → ℕ
 size y l s = length s * 8002 + left y l
 
 pub record Onward (st : State) (y : Memory) (s : List ℕ) (t : Turned) : Type 0 where
@@ -159,7 +157,7 @@ pub record Onward (st : State) (y : Memory) (s : List ℕ) (t : Turned) : Type 0
 onward-same : {st : State} {y : Memory} {s : List ℕ} {t t' : Turned} → t ≡ t' → Onward st y s t → Onward st y s t'
 onward-same {st} {y} {s} q a = subst (λ (t : Turned). Onward st y s t) q a
 
-line-onward : (st : State) (y : Memory) (s : List ℕ) (c : Cursor) → st.listing ≡ From c → Kept st.axes y (From c) → Stands st.axes (table_at y.tables y.lengths c.set) c
+line-onward : (st : State) (y : Memory) (s : List ℕ) (c : Cursor) → st.listing ≡ Some c → Kept st.axes y (Some c) → Stands st.axes (table_at y.tables y.lengths c.set) c
     → Onward st y s (line_turn st.axes y c (drop c.place (table_at y.tables y.lengths c.set)))
 line-onward st y s c q k d = by (ltb c.place (length bytes)) refl
   where
@@ -177,16 +175,16 @@ line-onward st y s c q k d = by (ltb c.place (length bytes)) refl
         onward-same (sym (line-there st.axes y c s₀ c.place h w refl (λ z. omega arith) (omega arith)))
         (record {
           kept = λ z. record { fitted = k.fitted; result_long = k.result_long; axes = k.axes; named = k.named };
-          less = λ z. subst (λ (l : Listing). length s * 8002 + suc (length s₀ - (c.place + w)) < size y l s) (sym q) (omega arith);
+          less = λ z. subst (λ (l : Option Cursor). length s * 8002 + suc (length s₀ - (c.place + w)) < size y l s) (sym q) (omega arith);
         })
     by false e =
         onward-same (sym (over-end st.axes y c (table_at y.tables y.lengths c.set) c.place (ltb-false c.place (length (table_at y.tables y.lengths c.set)) e)))
         (record {
           kept = λ z. record { fitted = k.fitted; result_long = k.result_long; axes = k.axes; named = tt };
-          less = λ z. subst (λ (l : Listing). length s * 8002 + 0 < size y l s) (sym q) (omega arith);
+          less = λ z. subst (λ (l : Option Cursor). length s * 8002 + 0 < size y l s) (sym q) (omega arith);
         })
 
-command-onward : (st : State) (y : Memory) (s : List ℕ) → st.listing ≡ Nothing → Kept st.axes y Nothing → ending st.axes s ≡ 0 → Onward st y s (command_turn st y (take (command_width s) s))
+command-onward : (st : State) (y : Memory) (s : List ℕ) → st.listing ≡ None → Kept st.axes y None → ending st.axes s ≡ 0 → Onward st y s (command_turn st y (take (command_width s) s))
 command-onward st y s q k e =
     let w = whole st.axes s e in let a = w.known in let b = w.there in
     let u : length (take (command_width s) s) ≡ command_width s = length-take-le (command_width s) s b in
@@ -196,28 +194,28 @@ command-onward st y s q k e =
     record {
       kept = λ z. g;
       less =
-          λ z. subst (λ (l : Listing). length (drop (length (take (command_width s) s)) s) * 8002 + left (memory_of y (effect_of (state_of st.axes y) (take (command_width s) s))) (listing_of (effect_of (state_of st.axes y) (take (command_width s) s))) < size y l s) (sym q)
+          λ z. subst (λ (l : Option Cursor). length (drop (length (take (command_width s) s)) s) * 8002 + left (memory_of y (effect_of (state_of st.axes y) (take (command_width s) s))) (listing_of (effect_of (state_of st.axes y) (take (command_width s) s))) < size y l s) (sym q)
           (omega arith);
     }
 
-front-onward : (st : State) (y : Memory) (e : Bool) (s : List ℕ) → st.listing ≡ Nothing → Kept st.axes y Nothing → Onward st y s (front_turn st y s (front_of st.axes e s))
+front-onward : (st : State) (y : Memory) (e : Bool) (s : List ℕ) → st.listing ≡ None → Kept st.axes y None → Onward st y s (front_turn st y s (front_of st.axes e s))
 unfolding front_of
 front-onward st y e s q k = by (ending st.axes s) refl
   where
-    stops : (x : Bool) (k : ℕ) → Onward st y s (front_turn st y s (cond x More (Stop k)))
+    stops : (x : Bool) (k : ℕ) → Onward st y s (front_turn st y s (cond x (gives None) (refused k)))
     stops true k = record { kept = λ z. never (let n : ◌≡◌ {A = ℕ} 0 1 = cc in n); less = λ z. never (let n : ◌≡◌ {A = ℕ} 0 1 = cc in n) }
     stops false k = record { kept = λ z. never (let n : ◌≡◌ {A = ℕ} 0 1 = cc in n); less = λ z. never (let n : ◌≡◌ {A = ℕ} 0 1 = cc in n) }
 
-    by : (m : ℕ) → ending st.axes s ≡ m → Onward st y s (front_turn st y s (elim m [ zero ↦ Whole (command_width s) | suc k ↦ cond (eqb (suc k) 3 && not e) More (Stop (suc k)) ]))
+    by : (m : ℕ) → ending st.axes s ≡ m → Onward st y s (front_turn st y s (elim m [ zero ↦ gives (Some (command_width s)) | suc k ↦ cond (eqb (suc k) 3 && not e) (gives None) (refused (suc k)) ]))
     by zero h = command-onward st y s q k h
     by (suc m) h = stops (eqb (suc m) 3 && not e) (suc m)
 
 pub onward : (w : ℕ) (st : State) (y : Memory) (e : Bool) (s : List ℕ) → usable st y w ≡ true → Kept st.axes y st.listing → Fine st.axes y st.listing → Onward st y s (turn_of st y w e s)
 onward w st y e s u k f = at st.listing refl k f
   where
-    at : (l : Listing) → st.listing ≡ l → Kept st.axes y l → Fine st.axes y l → Onward st y s (turn_of st y w e s)
-    at Nothing q k f = onward-same (sym (turn_in_lem st y w e s u Nothing q)) (front-onward st y e s q k)
-    at (From c) q k f = onward-same (sym (turn_in_lem st y w e s u (From c) q)) (line-onward st y s c q k f)
+    at : (l : Option Cursor) → st.listing ≡ l → Kept st.axes y l → Fine st.axes y l → Onward st y s (turn_of st y w e s)
+    at None q k f = onward-same (sym (turn_in_lem st y w e s u None q)) (front-onward st y e s q k)
+    at (Some c) q k f = onward-same (sym (turn_in_lem st y w e s u (Some c) q)) (line-onward st y s c q k f)
 
 -- ---- the whole
 
@@ -225,29 +223,29 @@ onward w st y e s u k f = at st.listing refl k f
 abbrev whole_size : State → Memory → Bool → List ℕ → List (List ℕ) → ℕ
 whole_size st y e s ps = size y st.listing s + length (joined ps) * 8002 + length ps + cond e 0 1
 
-abbrev Some : ℕ → State → Memory → Bool → List ℕ → List (List ℕ) → Type 0
-Some w st y e s ps = (l : List ℕ) × Session w st y e s ps l
+abbrev Prints : ℕ → State → Memory → Bool → List ℕ → List (List ℕ) → Type 0
+Prints w st y e s ps = (l : List ℕ) × Session w st y e s ps l
 
 -- a session from every nearer place
 abbrev Again : ℕ → ℕ → Type 0
 Again w m =
-    (st : State) (y : Memory) (e : Bool) (s : List ℕ) (ps : List (List ℕ)) → whole_size st y e s ps < m → Kept st.axes y st.listing → Fine st.axes y st.listing → (e ≡ true → ps ≡ []) → Some w st y e s ps
+    (st : State) (y : Memory) (e : Bool) (s : List ℕ) (ps : List (List ℕ)) → whole_size st y e s ps < m → Kept st.axes y st.listing → Fine st.axes y st.listing → (e ≡ true → ps ≡ []) → Prints w st y e s ps
 
 reads_on : (w : ℕ) (st : State) (y : Memory) (s : List ℕ) (ps : List (List ℕ)) (e : Bool) → (turn_of st y w e s).next ≡ Reads → ¬ (e ≡ true) → turn_of st y w e s ≡ quiet st y Reads
-    → Kept st.axes y st.listing → Fine st.axes y st.listing → Again w (whole_size st y e s ps) → Some w st y e s ps
+    → Kept st.axes y st.listing → Fine st.axes y st.listing → Again w (whole_size st y e s ps) → Prints w st y e s ps
 reads_on w st y s ps true q n a k i again = absurd (n refl)
 reads_on w st y s [] false q n a k i again =
-    let r = subst (λ (t : Turned). Some w t.state t.memory true (drop t.used s) []) (sym a) (again st y true s [] (omega arith) k i (λ z. refl)) in
+    let r = subst (λ (t : Turned). Prints w t.state t.memory true (drop t.used s) []) (sym a) (again st y true s [] (omega arith) k i (λ z. refl)) in
     ((turn_of st y w false s).text ++ r.0, closes q r.1)
 reads_on w st y s (p ∷ ps) false q n a k i again =
-    let r = subst (λ (t : Turned). Some w t.state t.memory false (drop t.used s ++ p) ps) (sym a) (again st y false (s ++ p) ps (omega (arith, length-append s p, length-append p (joined ps))) k i (λ z. no z)) in
+    let r = subst (λ (t : Turned). Prints w t.state t.memory false (drop t.used s ++ p) ps) (sym a) (again st y false (s ++ p) ps (omega (arith, length-append s p, length-append p (joined ps))) k i (λ z. no z)) in
     ((turn_of st y w false s).text ++ r.0, reads q r.1)
 
 one-turn : (w : ℕ) → 512 ≤ w → (st : State) (y : Memory) (e : Bool) (s : List ℕ) (ps : List (List ℕ)) → Kept st.axes y st.listing → Fine st.axes y st.listing → (e ≡ true → ps ≡ []) → Again w (whole_size st y e s ps)
-    → Some w st y e s ps
+    → Prints w st y e s ps
 one-turn w h st y e s ps k i g again = by (turn_of st y w e s).next refl
   where
-    by : (n : Next) → (turn_of st y w e s).next ≡ n → Some w st y e s ps
+    by : (n : Next) → (turn_of st y w e s).next ≡ n → Prints w st y e s ps
     by Ends q = ((turn_of st y w e s).text, ends q)
     by Misused q = absurd ((turn-next st y w e s (usable-kept w st y h k i)).0 q)
     by Reads q =
@@ -263,7 +261,7 @@ one-turn w h st y e s ps k i g again = by (turn_of st y w e s).next refl
         ((turn_of st y w e s).text ++ r.0, goes q r.1)
 
 session-ends : (f w : ℕ) → 512 ≤ w → (st : State) (y : Memory) (e : Bool) (s : List ℕ) (ps : List (List ℕ)) → whole_size st y e s ps ≤ f → Kept st.axes y st.listing → Fine st.axes y st.listing → (e ≡ true → ps ≡ [])
-    → Some w st y e s ps
+    → Prints w st y e s ps
 session-ends zero w h st y e s ps z k i g = one-turn w h st y e s ps k i g (λ st' y' e' s' ps' l. absurd (omega arith))
 session-ends (suc f) w h st y e s ps z k i g = one-turn w h st y e s ps k i g (λ st' y' e' s' ps' l. session-ends f w h st' y' e' s' ps' (omega arith))
 
@@ -274,7 +272,7 @@ empty-fit (suc (suc zero)) = omega arith
 empty-fit (suc (suc (suc zero))) = omega arith
 empty-fit (suc (suc (suc (suc m)))) = omega arith
 
-pub fresh_kept : (y : Memory) → Fresh y → Kept 0 y Nothing
+pub fresh_kept : (y : Memory) → Fresh y → Kept 0 y None
 fresh_kept y f =
     record {
       fitted = record { tables_long = f.tables; lengths_long = ap length f.empty; fit = λ m. subst (λ (l : List ℕ). get_or l m 0 ≤ room) (sym f.empty) (empty-fit m) };
@@ -284,7 +282,7 @@ fresh_kept y f =
     }
 
 -- From fresh memory: however the input is split into reads there is a session, and it prints the script.
-pub session-total : (w : ℕ) (y : Memory) (ps : List (List ℕ)) → 512 ≤ w → Fresh y → Session w (state_at 0 Nothing) y false [] ps (script (joined ps))
+pub session-total : (w : ℕ) (y : Memory) (ps : List (List ℕ)) → 512 ≤ w → Fresh y → Session w (state_at 0 None) y false [] ps (script (joined ps))
 session-total w y ps h f =
-    let r = session-ends (whole_size (state_at 0 Nothing) y false [] ps) w h (state_at 0 Nothing) y false [] ps (omega arith) (fresh_kept y f) tt (λ z. no z) in
-    subst (λ (l : List ℕ). Session w (state_at 0 Nothing) y false [] ps l) (session-script w y ps r.0 f.empty r.1) r.1
+    let r = session-ends (whole_size (state_at 0 None) y false [] ps) w h (state_at 0 None) y false [] ps (omega arith) (fresh_kept y f) tt (λ z. no z) in
+    subst (λ (l : List ℕ). Session w (state_at 0 None) y false [] ps l) (session-script w y ps r.0 f.empty r.1) r.1

@@ -5,11 +5,11 @@ use mathlib.Core.Bool.{Bool, true}
 use mathlib.Core.List.{List, [], ◌∷◌, ◌++◌, append_assoc, append-nil}
 use Prim.Native.Nat.{ℕ, suc, ◌≤◌}
 use lib.ListN.{length, drop}
+use Rattle.std.proofs.Common.{None}
 use Rattle.session.specs.Script.{script, run}
 use Rattle.session.specs.Turns.{Memory, Turned, state_in, state_at, turn_of, usable}
 use Rattle.session.specs.Session.{Reached, begins, goes, reads}
 use Rattle.session.specs.declared.State.{State}
-use Rattle.session.specs.declared.Listing.TheVariants.{Nothing}
 use Rattle.session.specs.declared.Next.TheVariants.{Ends, Misused}
 use Rattle.session.proofs.Turning.{turn-next}
 use Rattle.session.proofs.Sessions.{Fine, rest, turned}
@@ -21,7 +21,7 @@ record Stands (w : ℕ) (st : State) (y : Memory) (e : Bool) (s i o : List ℕ) 
   fine : Fine st.axes y st.listing
   prints : (f : List ℕ) → (e ≡ true → f ≡ []) → script (i ++ f) ≡ o ++ rest st y (s ++ f)
 
-start-prints : (y : Memory) → y.lengths ≡ 0 ∷ 0 ∷ 0 ∷ 0 ∷ [] → (f : List ℕ) → script f ≡ rest (state_at 0 Nothing) y f
+start-prints : (y : Memory) → y.lengths ≡ 0 ∷ 0 ∷ 0 ∷ 0 ∷ [] → (f : List ℕ) → script f ≡ rest (state_at 0 None) y f
 unfolding script
 start-prints y e f = sym (ap (λ (x : List ℕ). run (suc (length f)) (state_in 0 y.tables x) f) e)
 

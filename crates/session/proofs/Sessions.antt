@@ -10,6 +10,7 @@ use lib.ListN.{length, get_or, set, take, drop, length-drop}
 use lib.Seq.{length-take-le}
 use Rattle.model.specs.Lists.{all}
 use Rattle.model.specs.Sets.{Set}
+use Rattle.std.proofs.Common.{Option, Some, None}
 use Rattle.codec.specs.Bytes.{Answer, refused, gives, decode, number, width_of, axes_fit, value_of}
 use Rattle.codec.specs.Places.{built, set_from}
 use Rattle.codec.proofs.Boundaries.{decode_is}
@@ -23,10 +24,7 @@ use Rattle.session.specs.Script.{room, set_at, set_numbers, load_bytes, command_
 use Rattle.listing.specs.Written.{put}
 use Rattle.session.specs.Turns.{Memory, state_in, state_of, table_at, keeps, Effect, none, assigns, listed, is_assignment, answer_of, effect_of, performs, shown, listing_of, memory_of, goes_on, Turned, quiet, state_at, line_of, past, line_turn, command_turn, front_turn, front_of, turn_of, usable, header_line, start_of, Fitted}
 use Rattle.session.specs.Session.{Session, goes, reads, closes, ends}
-use Rattle.session.specs.declared.Front.TheVariants.{Whole, More, Stop}
 use Rattle.session.specs.declared.Cursor.{Cursor}
-use Rattle.session.specs.declared.Listing.{Listing}
-use Rattle.session.specs.declared.Listing.TheVariants.{Nothing, From}
 use Rattle.session.specs.declared.State.{State}
 use Rattle.session.specs.declared.Next.{Next}
 use Rattle.session.specs.declared.Next.TheVariants.{Goes, Reads, Ends, Misused}
@@ -40,9 +38,9 @@ use Rattle.session.proofs.Listings.{lines_left, Stands, listing-next, listing-en
 
 -- ---- what is still to be printed
 
-abbrev pending : ℕ → Memory → Listing → List ℕ
-pending n y Nothing = []
-pending n y (From c) = lines_left n c (built (drop c.place (table_at y.tables y.lengths c.set)))
+abbrev pending : ℕ → Memory → Option Cursor → List ℕ
+pending n y None = []
+pending n y (Some c) = lines_left n c (built (drop c.place (table_at y.tables y.lengths c.set)))
 
 -- all of it, with the bytes s to come
 abbrev pub rest : State → Memory → List ℕ → List ℕ
@@ -69,9 +67,9 @@ run-whole st s e =
 
 -- ---- one command
 
-abbrev pub Fine : ℕ → Memory → Listing → Type 0
-Fine n y Nothing = Unit {0}
-Fine n y (From c) = Stands n (table_at y.tables y.lengths c.set) c
+abbrev pub Fine : ℕ → Memory → Option Cursor → Type 0
+Fine n y None = Unit {0}
+Fine n y (Some c) = Stands n (table_at y.tables y.lengths c.set) c
 
 record Law (y : Memory) (d : Done) (e : Effect) : Type 0 where
   state : state_of d.state.axes (memory_of y e) ≡ d.state
@@ -240,7 +238,7 @@ waiting : {st : State} {y : Memory} {s f : List ℕ} → After st y s f (quiet s
 waiting = record { on = λ z. never (let q : ◌≡◌ {A = ℕ} 0 1 = cc in q); waits = λ z. refl; last = λ z. never (let q : ◌≡◌ {A = ℕ} 0 1 = cc in q) }
 
 -- a line of a listing
-module _ (st : State) (y : Memory) (s f : List ℕ) (c : Cursor) (q : st.listing ≡ From c) (d : Stands st.axes (table_at y.tables y.lengths c.set) c) where
+module _ (st : State) (y : Memory) (s f : List ℕ) (c : Cursor) (q : st.listing ≡ Some c) (d : Stands st.axes (table_at y.tables y.lengths c.set) c) where
   bytes : List ℕ
   bytes = table_at y.tables y.lengths c.set
 
@@ -249,7 +247,7 @@ module _ (st : State) (y : Memory) (s f : List ℕ) (c : Cursor) (q : st.listing
 
   start : rest st y (s ++ f) ≡ lines_left st.axes c (built (drop c.place bytes)) ++ tail
   unfolding bytes tail
-  start = ap (λ (l : Listing). pending st.axes y l ++ run (suc (length (s ++ f))) (state_of st.axes y) (s ++ f)) q
+  start = ap (λ (l : Option Cursor). pending st.axes y l ++ run (suc (length (s ++ f))) (state_of st.axes y) (s ++ f)) q
 
   pub line_after : After st y s f (line_turn st.axes y c (drop c.place (table_at y.tables y.lengths c.set)))
   unfolding bytes tail
@@ -276,14 +274,14 @@ later n [] f k h p = let a = eqb-false (suc k) 3 p in absurd (a (sym h))
 later n (b ∷ t) f k h p = ending-first n b t (t ++ f) (λ z. never (let j : suc k ≡ 0 = sym h ∙ z in omega arith)) (λ z. eqb-false (suc k) 3 p (sym h ∙ z)) ∙ h
 
 -- a command at the front
-module _ (st : State) (y : Memory) (e : Bool) (s f : List ℕ) (q : st.listing ≡ Nothing) (i : Fitted y.tables y.lengths) (g : e ≡ true → f ≡ []) where
+module _ (st : State) (y : Memory) (e : Bool) (s f : List ℕ) (q : st.listing ≡ None) (i : Fitted y.tables y.lengths) (g : e ≡ true → f ≡ []) where
   n : ℕ
   n = st.axes
 
   only : rest st y (s ++ f) ≡ run (suc (length (s ++ f))) (state_of st.axes y) (s ++ f)
-  only = ap (λ (l : Listing). pending st.axes y l ++ run (suc (length (s ++ f))) (state_of st.axes y) (s ++ f)) q
+  only = ap (λ (l : Option Cursor). pending st.axes y l ++ run (suc (length (s ++ f))) (state_of st.axes y) (s ++ f)) q
 
-  stops : (k : ℕ) → ending st.axes (s ++ f) ≡ suc k → After st y s f (front_turn st y s (Stop (suc k)))
+  stops : (k : ℕ) → ending st.axes (s ++ f) ≡ suc k → After st y s f (front_turn st y s (refused (suc k)))
   stops k z = ended_by _ refl (only ∙ run-stop (state_of st.axes y) (s ++ f) k z)
 
   pub front-after : After st y s f (front_turn st y s (front_of st.axes e s))
@@ -291,12 +289,12 @@ module _ (st : State) (y : Memory) (e : Bool) (s f : List ℕ) (q : st.listing �
   front-after = by (ending st.axes s) refl
     where
       cut : (k : ℕ) → ending st.axes s ≡ suc k → (x : Bool) → eqb (suc k) 3 ≡ x → (z : Bool) → e ≡ z
-          → After st y s f (front_turn st y s (cond (x && not z) More (Stop (suc k))))
+          → After st y s f (front_turn st y s (cond (x && not z) (gives None) (refused (suc k))))
       cut k h true p false r = waiting
       cut k h true p true r = stops k (ap (λ (l : List ℕ). ending st.axes (s ++ l)) (g r) ∙ ap (ending st.axes) (append-nil s) ∙ h)
       cut k h false p z r = stops k (later st.axes s f k h p)
 
-      by : (k : ℕ) → ending st.axes s ≡ k → After st y s f (front_turn st y s (elim k [ zero ↦ Whole (command_width s) | suc k ↦ cond (eqb (suc k) 3 && not e) More (Stop (suc k)) ]))
+      by : (k : ℕ) → ending st.axes s ≡ k → After st y s f (front_turn st y s (elim k [ zero ↦ gives (Some (command_width s)) | suc k ↦ cond (eqb (suc k) 3 && not e) (gives None) (refused (suc k)) ]))
       by (suc k) h = cut k h (eqb (suc k) 3) refl e refl
       by zero h = command (execute st0 c).goes refl
         where
@@ -355,9 +353,9 @@ turned st y w e s f u i g = at st.listing refl i
     fit : Fitted y.tables y.lengths
     fit = lent-fitted st y w u
 
-    at : (l : Listing) → st.listing ≡ l → Fine st.axes y l → After st y s f (turn_of st y w e s)
-    at Nothing q i = after_same (sym (turn_in_lem st y w e s u Nothing q)) (front-after st y e s f q (lent-fitted st y w u) g)
-    at (From c) q i = after_same (sym (turn_in_lem st y w e s u (From c) q)) (line_after st y s f c q i)
+    at : (l : Option Cursor) → st.listing ≡ l → Fine st.axes y l → After st y s f (turn_of st y w e s)
+    at None q i = after_same (sym (turn_in_lem st y w e s u None q)) (front-after st y e s f q (lent-fitted st y w u) g)
+    at (Some c) q i = after_same (sym (turn_in_lem st y w e s u (Some c) q)) (line_after st y s f c q i)
 
 other : {x z : Next} → x ≡ z → ¬ (z ≡ Misused) → ¬ (x ≡ Misused)
 other p n q = n (sym p ∙ q)
@@ -382,8 +380,8 @@ session-prints w st y e s [] _ (closes g t) i h =
 session-prints w st y e s ps _ (ends g) i h = sym ((turned st y w e s (joined ps) (used-well st y w e s (other g (λ z. never (let q : ◌≡◌ {A = ℕ} 0 1 = cc in q)))) i h).last g)
 
 -- From four empty sets: however the input is split into reads, the turns' texts, one after the other, are what the script prints.
-pub session-script : (w : ℕ) (y : Memory) (ps : List (List ℕ)) (l : List ℕ) → y.lengths ≡ 0 ∷ 0 ∷ 0 ∷ 0 ∷ [] → Session w (state_at 0 Nothing) y false [] ps l → l ≡ script (joined ps)
+pub session-script : (w : ℕ) (y : Memory) (ps : List (List ℕ)) (l : List ℕ) → y.lengths ≡ 0 ∷ 0 ∷ 0 ∷ 0 ∷ [] → Session w (state_at 0 None) y false [] ps l → l ≡ script (joined ps)
 unfolding script
 session-script w y ps l e t =
-    session-prints w (state_at 0 Nothing) y false [] ps l t tt (λ z. never (let q : ◌≡◌ {A = ℕ} 0 1 = ap (λ (b : Bool). cond b 1 0) z in q))
+    session-prints w (state_at 0 None) y false [] ps l t tt (λ z. never (let q : ◌≡◌ {A = ℕ} 0 1 = ap (λ (b : Bool). cond b 1 0) z in q))
     ∙ ap (λ (x : List ℕ). run (suc (length (joined ps))) (state_in 0 y.tables x) (joined ps)) e

@@ -11,16 +11,13 @@ use lib.IntN.{pos}
 use lib.ListN.{length, get_or, take, drop, length-take, length-drop, drop_of_length-le}
 use lib.Seq.{drop-cons}
 use Rattle.model.specs.Lists.{all}
-use Rattle.codec.specs.Bytes.{is_opening, is_division, head_of, body_in, width_of, read_division, read_constraint, kind_of, first_failing}
+use Rattle.std.proofs.Common.{Option, Some, None}
+use Rattle.codec.specs.Bytes.{Answer, refused, gives, is_opening, is_division, head_of, body_in, width_of, read_division, read_constraint, kind_of, first_failing}
 use Rattle.listing.specs.Text as T
 use Rattle.session.specs.Script.{room, is_binary, fixed_width, load_length, command_width, in_place, ending, execute}
 use Rattle.session.specs.Turns.{Memory, Turned, quiet, state_at, state_of, table_at, goes_on, line_of, past, there, line_turn, front_of, front_turn, turn_in, turn_of, cursor_fits, usable, Fitted}
 use Rattle.session.specs.declared.Cursor.{Cursor}
-use Rattle.session.specs.declared.Listing.{Listing}
-use Rattle.session.specs.declared.Listing.TheVariants.{Nothing, From}
 use Rattle.session.specs.declared.State.{State}
-use Rattle.session.specs.declared.Front.{Front}
-use Rattle.session.specs.declared.Front.TheVariants.{Whole, More, Stop}
 use Rattle.session.specs.declared.Next.TheVariants.{Goes, Reads, Misused}
 use Rattle.listing.proofs.LineTexts.{one_number}
 use Rattle.session.proofs.Commands.{no}
@@ -45,7 +42,7 @@ module _ (n : ℕ) (c : Cursor) (b : ℕ) (t : List ℕ) where
   line-constraint p q = sym (ap₂ lines p q)
 
 module _ (n : ℕ) (y : Memory) (c : Cursor) (s : List ℕ) (p : ℕ) where
-  pub over-end : length s ≤ p → line_turn n y c (drop p s) ≡ quiet (state_at n Nothing) y Goes
+  pub over-end : length s ≤ p → line_turn n y c (drop p s) ≡ quiet (state_at n None) y Goes
   over-end h = ap (line_turn n y c) (drop_of_length-le s h)
 
   module _ (h : p < length s) (w : ℕ) (e : w ≡ width_of (get_or s p 0)) where
@@ -56,19 +53,19 @@ module _ (n : ℕ) (y : Memory) (c : Cursor) (s : List ℕ) (p : ℕ) where
     left = omega (arith, length-drop (p + 1) s)
 
     abbrev shows : Bool → Turned
-    shows x = cond x (record { text = line_of n c (get_or s p 0) (drop (p + 1) s); used = 0; state = state_at n (From (past c (get_or s p 0))); next = Goes; memory = y }) (quiet (state_at n Nothing) y Goes)
+    shows x = cond x (record { text = line_of n c (get_or s p 0) (drop (p + 1) s); used = 0; state = state_at n (Some (past c (get_or s p 0))); next = Goes; memory = y }) (quiet (state_at n None) y Goes)
 
     by_tests : (x z : Bool) → ltb 0 (width_of (get_or s p 0)) ≡ x → leb (width_of (get_or s p 0)) (suc (length (drop (p + 1) s))) ≡ z → line_turn n y c (drop p s) ≡ shows (x && z)
     by_tests x z q r = ap (line_turn n y c) split ∙ ap₂ (λ (x z : Bool). shows (x && z)) q r
 
-    pub over-unknown : w ≡ 0 → line_turn n y c (drop p s) ≡ quiet (state_at n Nothing) y Goes
+    pub over-unknown : w ≡ 0 → line_turn n y c (drop p s) ≡ quiet (state_at n None) y Goes
     over-unknown z = by_tests false (leb (width_of (get_or s p 0)) (suc (length (drop (p + 1) s)))) (le-ltb 0 (width_of (get_or s p 0)) (omega arith)) refl
 
-    pub over-cut : ¬ (w ≡ 0) → length s - p < w → line_turn n y c (drop p s) ≡ quiet (state_at n Nothing) y Goes
+    pub over-cut : ¬ (w ≡ 0) → length s - p < w → line_turn n y c (drop p s) ≡ quiet (state_at n None) y Goes
     over-cut z k = let l = left in by_tests true false (lt-ltb 0 (width_of (get_or s p 0)) (omega arith)) (lt-leb (width_of (get_or s p 0)) (suc (length (drop (p + 1) s))) (omega arith))
 
     pub line-there : ¬ (w ≡ 0) → w ≤ length s - p
-        → line_turn n y c (drop p s) ≡ record { text = line_of n c (get_or s p 0) (drop (p + 1) s); used = 0; state = state_at n (From (past c (get_or s p 0))); next = Goes; memory = y }
+        → line_turn n y c (drop p s) ≡ record { text = line_of n c (get_or s p 0) (drop (p + 1) s); used = 0; state = state_at n (Some (past c (get_or s p 0))); next = Goes; memory = y }
     line-there z k = let l = left in by_tests true true (lt-ltb 0 (width_of (get_or s p 0)) (omega arith)) (le-leb (width_of (get_or s p 0)) (suc (length (drop (p + 1) s))) (omega arith))
 
 -- ---- what is lent
@@ -93,7 +90,7 @@ module _ (st : State) (y : Memory) (w : ℕ) (ended : Bool) (s : List ℕ) where
   unfolding turn_of
   turn-misused e = ap (λ (x : Bool). cond x (turn_in st y ended s st.listing) (quiet st y Misused)) e
 
-  pub turn_in_lem : usable st y w ≡ true → (l : Listing) → st.listing ≡ l → turn_of st y w ended s ≡ turn_in st y ended s l
+  pub turn_in_lem : usable st y w ≡ true → (l : Option Cursor) → st.listing ≡ l → turn_of st y w ended s ≡ turn_in st y ended s l
   unfolding turn_of
   turn_in_lem e l q = ap (λ (x : Bool). cond x (turn_in st y ended s st.listing) (quiet st y Misused)) e ∙ ap (turn_in st y ended s) q
 
@@ -150,27 +147,27 @@ front-short st y e [] h q = omega arith
 front-short st y e (b ∷ s) h q = by (leb (command_width (b ∷ s)) (suc (length s))) refl (ltb 0 (fixed_width b)) (in_place st.axes b) q
   where
     by : (r : Bool) → leb (command_width (b ∷ s)) (suc (length s)) ≡ r → (p o : Bool)
-        → (front_turn st y (b ∷ s) (elim (first_failing ((p, 2) ∷ (o, 15) ∷ (r, 3) ∷ [])) [ zero ↦ Whole (command_width (b ∷ s)) | suc k ↦ cond (eqb (suc k) 3 && not e) More (Stop (suc k)) ])).next ≡ Reads → suc (length s) < 65539
+        → (front_turn st y (b ∷ s) (elim (first_failing ((p, 2) ∷ (o, 15) ∷ (r, 3) ∷ [])) [ zero ↦ gives (Some (command_width (b ∷ s))) | suc k ↦ cond (eqb (suc k) 3 && not e) (gives None) (refused (suc k)) ])).next ≡ Reads → suc (length s) < 65539
     by false z p o q = let l = leb-false (command_width (b ∷ s)) (suc (length s)) z in let m = command-most b s h in omega arith
     by true z true true q = not-reads (execute (state_of st.axes y) (take (command_width (b ∷ s)) (b ∷ s))).goes q
     by true z true false q = not-reads false q
     by true z false o q = not-reads false q
 
-front-ended : (axes : ℕ) (e : Bool) (s : List ℕ) → e ≡ true → ¬ (front_of axes e s ≡ More)
+front-ended : (axes : ℕ) (e : Bool) (s : List ℕ) → e ≡ true → ¬ (front_of axes e s ≡ gives None)
 unfolding front_of
 front-ended axes e s d = by (ending axes s) e d
   where
-    by : (k : ℕ) (e : Bool) → e ≡ true → ¬ (elim k [ zero ↦ Whole (command_width s) | suc k ↦ cond (eqb (suc k) 3 && not e) More (Stop (suc k)) ] ≡ More)
+    by : (k : ℕ) (e : Bool) → e ≡ true → ¬ (elim k [ zero ↦ gives (Some (command_width s)) | suc k ↦ cond (eqb (suc k) 3 && not e) (gives None) (refused (suc k)) ] ≡ gives None)
     by zero e d q = let z : ◌≡◌ {A = ℕ} 0 1 = cc in omega arith
     by (suc k) false d q = no d
     by (suc k) true d q = stop (eqb (suc k) 3) q
       where
-        stop : (x : Bool) → ¬ (cond (x && false) More (Stop (suc k)) ≡ More)
+        stop : (x : Bool) → ¬ (◌≡◌ {A = Answer (Option ℕ)} (cond (x && false) (gives None) (refused (suc k))) (gives None))
         stop true q = let z : ◌≡◌ {A = ℕ} 0 1 = cc in omega arith
         stop false q = let z : ◌≡◌ {A = ℕ} 0 1 = cc in omega arith
 
 module _ (st : State) (y : Memory) (w : ℕ) (e : Bool) (s : List ℕ) where
-  abbrev turn_by : Bool → Listing → Turned
+  abbrev turn_by : Bool → Option Cursor → Turned
   turn_by x l = cond x (turn_in st y e s l) (quiet st y Misused)
 
   pub turn-used : (turn_of st y w e s).used ≤ length s
@@ -181,19 +178,19 @@ module _ (st : State) (y : Memory) (w : ℕ) (e : Bool) (s : List ℕ) where
       line c [] = omega arith
       line c (b ∷ t) = by (there (b ∷ t))
         where
-          by : (x : Bool) → (cond x (record { text = line_of st.axes c b t; used = 0; state = state_at st.axes (From (past c b)); next = Goes; memory = y }) (quiet (state_at st.axes Nothing) y Goes)).used ≤ length s
+          by : (x : Bool) → (cond x (record { text = line_of st.axes c b t; used = 0; state = state_at st.axes (Some (past c b)); next = Goes; memory = y }) (quiet (state_at st.axes None) y Goes)).used ≤ length s
           by true = omega arith
           by false = omega arith
 
-      front : (f : Front) → (front_turn st y s f).used ≤ length s
-      front (Whole k) = omega (arith, length-take k s)
-      front More = omega arith
-      front (Stop k) = omega arith
+      front : (f : Answer (Option ℕ)) → (front_turn st y s f).used ≤ length s
+      front (gives (Some k)) = omega (arith, length-take k s)
+      front (gives None) = omega arith
+      front (refused k) = omega arith
 
-      at : (x : Bool) (l : Listing) → (turn_by x l).used ≤ length s
+      at : (x : Bool) (l : Option Cursor) → (turn_by x l).used ≤ length s
       at false l = omega arith
-      at true (From c) = line c (drop c.place (table_at y.tables y.lengths c.set))
-      at true Nothing = front (front_of st.axes e s)
+      at true (Some c) = line c (drop c.place (table_at y.tables y.lengths c.set))
+      at true None = front (front_of st.axes e s)
 
   -- a turn that waits for more has less than the longest command
   pub turn-short : ((i : ℕ) → get_or s i 0 < 256) → (turn_of st y w e s).next ≡ Reads → length s < 65539
@@ -204,14 +201,14 @@ module _ (st : State) (y : Memory) (w : ℕ) (e : Bool) (s : List ℕ) where
       line c [] = not-reads true
       line c (b ∷ t) = by (there (b ∷ t))
         where
-          by : (x : Bool) → (cond x (record { text = line_of st.axes c b t; used = 0; state = state_at st.axes (From (past c b)); next = Goes; memory = y }) (quiet (state_at st.axes Nothing) y Goes)).next ≡ Reads → length s < 65539
+          by : (x : Bool) → (cond x (record { text = line_of st.axes c b t; used = 0; state = state_at st.axes (Some (past c b)); next = Goes; memory = y }) (quiet (state_at st.axes None) y Goes)).next ≡ Reads → length s < 65539
           by true = not-reads true
           by false = not-reads true
 
-      at : (x : Bool) (l : Listing) → (turn_by x l).next ≡ Reads → length s < 65539
+      at : (x : Bool) (l : Option Cursor) → (turn_by x l).next ≡ Reads → length s < 65539
       at false l q = let z : ◌≡◌ {A = ℕ} 0 1 = cc in absurd (omega arith)
-      at true (From c) q = line c (drop c.place (table_at y.tables y.lengths c.set)) q
-      at true Nothing q = front-short st y e s h q
+      at true (Some c) q = line c (drop c.place (table_at y.tables y.lengths c.set)) q
+      at true None q = front-short st y e s h q
 
   -- what is lent rightly is not misused, and where the input has ended nothing is waited for
   pub turn-next : usable st y w ≡ true → ¬ ((turn_of st y w e s).next ≡ Misused) × (e ≡ true → ¬ ((turn_of st y w e s).next ≡ Reads))
@@ -226,18 +223,18 @@ module _ (st : State) (y : Memory) (w : ℕ) (e : Bool) (s : List ℕ) where
       line c [] = refl
       line c (b ∷ t) = by (there (b ∷ t))
         where
-          by : (x : Bool) → (cond x (record { text = line_of st.axes c b t; used = 0; state = state_at st.axes (From (past c b)); next = Goes; memory = y }) (quiet (state_at st.axes Nothing) y Goes)).next ≡ Goes
+          by : (x : Bool) → (cond x (record { text = line_of st.axes c b t; used = 0; state = state_at st.axes (Some (past c b)); next = Goes; memory = y }) (quiet (state_at st.axes None) y Goes)).next ≡ Goes
           by true = refl
           by false = refl
 
-      front : (f : Front) → (e ≡ true → ¬ (f ≡ More)) → ¬ ((front_turn st y s f).next ≡ Misused) × (e ≡ true → ¬ ((front_turn st y s f).next ≡ Reads))
-      front (Whole k) h = (goes (execute (state_of st.axes y) (take k s)).goes, λ d. not-reads (execute (state_of st.axes y) (take k s)).goes)
-      front More h = (λ q. let z : ◌≡◌ {A = ℕ} 0 1 = cc in omega arith, λ d q. h d refl)
-      front (Stop k) h = (goes false, λ d. not-reads false)
+      front : (f : Answer (Option ℕ)) → (e ≡ true → ¬ (f ≡ gives None)) → ¬ ((front_turn st y s f).next ≡ Misused) × (e ≡ true → ¬ ((front_turn st y s f).next ≡ Reads))
+      front (gives (Some k)) h = (goes (execute (state_of st.axes y) (take k s)).goes, λ d. not-reads (execute (state_of st.axes y) (take k s)).goes)
+      front (gives None) h = (λ q. let z : ◌≡◌ {A = ℕ} 0 1 = cc in omega arith, λ d q. h d refl)
+      front (refused k) h = (goes false, λ d. not-reads false)
 
-      at : (x : Bool) → x ≡ true → (l : Listing) → ¬ ((turn_by x l).next ≡ Misused) × (e ≡ true → ¬ ((turn_by x l).next ≡ Reads))
+      at : (x : Bool) → x ≡ true → (l : Option Cursor) → ¬ ((turn_by x l).next ≡ Misused) × (e ≡ true → ¬ ((turn_by x l).next ≡ Reads))
       at false q l = no q
-      at true q (From c) =
+      at true q (Some c) =
           let g = line c (drop c.place (table_at y.tables y.lengths c.set)) in
           (λ q. goes true (sym g ∙ q), λ d q. not-reads true (sym g ∙ q))
-      at true q Nothing = front (front_of st.axes e s) (λ d. front-ended st.axes e s d)
+      at true q None = front (front_of st.axes e s) (λ d. front-ended st.axes e s d)

@@ -1,9 +1,8 @@
 -- A run of the program: turn after turn, and a read where a turn asks for more input.
-use Rattle.std.specs.Prelude.{◌≡◌, Bool, true, false, List, [], ◌∷◌, ◌++◌, ℕ, length, drop}
+use Rattle.std.specs.Prelude.{◌≡◌, Bool, true, false, List, [], ◌∷◌, ◌++◌, ℕ, length, drop, None}
 use Rattle.session.specs.Script.{room}
 use Rattle.session.specs.Turns.{Memory, state_at, turn_of}
 use Rattle.session.specs.declared.State.{State}
-use Rattle.session.specs.declared.Listing.TheVariants.{Nothing}
 use Rattle.session.specs.declared.Next.TheVariants.{Goes, Reads, Ends}
 
 -- With a line of `width` bytes: from a state and its memory, with `s` read and not used and the reads `ps` still to come, all that is
@@ -31,7 +30,7 @@ pub record Fresh (y : Memory) : Type 0 where
 -- With a line of `width` bytes, from fresh memory: the state and the memory reached, whether it is known that the input
 -- has ended, what is read and not used, all that has been read, and all that has been printed.
 pub data Reached (width : ℕ) : State → Memory → Bool → List ℕ → List ℕ → List ℕ → Type 0 where
-  begins : {y : Memory} → Fresh y → Reached width (state_at 0 Nothing) y false [] [] []
+  begins : {y : Memory} → Fresh y → Reached width (state_at 0 None) y false [] [] []
   goes : {st : State} {y : Memory} {e : Bool} {s i o : List ℕ} → Reached width st y e s i o
       → (turn_of st y width e s).next ≡ Goes
       → Reached width (turn_of st y width e s).state (turn_of st y width e s).memory e

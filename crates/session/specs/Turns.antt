@@ -1,6 +1,6 @@
 -- The script program as it runs: in fixed memory, one turn after the other, on the part of the input that has been read so far.
 -- A turn prints one line at most: a listing (`45`) is printed line by line, so that no buffer bounds it.
-use Rattle.std.specs.Prelude.{◌≡◌, Bool, true, false, not, ◌&&◌, ◌||◌, cond, List, [], ◌∷◌, ◌++◌, ℕ, zero, suc, ◌+◌, ◌*◌, ◌≤◌, pos, leb, ltb, eqb, length, take, drop, get_or, set}
+use Rattle.std.specs.Prelude.{◌≡◌, Bool, true, false, not, ◌&&◌, ◌||◌, cond, List, [], ◌∷◌, ◌++◌, ℕ, zero, suc, ◌+◌, ◌*◌, ◌≤◌, pos, leb, ltb, eqb, length, take, drop, get_or, set, Option, Some, None}
 use Rattle.model.specs.Limits.{most_axes, most_divisions, last_set}
 use Rattle.model.specs.Refusals.{cut_short}
 use Rattle.model.specs.Lists.{all}
@@ -12,24 +12,20 @@ use Rattle.listing.specs.Text.{codes, number, line, division_line, constraint_li
 use Rattle.session.specs.Script as S
 use Rattle.session.specs.Script.{room, set_at, is_binary, set_numbers, command_width, ending, Done, refused_line, load_bytes, execute}
 use Rattle.listing.specs.Written.{put}
-use Rattle.session.specs.declared.Front.{Front}
-use Rattle.session.specs.declared.Front.TheVariants.{Whole, More, Stop}
 use Rattle.session.specs.declared.Cursor.{Cursor}
-use Rattle.session.specs.declared.Listing.{Listing}
-use Rattle.session.specs.declared.Listing.TheVariants.{Nothing, From}
 use Rattle.session.specs.declared.State.{State}
 use Rattle.session.specs.declared.Next.{Next}
 use Rattle.session.specs.declared.Next.TheVariants.{Goes, Reads, Ends, Misused}
 
 -- ---- the command at the front of what has been read
 
-abbrev pub cut_off : Bool → Front
-cut_off ended = cond (not ended) More (Stop cut_short)
+abbrev pub cut_off : Bool → Answer (Option ℕ)
+cut_off ended = cond (not ended) (gives None) (refused cut_short)
 
 -- whole, or more input is needed, or the script ends by a number; `ended`: there is no more input
-unfoldable pub front_of : ℕ → Bool → List ℕ → Front
+unfoldable pub front_of : ℕ → Bool → List ℕ → Answer (Option ℕ)
 front_of axes ended s =
-    elim (ending axes s) [ zero ↦ Whole (command_width s) | suc k ↦ cond (eqb (suc k) cut_short && not ended) More (Stop (suc k)) ]
+    elim (ending axes s) [ zero ↦ gives (Some (command_width s)) | suc k ↦ cond (eqb (suc k) cut_short && not ended) (gives None) (refused (suc k)) ]
 
 -- ---- memory
 
@@ -141,10 +137,10 @@ shown l none = l
 shown l (lists m t) = header_line m (length t)
 shown l (assigns m a) = l
 
-abbrev pub listing_of : Effect → Listing
-listing_of none = Nothing
-listing_of (lists m t) = From (start_of m)
-listing_of (assigns m a) = Nothing
+abbrev pub listing_of : Effect → Option Cursor
+listing_of none = None
+listing_of (lists m t) = Some (start_of m)
+listing_of (assigns m a) = None
 
 abbrev pub memory_of : Memory → Effect → Memory
 memory_of y none = y
@@ -163,14 +159,14 @@ pub record Turned : Type 0 where
 abbrev pub quiet : State → Memory → Next → Turned
 quiet st y x = record { text = []; used = 0; state = st; next = x; memory = y }
 
-abbrev pub state_at : ℕ → Listing → State
+abbrev pub state_at : ℕ → Option Cursor → State
 state_at n l = record { axes = n; listing = l }
 
 -- a line of a listing, from the bytes at the cursor on; or nothing, and the listing is over
 abbrev pub line_turn : ℕ → Memory → Cursor → List ℕ → Turned
-line_turn n y c [] = quiet (state_at n Nothing) y Goes
+line_turn n y c [] = quiet (state_at n None) y Goes
 line_turn n y c (b ∷ t) =
-    cond (there (b ∷ t)) (record { text = line_of n c b t; used = 0; state = state_at n (From (past c b)); next = Goes; memory = y }) (quiet (state_at n Nothing) y Goes)
+    cond (there (b ∷ t)) (record { text = line_of n c b t; used = 0; state = state_at n (Some (past c b)); next = Goes; memory = y }) (quiet (state_at n None) y Goes)
 
 abbrev pub goes_on : Bool → Next
 goes_on true = Goes
@@ -183,22 +179,22 @@ command_turn st y c =
     let e : Effect = effect_of (state_of st.axes y) c in
     record { text = shown d.text e; used = length c; state = record { axes = d.state.axes; listing = listing_of e }; next = goes_on d.goes; memory = memory_of y e }
 
-abbrev pub front_turn : State → Memory → List ℕ → Front → Turned
-front_turn st y s (Whole w) = command_turn st y (take w s)
-front_turn st y s More = quiet st y Reads
-front_turn st y s (Stop k) = record { text = refused_line k; used = 0; state = st; next = Ends; memory = y }
+abbrev pub front_turn : State → Memory → List ℕ → Answer (Option ℕ) → Turned
+front_turn st y s (gives (Some w)) = command_turn st y (take w s)
+front_turn st y s (gives None) = quiet st y Reads
+front_turn st y s (refused k) = record { text = refused_line k; used = 0; state = st; next = Ends; memory = y }
 
-abbrev pub turn_in : State → Memory → Bool → List ℕ → Listing → Turned
-turn_in st y ended s (From c) = line_turn st.axes y c (drop c.place (table_at y.tables y.lengths c.set))
-turn_in st y ended s Nothing = front_turn st y s (front_of st.axes ended s)
+abbrev pub turn_in : State → Memory → Bool → List ℕ → Option Cursor → Turned
+turn_in st y ended s (Some c) = line_turn st.axes y c (drop c.place (table_at y.tables y.lengths c.set))
+turn_in st y ended s None = front_turn st y s (front_of st.axes ended s)
 
 -- what a turn may be lent: tables of their sizes, lengths within them, `width` bytes for a line, and a state that turns leave
 abbrev pub cursor_in : List ℕ → Cursor → Bool
 cursor_in lengths c = leb c.set last_set && (leb c.place (get_or lengths c.set 0) && (leb c.basics room && leb c.divisions most_divisions))
 
-abbrev pub cursor_fits : List ℕ → Listing → Bool
-cursor_fits lengths Nothing = true
-cursor_fits lengths (From c) = cursor_in lengths c
+abbrev pub cursor_fits : List ℕ → Option Cursor → Bool
+cursor_fits lengths None = true
+cursor_fits lengths (Some c) = cursor_in lengths c
 
 unfoldable pub usable : State → Memory → ℕ → Bool
 usable st y width =

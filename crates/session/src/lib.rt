@@ -2,19 +2,9 @@
 // goes by.
 #![tactic(auto)]
 
-// The command at the front of what has been read.
-#[derive(Clone, Copy)]
-pub enum Front {
-    // all of a command, this many bytes
-    Whole(usize),
-    More,
-    // the script ends by a number
-    Stop(u32),
-}
-
 // Where a listing stands: the place of the next command in the set's bytes, the basic sets opened before it, and the
 // divisions of the last one.
-#[derive(Clone, Copy)]
+#[derive(Clone, Copy, Debug, PartialEq, Eq)]
 pub struct Cursor {
     pub set: usize,
     pub place: usize,
@@ -22,20 +12,15 @@ pub struct Cursor {
     pub divisions: usize,
 }
 
-#[derive(Clone, Copy)]
-pub enum Listing {
-    Nothing,
-    From(Cursor),
-}
-
 // n, 0 before `10` gives it, and the listing that is under way.
-#[derive(Clone, Copy)]
+#[derive(Clone, Copy, Debug, PartialEq, Eq)]
 pub struct State {
     pub axes: usize,
-    pub listing: Listing,
+    pub listing: Option<Cursor>,
 }
 
-#[derive(Clone, Copy)]
+// What comes after a turn.
+#[derive(Clone, Copy, Debug, PartialEq, Eq)]
 pub enum Next {
     // another turn
     Goes,

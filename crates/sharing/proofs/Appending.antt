@@ -13,11 +13,11 @@ use lib.Signed.{◌<ℤ◌}
 use Rattle.simplex.specs.declared.Verdict.TheVariants.{Point, Dropped}
 use Rattle.simplex.specs.declared.Move.TheVariants.{Stop}
 use Rattle.tableau.specs.Rows.{den, violated_by, violated, helping, Line, Whole}
-use Rattle.simplex.specs.Table.{move_of, Fine}
+use Rattle.simplex.specs.Table.{move_of, run_table, Fine}
 use Rattle.sharing.specs.declared.history.Standing.{Standing}
 use Rattle.sharing.specs.Trace.{Traced, trace, Went}
-use Rattle.sharing.specs.Working.{Calm, Appended}
-use Rattle.sharing.proofs.Going.{trace-stop}
+use Rattle.sharing.specs.Working.{Calm, Appended, onward}
+use Rattle.sharing.proofs.Going.{trace-stop, trace-run}
 use Rattle.sharing.proofs.Share.{calm-point, calm-last, calm-dropped}
 
 module _ {A : Type 0} where
@@ -58,7 +58,7 @@ fine-snoc n t place kinds κ s f h l w =
       spot = snoc-all (λ n. n < 64 → n < length (t ++ (s ∷ []))) 0 place (length t) (λ k q z. let y = f.spot k q z in omega arith) (λ z. omega arith);
     }
 
-module _ (n m v : ℕ) (r : List ℤ) (rows : List (List ℤ)) (place kinds : List ℕ) (c : Calm n m v r rows place kinds) where
+module _ {n m v : ℕ} {r : List ℤ} {rows : List (List ℤ)} {place kinds : List ℕ} (c : Calm n m v r rows place kinds) where
   abbrev t : List (List ℤ)
   t = take m rows
 
@@ -177,3 +177,16 @@ module _ (n m v : ℕ) (r : List ℤ) (rows : List (List ℤ)) (place kinds : Li
         let h = c.few in
         let k = c.names in
         (stored spare m r (omega arith) ∙ ap (λ (l : List (List ℤ)). l ++ (r ∷ [])) e, stored seats v m (omega arith) ∙ ap (λ (l : List ℕ). l ++ (m ∷ [])) f, stored sorts v κ (omega arith) ∙ ap (λ (l : List ℕ). l ++ (κ ∷ [])) g)
+
+    copied : {xs : List (List ℤ)} {us fs : List ℕ} (ys : List (List ℤ)) (ws gs : List ℕ) → xs ≡ t → us ≡ p → fs ≡ s → length (xs ++ ys) ≡ 64 → length (us ++ ws) ≡ 80 → length (fs ++ gs) ≡ 80
+        → (take (m + 1) (set (xs ++ ys) m r) ≡ T) × (take (v + 1) (set (us ++ ws) v m) ≡ P) × (take (v + 1) (set (fs ++ gs) v κ) ≡ S)
+    copied {xs} {us} {fs} ys ws gs ex eu ef lx lu lf =
+        finish-is 0 (xs ++ ys) (us ++ ws) (fs ++ gs) lx lu lf (seam m xs ys (ap length ex ∙ lt) ∙ ex) (seam v us ws (ap length eu ∙ lp) ∙ eu) (seam v fs gs (ap length ef ∙ ls) ∙ ef)
+
+    pub finish-fine : {xs : List (List ℤ)} {us fs : List ℕ} (ys : List (List ℤ)) (ws gs : List ℕ) → xs ≡ t → us ≡ p → fs ≡ s → length (xs ++ ys) ≡ 64 → length (us ++ ws) ≡ 80 → length (fs ++ gs) ≡ 80
+        → Fine n (take (m + 1) (set (xs ++ ys) m r)) (take (v + 1) (set (us ++ ws) v m)) (take (v + 1) (set (fs ++ gs) v κ))
+    finish-fine ys ws gs ex eu ef lx lu lf = let e = copied ys ws gs ex eu ef lx lu lf in rw (e.0, e.1, e.2) fine_more
+
+    pub finish-run : {xs : List (List ℤ)} {us fs : List ℕ} (ys : List (List ℤ)) (ws gs : List ℕ) → xs ≡ t → us ≡ p → fs ≡ s → length (xs ++ ys) ≡ 64 → length (us ++ ws) ≡ 80 → length (fs ++ gs) ≡ 80
+        → (left : ℕ) → (run_table (take (v + 1) (set (fs ++ gs) v κ)) left (take (m + 1) (set (xs ++ ys) m r)) (take (v + 1) (set (us ++ ws) v m))).verdict ≡ (onward left m v κ r rows place kinds).verdict
+    finish-run ys ws gs ex eu ef lx lu lf left = let e = copied ys ws gs ex eu ef lx lu lf in rw (e.0, e.1, e.2) (sym (trace-run S left T P))

@@ -8,18 +8,22 @@ use Prim.Native.Nat.{ℕ, zero, suc, ◌+◌, ◌-◌, ◌*◌, ◌≤◌, ◌<�
 use native.Mathlib.Nat.{not-suc-le-zero, le_of_suc-le-suc}
 use native.Mathlib.Omega.{arith}
 use borrow.Author.Tests.{lt-ltb, le-ltb}
-use lib.ListN.{length, get_or, take, replicate, length-map, length-replicate, get_or-append}
+use lib.ListN.{length, get_or, take, drop, replicate, length-map, length-replicate, get_or-append}
 use lib.Seq.{ext_get_or, get_or-take, get_or-append-add, length-take-le}
 use lib.IntN.{ℤ}
 use Rattle.integers.specs.Part.{lt-or-le}
 use Rattle.model.specs.Sets.{Division, Kind, Constraint, bounds}
 use Rattle.model.specs.Values.{division_of, basic_set_of}
 use Rattle.model.specs.declared.BasicSet.{BasicSet as Stored}
-use Rattle.simplex.specs.Table.{place_at, kind_number, Valid, Bounded}
+use Rattle.simplex.specs.Table.{place_at, kind_number, Valid, Bounded, Fine}
 use Rattle.simplex.specs.Table as Table
 use Rattle.simplex.proofs.Columns.{tabulate-at}
-use Rattle.sharing.specs.Working.{kind_of, first_table, first_place, first_kinds}
-use Rattle.sharing.proofs.Firsts.{place-long, kinds-long, kind_at}
+use Rattle.sharing.specs.declared.history.Standing.{Standing}
+use Rattle.sharing.specs.Trace.{Went}
+use Rattle.sharing.specs.Working.{kind_of, first_table, first_place, first_kinds, Stands}
+use Rattle.sharing.proofs.Firsts.{place-long, kinds-long, kind_at, first_fine}
+use Rattle.sharing.proofs.Appending.{seam, rejoined}
+use Rattle.sharing.proofs.Standings.{begun}
 use Rattle.simplex.proofs.Filled.{get_or-none}
 
 pub bounds-long : (i : ℕ) (ds : List Division) → length (bounds i ds) ≡ 2 * length ds
@@ -35,7 +39,7 @@ bound-kind i (e ∷ ds) (suc (suc m)) h = bound-kind (suc i) ds m (le_of_suc-le-
 abbrev no_kind : Option Kind
 no_kind = none
 
-module _ (b : Stored) (valid : Valid b) (rows rows' : List (List ℤ)) (place place' kinds kinds' : List ℕ)
+module _ {b : Stored} (valid : Valid b) {rows rows' : List (List ℤ)} {place place' kinds kinds' : List ℕ}
     (named : Table.Named b.divs (8 + 3 * b.divs) place place' kinds kinds') (bounded : Bounded b.divisions b.divs b.divs rows rows') (hr : length rows ≡ 64) (hp : length place ≡ 80) (hk : length kinds ≡ 80) where
   abbrev k : ℕ
   k = b.divs
@@ -112,3 +116,22 @@ module _ (b : Stored) (valid : Valid b) (rows rows' : List (List ℤ)) (place pl
       (λ a. ap (λ t. cond {A = ℕ} t 0 1) (lt-ltb v (8 + k) a) ∙ sym (kind-free v a))
       (λ a. ap (λ t. cond {A = ℕ} t 0 1) (le-ltb v (8 + k) a) ∙ sym (kind-bound v a l))
       (lt-or-le v (8 + k)))
+
+  pub begin-fine : Fine (k + 10) (take (2 * k) rows') (take n place') (take n kinds')
+  begin-fine = rw (rows_are, place_is, kinds_are) (first_fine k cs valid.divs few-bounds)
+
+  pub begin-stands : {x : Standing} {t' : List (List ℤ)} {p' : List ℕ} {past past' : List (List ℤ)} {columns columns' : List ℕ}
+      → Went (take n kinds') 0 (take (2 * k) rows') (take n place') past columns x t' p' past' columns' → length t' ≡ length (take (2 * k) rows') → length p' ≡ length (take n place')
+      → length past' ≡ 200 → length columns' ≡ 200 → Stands k cs x (t' ++ drop (2 * k) rows') (p' ++ drop n place') kinds' past' columns'
+  begin-stands {x} {t'} {p'} {past} {past'} {columns} {columns'} g lt lp la lc =
+      let w : Went (first_kinds k cs) 0 (first_table k cs) (first_place k (length cs)) past columns x t' p' past' columns' =
+      subst (λ a. Went a 0 (first_table k cs) (first_place k (length cs)) past columns x t' p' past' columns') kinds_are
+      (subst (λ a. Went (take n kinds') 0 (first_table k cs) a past columns x t' p' past' columns') place_is
+      (subst (λ a. Went (take n kinds') 0 a (take n place') past columns x t' p' past' columns') rows_are g)) in
+      begun k cs x (t' ++ drop (2 * k) rows') (p' ++ drop n place') kinds' past columns past' columns' valid.divs few-bounds
+      (rejoined (2 * k) t' rows' lt ∙ rows-length)
+      (rejoined n p' place' lp ∙ place-length)
+      kinds-length la lc t' p' w
+      (ap (λ i. take i (t' ++ drop (2 * k) rows')) long ∙ seam (2 * k) t' (drop (2 * k) rows') (lt ∙ rows-count))
+      (ap (λ i. take i (p' ++ drop n place')) all-long ∙ seam n p' (drop n place') (lp ∙ place-count))
+      (ap (λ i. take i kinds') all-long ∙ kinds_are)

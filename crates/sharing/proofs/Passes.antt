@@ -91,72 +91,34 @@ brought-whole n (q ∷ qs) (j ∷ cs) s l w = at (narrow_row j s) refl (λ v. br
 
 -- ---- copies
 
-module _ {A : Type 0} where
-  pub copy-on : (d : A) (k : ℕ) (to from : List A) → k < length to → k < length from → take k to ≡ take k from → take (k + 1) (set to k (get_or from k d)) ≡ take (k + 1) from
-  copy-on d k to from h l e =
-      rw add-one (take-suc-set to k (get_or from k d) h ∙ ap (λ (x : List A). x ++ (get_or from k d ∷ [])) e ∙ sym (take-suc from k d l))
+-- the row of a pivot at number k: qs and cs are the pivots, r₀ the row before them
+pub record Replaying (n : ℕ) (qs : List (List ℤ)) (cs : List ℕ) (r₀ r : List ℤ) (k : ℕ) : Type 0 where
+  pub whole : Whole n r
+  pub left : through (drop k qs) (drop k cs) r ≡ through qs cs r₀
+  pub row : brought (drop k qs) (drop k cs) r ≡ brought qs cs r₀
 
--- ---- the loop over the kept pivots
+module _ {n k : ℕ} {qs : List (List ℤ)} {cs : List ℕ} {r₀ r : List ℤ} (K : Kept n qs cs) (g : Replaying n qs cs r₀ r k) where
+  pub replay-end : length qs ≤ k → Replayed qs cs r₀ true r
+  replay-end h = let e = through-end qs cs k r h in record { all = sym e.0 ∙ g.left; row = sym e.1 ∙ g.row }
 
-module _ (n made : ℕ) (past : List (List ℤ)) (columns : List ℕ) (r₀ : List ℤ) where
-  abbrev qs : List (List ℤ)
-  qs = take made past
+  module _ (here : k < length qs) {q : List ℤ} {j : ℕ} (row_is : q ≡ get_or qs k []) (column-is : j ≡ get_or cs k 0) {r' : List ℤ} where
+    asked : (b : Bool) → Passed j q r b r' → narrow_row (get_or cs k 0) r ≡ b
+    asked b p = ap (λ j. narrow_row j r) (sym column-is) ∙ sym p.test
 
-  abbrev cs : List ℕ
-  cs = take made columns
+    pub replay-off : Passed j q r false r' → Replayed qs cs r₀ false r'
+    replay-off p =
+        let f = through-off qs cs k r here K.same (asked false p) in
+        record {
+          all = sym f.0 ∙ g.left;
+          row = p.row ∙ passed-off j q r (sym p.test) ∙ sym f.1 ∙ g.row;
+        }
 
-  pub record Replaying (r : List ℤ) (k : ℕ) : Type 0 where
-    pub within : k ≤ made
-    pub whole : Whole n r
-    pub left : through (drop k qs) (drop k cs) r ≡ through qs cs r₀
-    pub row : brought (drop k qs) (drop k cs) r ≡ brought qs cs r₀
-
-  pub replay-start : Whole n r₀ → Replaying r₀ 0
-  replay-start w = record { within = omega arith; whole = w; left = refl; row = refl }
-
-  module _ (hp : made ≤ length past) (K : Kept n qs cs) (k : ℕ) (r : List ℤ) (g : Replaying r k) where
-    long : length qs ≡ made
-    long = length-take-le made past hp
-
-    pub replay-end : made ≤ k → Replayed qs cs r₀ true r
-    replay-end h =
-        let e = through-end qs cs k r (subst (λ m. m ≤ k) (sym long) h) in record { all = sym e.0 ∙ g.left; row = sym e.1 ∙ g.row }
-
-    module _ (h : k < made) where
-      column-is : get_or cs k 0 ≡ get_or columns k 0
-      column-is = get_or-take made columns k 0 h
-
-      row_is : get_or qs k [] ≡ get_or past k []
-      row_is = get_or-take made past k [] h
-
-      here : k < length qs
-      here = subst (λ m. k < m) (sym long) h
-
-      pub replay-column : get_or columns k 0 < 16
-      replay-column = subst (λ j. j < 16) column-is (K.columns k here)
-
-      pub replay-left : Left n (get_or past k [])
-      replay-left = subst (Left n) row_is (K.rows k here)
-
-      module _ (b : Bool) (r' : List ℤ) (p : Passed (get_or columns k 0) (get_or past k []) r b r') where
-        asked : (c : Bool) → b ≡ c → narrow_row (get_or cs k 0) r ≡ c
-        asked c e = ap (λ j. narrow_row j r) column-is ∙ sym p.test ∙ e
-
-        pub replay-off : b ≡ false → Replayed qs cs r₀ b r'
-        replay-off e =
-            let f = through-off qs cs k r here K.same (asked false e) in
-            record {
-              all = e ∙ sym f.0 ∙ g.left;
-              row = p.row ∙ passed-off (get_or columns k 0) (get_or past k []) r (sym p.test ∙ e) ∙ sym f.1 ∙ g.row;
-            }
-
-        pub replay-on : b ≡ true → Replaying r' (k + 1)
-        replay-on e =
-            let f = through-on qs cs k r here K.same (asked true e) in
-            let q : r' ≡ put (get_or cs k 0) (get_or qs k []) r = p.row ∙ passed_on (get_or columns k 0) (get_or past k []) r (sym p.test ∙ e) ∙ sym (ap₂ (λ j a. put j a r) column-is row_is) in
-            record {
-              within = omega arith;
-              whole = subst (Whole n) (sym q) (put_whole (get_or cs k 0) (get_or qs k []) r n (K.rows k here) (asked true e) g.whole);
-              left = ap (through (drop (k + 1) qs) (drop (k + 1) cs)) q ∙ sym f.0 ∙ g.left;
-              row = ap (brought (drop (k + 1) qs) (drop (k + 1) cs)) q ∙ sym f.1 ∙ g.row;
-            }
+    pub replay-on : Passed j q r true r' → Replaying n qs cs r₀ r' (k + 1)
+    replay-on p =
+        let f = through-on qs cs k r here K.same (asked true p) in
+        let e : r' ≡ put (get_or cs k 0) (get_or qs k []) r = p.row ∙ passed_on j q r (sym p.test) ∙ ap₂ (λ j a. put j a r) column-is row_is in
+        record {
+          whole = subst (Whole n) (sym e) (put_whole (get_or cs k 0) (get_or qs k []) r n (K.rows k here) (asked true p) g.whole);
+          left = ap (through (drop (k + 1) qs) (drop (k + 1) cs)) e ∙ sym f.0 ∙ g.left;
+          row = ap (brought (drop (k + 1) qs) (drop (k + 1) cs)) e ∙ sym f.1 ∙ g.row;
+        }

@@ -111,6 +111,16 @@ module _ {k : ℕ} {cs : List Constraint} {h : Standing} {rows : List (List ℤ)
         at Long q = wide-now (λ z. let w : ◌≡◌ {A = ℕ} 0 1 = cc in omega arith) e
         at Wide q = wide-stays q
 
+    -- a test that ended stays as it ended
+    pub stays : through qs js s ≡ true → (h.verdict ≡ Point → ⊥) → y.verdict ≡ h.verdict
+    stays e n = at h.verdict refl
+      where
+        at : (u : Verdict) → h.verdict ≡ u → y.verdict ≡ h.verdict
+        at Point q = absurd (n q)
+        at Dropped q = (ended-now (λ z. let c : Dropped ≡ Wide = sym q ∙ z in let w : ◌≡◌ {A = ℕ} 0 1 = cc in omega arith) e n).0
+        at Long q = (ended-now (λ z. let c : Long ≡ Wide = sym q ∙ z in let w : ◌≡◌ {A = ℕ} 0 1 = cc in omega arith) e n).0
+        at Wide q = wide-stays q ∙ sym q
+
     size-more : m + 1 ≡ length (cs ++ (c ∷ []))
     size-more = let e = g.size in let l = length-append cs (c ∷ []) in omega arith
 
@@ -210,7 +220,7 @@ module _ {k : ℕ} {cs : List Constraint} {h : Standing} {rows : List (List ℤ)
           → Appended m v made κ r rows place kinds past columns w rows' place' kinds' past' columns' → Stands k (cs ++ (c ∷ [])) w rows' place' kinds' past' columns'
       grown-on e w rows' place' kinds' past' columns' lr lp lk la lc a =
           let o = onward-is e in
-          let t = trace-good (k + 10) (take v kinds ++ (κ ∷ [])) (200 - made) (take m rows ++ (r ∷ [])) (take v place ++ (m ∷ [])) (fine_more (k + 10) m v r rows place kinds calm-now κ) in
+          let t = trace-good (k + 10) (take v kinds ++ (κ ∷ [])) (200 - made) (take m rows ++ (r ∷ [])) (take v place ++ (m ∷ [])) (fine_more calm-now κ) in
           let q = a.count in
           let b = t.most in
           let d = g.most in

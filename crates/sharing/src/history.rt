@@ -27,17 +27,15 @@ fn pass(r: &mut [i64; 18], n: usize, q: &[i64; 18], j: usize) -> bool
     requires left { Left n q.now }
     ensures { Passed j q.now r.old result r.new }
 {
-    let e = r[j + 2];
-    if e == 0 {
+    if r[j + 2] == 0 {
         return true;
     }
     if !small(r, n) {
         return false;
     }
-    let m = q[0];
     let mut p = *q;
     p[0] = 0;
-    replace(r, n, j, m, &p);
+    replace(r, n, j, q[0], &p);
     true
 }
 
@@ -54,12 +52,10 @@ pub fn replay(
     requires kept { Kept n (take made past.now) (take made columns.now) }
     ensures { Replayed (take made past.now) (take made columns.now) r.old result r.new }
 {
-    let mut k: usize = 0;
-    while k < made {
-        if !pass(r, n, &past[k], columns[k]) {
+    for (q, j) in past[..made].iter().zip(&columns[..made]) {
+        if !pass(r, n, q, *j) {
             return false;
         }
-        k += 1;
     }
     true
 }
@@ -83,8 +79,7 @@ fn make(
     let i = place[v];
     let j = place[w] - 64;
     pivot(t, n, place, v, w);
-    let p = t[i];
-    past[k] = p;
+    past[k] = t[i];
     columns[k] = j;
 }
 
@@ -106,8 +101,7 @@ pub fn go_on(
     let rows = t.len();
     let mut made = start;
     loop {
-        let m = choose(t, n, place, kinds, limit::PIVOTS - made);
-        match m {
+        match choose(t, n, place, kinds, limit::PIVOTS - made) {
             Move::Stop(x) => {
                 return Standing {
                     rows,
@@ -141,8 +135,7 @@ pub fn go_from(
     ensures { Went kinds.now start t.old place.old past.old columns.old result t.new place.new past.new columns.new }
 {
     let rows = t.len();
-    let m = choose_at(t, n, place, kinds, limit::PIVOTS - start, u);
-    match m {
+    match choose_at(t, n, place, kinds, limit::PIVOTS - start, u) {
         Move::Stop(x) => Standing {
             rows,
             pivots: start,
@@ -168,11 +161,8 @@ pub fn rest(
 {
     let mut left = most;
     loop {
-        let m = choose(t, n, place, kinds, left);
-        match m {
-            Move::Stop(x) => {
-                return x;
-            }
+        match choose(t, n, place, kinds, left) {
+            Move::Stop(x) => return x,
             Move::Pivot(v, w) => {
                 pivot(t, n, place, v, w);
                 left -= 1;

@@ -1,5 +1,5 @@
 // The test of the working constraints with its pivots kept, one constraint more, and the test of a candidate.
-ghost use Rattle.std.specs.Prelude.{◌≡◌, false, ◌+◌, ◌≤◌, length, take};
+ghost use Rattle.std.specs.Prelude.{◌≡◌, false, ◌≤◌, length};
 ghost use Rattle.model.specs.Sets.{bounds};
 ghost use Rattle.model.specs.Values.{basic_set_of};
 ghost use Rattle.model.specs.Limits.{most_pivots};
@@ -29,8 +29,7 @@ pub fn begin(
     let m = 2 * k;
     let n = limit::AXES + 3 * k;
     name_variables(k, n, place, kinds);
-    let ds = b.divisions;
-    fill_bounds(ds, k, rows);
+    fill_bounds(b.divisions, k, rows);
     go_on(
         &mut rows[..m],
         k + 10,
@@ -60,11 +59,10 @@ fn append(
     requires made_le_most_pivots { (made ≤ most_pivots) × (length past.old ≡ most_pivots) × (length columns.old ≡ most_pivots) }
     ensures { Appended m v made kind r rows.old place.old kinds.old past.old columns.old result rows.new place.new kinds.new past.new columns.new }
 {
-    let e = r[1];
     rows[m] = r;
     place[v] = m;
     kinds[v] = kind;
-    if !is_violated(kind, e) {
+    if !is_violated(kind, r[1]) {
         return Standing {
             rows: m + 1,
             pivots: made,
@@ -97,65 +95,36 @@ pub fn grow(
     requires { Growing k h rows.old place.old kinds.old past.old columns.old }
     ensures { Grown k c h rows.old place.old kinds.old past.old columns.old result rows.new place.new kinds.new past.new columns.new }
 {
-    let m = h.rows;
-    let made = h.pivots;
-    let x = h.verdict;
-    let v = limit::AXES + k + m;
     let n = k + 10;
-    let more = m + 1;
-    let equality = c.equality;
-    let kind = kind_of(equality);
+    let wide = Standing {
+        rows: h.rows + 1,
+        pivots: 0,
+        verdict: Verdict::Wide,
+    };
     let mut r = [0i64; 18];
     constraint_row(&mut r, c, k);
-    if !replay(&mut r, n, past, columns, made) {
-        return Standing {
-            rows: more,
-            pivots: 0,
-            verdict: Verdict::Wide,
-        };
+    if !replay(&mut r, n, past, columns, h.pivots) {
+        return wide;
     }
-    match x {
-        Verdict::Point => append(m, v, made, n, r, kind, rows, place, kinds, past, columns),
-        Verdict::Dropped => Standing {
-            rows: more,
-            pivots: made,
-            verdict: Verdict::Dropped,
+    match h.verdict {
+        Verdict::Point => append(
+            h.rows,
+            limit::AXES + k + h.rows,
+            h.pivots,
+            n,
+            r,
+            kind_of(c.equality),
+            rows,
+            place,
+            kinds,
+            past,
+            columns,
+        ),
+        Verdict::Wide => wide,
+        _ => Standing {
+            rows: h.rows + 1,
+            ..h
         },
-        Verdict::Long => Standing {
-            rows: more,
-            pivots: made,
-            verdict: Verdict::Long,
-        },
-        Verdict::Wide => Standing {
-            rows: more,
-            pivots: 0,
-            verdict: Verdict::Wide,
-        },
-    }
-}
-
-fn copy_rows(to: &mut [[i64; 18]], from: &[[i64; 18]], n: usize)
-    requires { (n ≤ length to.old) × (n ≤ length from.now) }
-    ensures { take n to.new ≡ take n from.now }
-{
-    let mut k: usize = 0;
-    while k < n {
-        to[k] = from[k];
-        k += 1;
-    }
-}
-
-// The places and kinds of the first n variables.
-fn copy_names(seats: &mut [usize], sorts: &mut [u8], place: &[usize], kinds: &[u8], n: usize)
-    requires n_in_bounds { (n ≤ length seats.old) × (n ≤ length place.now) }
-    requires n_in_bounds_2 { (n ≤ length sorts.old) × (n ≤ length kinds.now) }
-    ensures { (take n seats.new ≡ take n place.now) × (take n sorts.new ≡ take n kinds.now) }
-{
-    let mut k: usize = 0;
-    while k < n {
-        seats[k] = place[k];
-        sorts[k] = kinds[k];
-        k += 1;
     }
 }
 
@@ -175,8 +144,7 @@ fn finish(
     requires spare_len { length spare.old ≡ 64 }
     ensures { result ≡ (onward left m v 1 r rows.now place.now kinds.now).verdict }
 {
-    let e = r[1];
-    if !is_violated(1, e) {
+    if !is_violated(1, r[1]) {
         return Verdict::Point;
     }
     let w = helping(&r, &place[..v], &kinds[..v]);
@@ -185,9 +153,10 @@ fn finish(
     }
     let mut seats = [0usize; 80];
     let mut sorts = [0u8; 80];
-    copy_rows(spare, rows, m);
+    spare[..m].copy_from_slice(&rows[..m]);
     spare[m] = r;
-    copy_names(&mut seats, &mut sorts, place, kinds, v);
+    seats[..v].copy_from_slice(&place[..v]);
+    sorts[..v].copy_from_slice(&kinds[..v]);
     seats[v] = m;
     sorts[v] = 1;
     rest(
@@ -215,19 +184,16 @@ pub fn candidate(
     requires equality_value { (c.equality ≡ false) × (length spare.old ≡ 64) }
     ensures { Tried k c h rows.now place.now kinds.now past.now columns.now result }
 {
-    let m = h.rows;
-    let made = h.pivots;
-    let x = h.verdict;
     let mut r = [0i64; 18];
     constraint_row(&mut r, c, k);
-    if !replay(&mut r, k + 10, past, columns, made) {
+    if !replay(&mut r, k + 10, past, columns, h.pivots) {
         return Verdict::Wide;
     }
-    match x {
+    match h.verdict {
         Verdict::Point => finish(
-            m,
-            limit::AXES + k + m,
-            limit::PIVOTS - made,
+            h.rows,
+            limit::AXES + k + h.rows,
+            limit::PIVOTS - h.pivots,
             k + 10,
             r,
             rows,
@@ -235,8 +201,6 @@ pub fn candidate(
             kinds,
             spare,
         ),
-        Verdict::Dropped => Verdict::Dropped,
-        Verdict::Long => Verdict::Long,
-        Verdict::Wide => Verdict::Wide,
+        stopped => stopped,
     }
 }

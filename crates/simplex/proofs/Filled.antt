@@ -259,22 +259,6 @@ pub record Filling (b : BasicSet) (n : ℕ) (rows rows' : List (List ℤ)) (plac
   pub bounded : Bounded b.divisions b.divs b.divs rows rows₁
   pub ruled : Ruled b n rows₁ rows' kinds₁ kinds'
 
--- there is room for one more
-pub filling-room : {b : BasicSet} {n : ℕ} {rows rows' : List (List ℤ)} {place place' kinds kinds' : List ℕ} → Filling b n rows rows' place place' kinds kinds' → n < b.cons → 64 ≤ length rows → 80 ≤ length kinds
-    → (2 * b.divs + n < length rows') × (8 + 3 * b.divs + n < length kinds') × (n < length b.constraints)
-filling-room f h r k =
-    let v = f.valid in
-    let d = v.divs in
-    let e = v.cons in
-    let c = v.constraints in
-    let l = f.ruled.long ∙ f.bounded.long in
-    let m = f.ruled.names ∙ f.named.names in
-    (omega arith, omega arith, omega arith)
-
-pub filling-done : {b : BasicSet} {n : ℕ} {rows rows' : List (List ℤ)} {place place' kinds kinds' : List ℕ} → Filling b n rows rows' place place' kinds kinds' → n ≡ b.cons
-    → Filling b b.cons rows rows' place place' kinds kinds'
-filling-done {b} {n} {rows} {rows'} {place} {place'} {kinds} {kinds'} f e = subst (λ i. Filling b i rows rows' place place' kinds kinds') e f
-
 module _ (b : BasicSet) (rows rows₂ : List (List ℤ)) (place place' kinds kinds₂ : List ℕ) (f : Filling b b.cons rows rows₂ place place' kinds kinds₂) where
   valid : Valid b
   valid = f.valid

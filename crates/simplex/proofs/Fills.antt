@@ -52,9 +52,6 @@ count-within d h = record { size = omega arith }
 pub minus-fits : (d : ℕ) → d < 4294967296 → SFits w64 (pos 0 -ℤ pos d)
 minus-fits d h = within-fits (omega arith) (within-minus (count-within d h))
 
-pub less-fits : (d : ℕ) → d < 4294967296 → SFits w64 (pos d -ℤ pos 1)
-less-fits d h = within-fits (omega arith) (within-sub (count-within d h) (within-self (pos 1)))
-
 pub upper_fits : (d : ℕ) (c : ℤ) → d < 4294967296 → SFits w32 c → SFits w64 (pos d -ℤ pos 1 -ℤ c)
 upper_fits d c h k = within-fits (omega arith) (within-sub (within-sub (count-within d h) (within-self (pos 1))) (fits-within k))
 
@@ -267,9 +264,6 @@ module _ (k i : ℕ) (ds : List Division) (d : Division) (rows : List (List ℤ)
       ∙ ap (map (start_row k)) (sym (bounds-snoc 0 L q))
       ∙ ap (λ u. map (start_row k) (bounds 0 u)) (sym (map-append division_of (take i ds) (get_or ds i d ∷ [])) ∙ ap (map division_of) (sym (take-suc ds i d h) ∙ ap (λ n. take n ds) (sym (add-one i))))
 
-pub bounded-none : (ds : List Division) (k : ℕ) (rows : List (List ℤ)) → Bounded ds k 0 rows rows
-bounded-none ds k rows = record { long = refl; firsts = refl }
-
 pub bounded-more : (ds : List Division) (k n : ℕ) (d : Division) (rows rows' : List (List ℤ)) (x y : List ℤ) → n < length ds → 2 * n + 2 ≤ length rows → x ≡ start_row k (lower n (division_of (get_or ds n d))) → y ≡ start_row k (upper n (division_of (get_or ds n d)))
     → Bounded ds k n rows rows' → Bounded ds k (n + 1) rows (set (set rows' (2 * n) x) (2 * n + 1) y)
 bounded-more ds k n d rows rows' x y h l ex ey m =
@@ -277,16 +271,6 @@ bounded-more ds k n d rows rows' x y h l ex ey m =
     record {
       long = length-set (set rows' (2 * n) x) (2 * n + 1) y ∙ length-set rows' (2 * n) x ∙ m.long;
       firsts = bounds-more k n ds d rows' x y h (omega arith) ex ey m.firsts;
-    }
-
-pub ruled-none : (b : BasicSet) (rows : List (List ℤ)) (kinds : List ℕ) → Ruled b 0 rows rows kinds kinds
-ruled-none b rows kinds =
-    record {
-      long = refl;
-      names = refl;
-      firsts = ap (λ n. take n rows) (add-zero (2 * b.divs)) ∙ sym (mathlib.Core.List.append-nil (take (2 * b.divs) rows));
-      before = λ v h. refl;
-      kinds_are = λ c h. absurd (not-suc-le-zero h);
     }
 
 module _ (b : BasicSet) (n : ℕ) (d : Constraint) (rows rows' : List (List ℤ)) (kinds kinds' : List ℕ) (x : List ℤ) (y : ℕ) where

@@ -9,38 +9,6 @@ ghost use Rattle.simplex.specs.Table.{start_row, place_at, kind_number, Copied, 
 
 use model::{BasicSet, Constraint, Division, limit};
 
-fn times(s: i64, x: i16) -> i64
-    requires { Within 1 s }
-    ensures { result ≡ s *ℤ x }
-{
-    s * x as i64
-}
-
-fn wide(x: i32) -> i64
-    ensures { result ≡ x }
-{
-    x as i64
-}
-
-fn unsigned(d: u32) -> i64
-    ensures { result ≡ pos d }
-{
-    d as i64
-}
-
-fn opposite(d: u32) -> i64
-    ensures { result ≡ neg_ℤ (pos d) }
-{
-    0 - d as i64
-}
-
-// The constant of a division's second bound.
-fn upper_constant(d: u32, c: i32) -> i64
-    ensures { result ≡ pos d -ℤ pos 1 -ℤ c }
-{
-    d as i64 - 1 - c as i64
-}
-
 // s times the first n numbers of a, from place `base` on.
 fn copy(r: &mut [i64; 18], base: usize, s: i64, a: [i16; limit::PLACES], n: usize)
     requires r_len { length r.old ≡ 18 }
@@ -49,11 +17,8 @@ fn copy(r: &mut [i64; 18], base: usize, s: i64, a: [i16; limit::PLACES], n: usiz
     requires within { Within 1 s }
     ensures { Copied base s n a r.old r.new }
 {
-    let mut i: usize = 0;
-    while i < n {
-        let x = a[i];
-        r[base + i] = times(s, x);
-        i += 1;
+    for i in 0..n {
+        r[base + i] = s * i64::from(a[i]);
     }
 }
 
@@ -75,11 +40,8 @@ fn lower_row(r: &mut [i64; 18], e: Division, i: usize, k: usize)
     requires k_le_most_divisions { k ≤ most_divisions }
     ensures { r.new ≡ start_row k (lower i (division_of e)) }
 {
-    let z = e.constant;
-    let d = e.divisor;
-    let a = e.axes;
-    row_of(r, k, wide(z), 1, a);
-    r[i + 2] = opposite(d);
+    row_of(r, k, i64::from(e.constant), 1, e.axes);
+    r[i + 2] = -i64::from(e.divisor);
 }
 
 // d·q − numerator + d − 1
@@ -88,22 +50,17 @@ fn upper_row(r: &mut [i64; 18], e: Division, i: usize, k: usize)
     requires k_le_most_divisions { k ≤ most_divisions }
     ensures { r.new ≡ start_row k (upper i (division_of e)) }
 {
-    let z = e.constant;
-    let d = e.divisor;
-    let a = e.axes;
-    row_of(r, k, upper_constant(d, z), -1, a);
-    r[i + 2] = unsigned(d);
+    let divisor = i64::from(e.divisor);
+    row_of(r, k, divisor - 1 - i64::from(e.constant), -1, e.axes);
+    r[i + 2] = divisor;
 }
 
 pub fn constraint_row(r: &mut [i64; 18], c: Constraint, k: usize)
     requires { k ≤ most_divisions }
     ensures { r.new ≡ start_row k (constraint_of c) }
 {
-    let z = c.constant;
-    let a = c.axes;
-    let q = c.divisions;
-    row_of(r, k, wide(z), 1, a);
-    copy(r, 2, 1, q, k);
+    row_of(r, k, i64::from(c.constant), 1, c.axes);
+    copy(r, 2, 1, c.divisions, k);
 }
 
 // The rows of the bounds of the first k divisions.
@@ -113,12 +70,9 @@ pub fn fill_bounds(ds: [Division; limit::DIVISIONS], k: usize, rows: &mut [[i64;
     requires k_in_bounds { 2 * k ≤ length rows.old }
     ensures { Bounded ds k k rows.old rows.new }
 {
-    let mut i: usize = 0;
-    while i < k {
-        let e = ds[i];
-        lower_row(&mut rows[2 * i], e, i, k);
-        upper_row(&mut rows[2 * i + 1], e, i, k);
-        i += 1;
+    for i in 0..k {
+        lower_row(&mut rows[2 * i], ds[i], i, k);
+        upper_row(&mut rows[2 * i + 1], ds[i], i, k);
     }
 }
 
@@ -133,12 +87,12 @@ fn place_of(k: usize, v: usize) -> usize
     ensures { result ≡ place_at k v }
 {
     if v < limit::AXES {
-        return 64 + k + v;
+        64 + k + v
+    } else if v < limit::AXES + k {
+        64 + (v - limit::AXES)
+    } else {
+        v - (limit::AXES + k)
     }
-    if v < limit::AXES + k {
-        return 64 + (v - limit::AXES);
-    }
-    v - (limit::AXES + k)
 }
 
 fn free_or_bound(k: usize, v: usize) -> u8
@@ -155,11 +109,9 @@ pub fn name_variables(k: usize, n: usize, place: &mut [usize], kinds: &mut [u8])
     requires n_in_bounds_2 { n ≤ length kinds.old }
     ensures { Named k n place.old place.new kinds.old kinds.new }
 {
-    let mut v: usize = 0;
-    while v < n {
+    for v in 0..n {
         place[v] = place_of(k, v);
         kinds[v] = free_or_bound(k, v);
-        v += 1;
     }
 }
 
@@ -173,15 +125,11 @@ pub fn fill(b: BasicSet, rows: &mut [[i64; 18]], place: &mut [usize], kinds: &mu
 {
     let k = b.divs;
     let cons = b.cons;
-    let n = limit::AXES + k + (2 * k + cons);
-    name_variables(k, n, place, kinds);
-    let ds = b.divisions;
-    fill_bounds(ds, k, rows);
-    let mut i: usize = 0;
-    while i < cons {
+    name_variables(k, limit::AXES + k + (2 * k + cons), place, kinds);
+    fill_bounds(b.divisions, k, rows);
+    for i in 0..cons {
         let c = b.constraints[i];
         constraint_row(&mut rows[2 * k + i], c, k);
         kinds[limit::AXES + 3 * k + i] = kind_of(c.equality);
-        i += 1;
     }
 }

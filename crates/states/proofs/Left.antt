@@ -11,7 +11,7 @@ use Rattle.model.specs.Sets.{Constraint}
 use Rattle.planning.specs.State.{start_refusal}
 use Rattle.memory.specs.Memory.{Memory, fitting, head_at}
 use Rattle.memory.specs.Sound.{is_word, sound}
-use Rattle.states.specs.declared.Said.TheVariants.{Point, Empty, Wide, Long, Refused, Misused}
+use Rattle.states.specs.Calls.{Point, Empty, Wide, Long, Refused, Misused}
 use Rattle.rules.specs.Rules.{rule_number}
 use Rattle.rules.specs.Divisions.{divisions_in}
 use Rattle.states.specs.Calls.{Step, stepped, said_of, word_number, marked_in, mark_step, back_in, back_step, start_end, start_by, start_step, joined_in, add_by, add_step}

@@ -18,14 +18,14 @@ use Rattle.memory.specs.Memory.{Memory, memory, fitting, slot_copied, head_at, w
 use Rattle.memory.proofs.Copies.{memory-is}
 use Rattle.simplex.specs.Table.{Ending, kind_number}
 use Rattle.memory.specs.Sound.{is_word, sound}
-use Rattle.states.specs.declared.Said.{Said}
-use Rattle.states.specs.declared.Said.TheVariants.{Refused, Misused}
+use Rattle.states.specs.Calls.{Saying}
+use Rattle.states.specs.Calls.{Refused, Misused}
 use Rattle.rules.specs.Rules.{rule_number}
 use Rattle.rules.specs.Divisions.{divisions_in}
 use Rattle.states.specs.Calls.{Step, stepped, said_of, ranked, marked_in, mark_step, back_in, back_by, back_step, first_kinds, opens, start_end, start_by, start_step, says, saying, goes_on, grown_by, grown_in, counted_in, joined_in, add_by, add_step}
 use Rattle.states.specs.Parts.{Ran, Grew}
 
-pub stepped-is : {x x' : Said} {y y' : Memory} → x ≡ x' → y ≡ y' → stepped x y ≡ stepped x' y'
+pub stepped-is : {x x' : Saying} {y y' : Memory} → x ≡ x' → y ≡ y' → stepped x y ≡ stepped x' y'
 stepped-is a b = cc
 
 -- the ranks changed behind the heads
@@ -54,7 +54,7 @@ module _ (k : ℕ) (y : Memory) where
     unfolding mark_step
     mark-none e w = rw (le-leb k 15 h, e, w)
 
-    pub mark-done : fitting y ≡ true → is_word (head_at 0 4 y) ≡ true → {x : Said} {z : Memory} → x ≡ said_of (head_at 0 4 y) → z ≡ marked_in k y → stepped x z ≡ mark_step k y
+    pub mark-done : fitting y ≡ true → is_word (head_at 0 4 y) ≡ true → {x : Saying} {z : Memory} → x ≡ said_of (head_at 0 4 y) → z ≡ marked_in k y → stepped x z ≡ mark_step k y
     unfolding mark_step
     mark-done e w a b = rw (le-leb k 15 h, e, w) (stepped-is a b)
 
@@ -80,7 +80,7 @@ module _ (k : ℕ) (y : Memory) where
       pub back_none : (rank ≡ 0 → ⊥) → is_word (head_at (k + 1) 4 y) ≡ false → stepped Misused y ≡ back_step k y
       back_none z w = sym (by ∙ ap₂ (λ b d. cond b (stepped (Refused 18) y) (cond d (stepped (said_of (head_at (k + 1) 4 y)) (back_in k rank y)) (stepped Misused y))) (ne_eqb rank 0 z) w)
 
-      pub back_done : (rank ≡ 0 → ⊥) → is_word (head_at (k + 1) 4 y) ≡ true → {x : Said} {z : Memory} → x ≡ said_of (head_at (k + 1) 4 y) → z ≡ back_in k rank y → stepped x z ≡ back_step k y
+      pub back_done : (rank ≡ 0 → ⊥) → is_word (head_at (k + 1) 4 y) ≡ true → {x : Saying} {z : Memory} → x ≡ said_of (head_at (k + 1) 4 y) → z ≡ back_in k rank y → stepped x z ≡ back_step k y
       back_done z w a b = sym (by ∙ ap₂ (λ b d. cond b (stepped (Refused 18) y) (cond d (stepped (said_of (head_at (k + 1) 4 y)) (back_in k rank y)) (stepped Misused y))) (ne_eqb rank 0 z) w ∙ sym (stepped-is a b))
 
 -- ---- start
@@ -109,7 +109,7 @@ module _ (n : ℕ) (xs : List ℤ) (y : Memory) where
     start-done z a = a ∙ ap (λ r. start_by r n (length xs / 10) (divisions_in (length xs / 10) xs) y) (sym z) ∙ sym by-start
 
 -- the tables of a state that was begun
-pub opens-is : (n k : ℕ) (y : Memory) {e : Ending} {w : ℕ} {x : Said} {t : List (List ℕ)} {p k' h₁ h₂ : List ℕ} → Ran e w t p → k' ≡ first_kinds k
+pub opens-is : (n k : ℕ) (y : Memory) {e : Ending} {w : ℕ} {x : Saying} {t : List (List ℕ)} {p k' h₁ h₂ : List ℕ} → Ran e w t p → k' ≡ first_kinds k
     → h₁ ≡ (n ∷ k ∷ 0 ∷ (2 * k) ∷ w ∷ []) ++ drop 5 y.heads → h₂ ≡ with_ranks (map (forgotten 0)) h₁ → x ≡ said_of w
     → stepped x (memory (t ++ drop (2 * k) y.rows) (p ++ drop (8 + k + 2 * k) y.place) (k' ++ drop (8 + k + 2 * k) y.kinds) h₂) ≡ opens n k e y
 opens-is n k y r kk a b s =
@@ -148,13 +148,13 @@ module _ (r : Constraint) (y : Memory) where
       add_done z a = a ∙ ap (λ x. add_by x r y) (sym z) ∙ sym by-add
 
 -- the state says another word than point
-pub joined-other : (r : Constraint) (y : Memory) {x : Said} → (head_at 0 4 y ≡ 1 → ⊥) → x ≡ said_of (head_at 0 4 y) → stepped x (counted_in y) ≡ says (joined_in r y)
+pub joined-other : (r : Constraint) (y : Memory) {x : Saying} → (head_at 0 4 y ≡ 1 → ⊥) → x ≡ said_of (head_at 0 4 y) → stepped x (counted_in y) ≡ says (joined_in r y)
 joined-other r y z s =
     let b = ne_eqb (head_at 0 4 y) 1 z in
     let g = get_or-set_other y.heads 2 4 (head_at 0 2 y + 1) 0 (λ e. omega arith) in
     stepped-is (s ∙ ap said_of (sym g)) refl ∙ ap (λ c. says (cond c (grown_in (head_at 0 1 y) (head_at 0 3 y) r (counted_in y)) (counted_in y))) (sym b)
 
-pub joined-point : (r : Constraint) (y : Memory) {x : Said} {z : Memory} → head_at 0 4 y ≡ 1 → z ≡ grown_in (head_at 0 1 y) (head_at 0 3 y) r (counted_in y) → x ≡ said_of (head_at 0 4 z) → stepped x z ≡ says (joined_in r y)
+pub joined-point : (r : Constraint) (y : Memory) {x : Saying} {z : Memory} → head_at 0 4 y ≡ 1 → z ≡ grown_in (head_at 0 1 y) (head_at 0 3 y) r (counted_in y) → x ≡ said_of (head_at 0 4 z) → stepped x z ≡ says (joined_in r y)
 joined-point r y e g s =
     stepped-is s refl ∙ ap says g ∙ ap (λ c. says (cond c (grown_in (head_at 0 1 y) (head_at 0 3 y) r (counted_in y)) (counted_in y))) (sym (eq-eqb (head_at 0 4 y) 1 e))
 

@@ -1,11 +1,13 @@
 -- The four calls on a memory (document 02, request 8), for every memory: what each says, and every word after it.
-use Rattle.std.specs.Prelude.{◌&&◌, cond, List, [], ◌∷◌, ◌++◌, map, ℕ, zero, suc, ◌+◌, ◌*◌, ◌/◌, ◌%◌, leb, ltb, eqb, ℤ, length, get_or, set, take, drop}
+use Rattle.std.specs.Prelude.{◌&&◌, cond, List, [], ◌∷◌, ◌++◌, map, ℕ, zero, suc, ◌+◌, ◌*◌, ◌/◌, ◌%◌, leb, ltb, eqb, ℤ, Result, Ok, Err, length, get_or, set, take, drop}
 use Rattle.std.proofs.Math.Option.{Option, none, some}
 use Rattle.integers.specs.Size.{bound}
 use Rattle.model.specs.Sets.{Division, Constraint, bounds}
 use Rattle.wide_tableau.specs.Cells.{words, rows_of}
 use Rattle.model.specs.Limits.{most_axes, most_pivots, most_name}
 use Rattle.model.specs.Refusals.{bad_name}
+use Rattle.model.specs.declared.refusal.Refusal.{Refusal}
+use Rattle.model.specs.Refused.{number_of}
 use Rattle.simplex.specs.Table.{Ending, run_table_at, tabulate, start_row, place_at, kind_number}
 use Rattle.simplex.specs.declared.Verdict.{Verdict}
 use Rattle.simplex.specs.declared.Verdict.TheVariants as E
@@ -14,19 +16,40 @@ use Rattle.drafting.specs.Sketch.{rule_row}
 use Rattle.memory.specs.Memory.{Memory, memory, fitting, slot_copied, head_at, with_ranks, forgotten, newest}
 use Rattle.memory.specs.Sound.{is_word, sound}
 use Rattle.states.specs.declared.Said.{Said}
-use Rattle.states.specs.declared.Said.TheVariants.{Point, Empty, Wide, Long, Refused, Misused}
+use Rattle.states.specs.declared.Said.TheVariants as W
 use Rattle.rules.specs.Rules.{rule_number}
 use Rattle.rules.specs.Divisions.{divisions_in}
 
+-- what a call says: the state's word, a refusal's number, or that the memory has no state
+pub data Saying : Type 0 where
+  Point : Saying
+  Empty : Saying
+  Wide : Saying
+  Long : Saying
+  Refused : ℕ → Saying
+  Misused : Saying
+
+abbrev pub word_is : Said → Saying
+word_is W.Point = Point
+word_is W.Empty = Empty
+word_is W.Wide = Wide
+word_is W.Long = Long
+word_is W.Misused = Misused
+
+-- each case of the code's answer
+abbrev pub said_is : Result Said Refusal → Saying
+said_is (Ok x) = word_is x
+said_is (Err r) = Refused (number_of r)
+
 pub record Step : Type 0 where
-  pub said : Said
+  pub said : Saying
   pub memory : Memory
 
-abbrev pub stepped : Said → Memory → Step
+abbrev pub stepped : Saying → Memory → Step
 stepped x y = record { said = x; memory = y }
 
 -- a word is a number from 1 to 4; another says that there is no state
-abbrev pub said_of : ℕ → Said
+abbrev pub said_of : ℕ → Saying
 said_of w = cond (eqb w 1) Point (cond (eqb w 2) Empty (cond (eqb w 3) Wide (cond (eqb w 4) Long Misused)))
 
 abbrev pub word_number : Verdict → ℕ

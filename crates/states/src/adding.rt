@@ -6,7 +6,7 @@ ghost use Rattle.model.specs.Limits.{most_constraints};
 ghost use Rattle.memory.specs.Memory.{memory, head_at, Fits};
 ghost use Rattle.memory.specs.Sound.{sound as sound_of};
 ghost use Rattle.rules.specs.Rules.{rule_of};
-ghost use Rattle.states.specs.Calls.{stepped, says, goes_on, grown_in, joined_in, add_step};
+ghost use Rattle.states.specs.Calls.{word_is, said_is, stepped, says, goes_on, grown_in, joined_in, add_step};
 ghost use Rattle.states.specs.Parts.{Open, Joins, Grew};
 
 use crate::Said;
@@ -14,8 +14,8 @@ use crate::marking::said_of;
 use crate::opening::word_of;
 use memory::slots::fits;
 use memory::sound::sound;
-use model::{Constraint, limit};
-use rules::{Rule, constraint_of, rule_refusal};
+use model::{Constraint, Refusal, limit};
+use rules::{Rule, check_rule, constraint_of};
 
 // The test goes on with the new row, variable v, of that kind: the word.
 fn go_with(
@@ -79,7 +79,7 @@ fn join(
     heads: &mut [usize],
 ) -> Said
     requires { Fits (memory rows.old place.old kinds.old heads.old) × T (sound_of (memory rows.old place.old kinds.old heads.old)) × (head_at 0 2 (memory rows.old place.old kinds.old heads.old) < most_constraints) }
-    ensures { stepped result (memory rows.new place.new kinds.new heads.new) ≡ says (joined_in (constraint_of c) (memory rows.old place.old kinds.old heads.old)) }
+    ensures { stepped (word_is result) (memory rows.new place.new kinds.new heads.new) ≡ says (joined_in (constraint_of c) (memory rows.old place.old kinds.old heads.old)) }
 {
     let k = heads[1];
     let m = heads[3];
@@ -99,19 +99,16 @@ pub fn add(
     place: &mut [usize],
     kinds: &mut [u8],
     heads: &mut [usize],
-) -> Said
-    ensures { stepped result (memory rows.new place.new kinds.new heads.new) ≡ add_step (rule_of rule) (memory rows.old place.old kinds.old heads.old) }
+) -> Result<Said, Refusal>
+    ensures { stepped (said_is result) (memory rows.new place.new kinds.new heads.new) ≡ add_step (rule_of rule) (memory rows.old place.old kinds.old heads.old) }
 {
     if !fits(rows, place, kinds, heads) {
-        return Said::Misused;
+        return Ok(Said::Misused);
     }
     if !sound(rows, place, kinds, heads) {
-        return Said::Misused;
+        return Ok(Said::Misused);
     }
-    let r = rule_refusal(heads[0], heads[1], heads[2], rule);
-    if r != 0 {
-        return Said::Refused(r);
-    }
+    check_rule(heads[0], heads[1], heads[2], rule)?;
     let c = constraint_of(rule);
-    join(c, rows, place, kinds, heads)
+    Ok(join(c, rows, place, kinds, heads))
 }

@@ -9,13 +9,12 @@ pub use adding::add;
 pub use marking::{back, mark};
 pub use opening::start;
 
-// What a call says: the state's word, a refusal's number, or that the memory has no state.
+// What a call says that is not refused: the state's word, or that the memory has no state.
 #[derive(Clone, Copy)]
 pub enum Said {
     Point,
     Empty,
     Wide,
     Long,
-    Refused(u32),
     Misused,
 }

@@ -1,30 +1,24 @@
 // Marking the state under a name, and going back to one.
 ghost use Rattle.std.specs.Prelude.{◌≡◌};
 ghost use Rattle.memory.specs.Memory.{memory};
-ghost use Rattle.states.specs.Calls.{stepped, said_of, mark_step, back_step};
+ghost use Rattle.states.specs.Calls.{word_is, said_is, stepped, said_of, mark_step, back_step};
 
 use crate::Said;
 use memory::ranks::{forget_after, mark_newest};
 use memory::slots::{copy_slot, fits};
 use memory::sound::is_word;
-use model::{limit, refusal};
+use model::{Refusal, limit};
 
 pub fn said_of(w: usize) -> Said
-    ensures { result ≡ said_of w }
+    ensures { word_is result ≡ said_of w }
 {
-    if w == 1 {
-        return Said::Point;
+    match w {
+        1 => Said::Point,
+        2 => Said::Empty,
+        3 => Said::Wide,
+        4 => Said::Long,
+        _ => Said::Misused,
     }
-    if w == 2 {
-        return Said::Empty;
-    }
-    if w == 3 {
-        return Said::Wide;
-    }
-    if w == 4 {
-        return Said::Long;
-    }
-    Said::Misused
 }
 
 pub fn mark(
@@ -33,22 +27,22 @@ pub fn mark(
     place: &mut [usize],
     kinds: &mut [u8],
     heads: &mut [usize],
-) -> Said
-    ensures { stepped result (memory rows.new place.new kinds.new heads.new) ≡ mark_step name (memory rows.old place.old kinds.old heads.old) }
+) -> Result<Said, Refusal>
+    ensures { stepped (said_is result) (memory rows.new place.new kinds.new heads.new) ≡ mark_step name (memory rows.old place.old kinds.old heads.old) }
 {
     if limit::NAME < name {
-        return Said::Refused(refusal::BAD_NAME);
+        return Err(Refusal::BadName);
     }
     if !fits(rows, place, kinds, heads) {
-        return Said::Misused;
+        return Ok(Said::Misused);
     }
     let w = heads[4];
     if !is_word(w) {
-        return Said::Misused;
+        return Ok(Said::Misused);
     }
     copy_slot(0, name + 1, rows, place, kinds, heads);
     mark_newest(heads, name);
-    said_of(w)
+    Ok(said_of(w))
 }
 
 pub fn back(
@@ -57,24 +51,24 @@ pub fn back(
     place: &mut [usize],
     kinds: &mut [u8],
     heads: &mut [usize],
-) -> Said
-    ensures { stepped result (memory rows.new place.new kinds.new heads.new) ≡ back_step name (memory rows.old place.old kinds.old heads.old) }
+) -> Result<Said, Refusal>
+    ensures { stepped (said_is result) (memory rows.new place.new kinds.new heads.new) ≡ back_step name (memory rows.old place.old kinds.old heads.old) }
 {
     if limit::NAME < name {
-        return Said::Refused(refusal::BAD_NAME);
+        return Err(Refusal::BadName);
     }
     if !fits(rows, place, kinds, heads) {
-        return Said::Misused;
+        return Ok(Said::Misused);
     }
     let rank = heads[85 + name];
     if rank == 0 {
-        return Said::Refused(refusal::BAD_NAME);
+        return Err(Refusal::BadName);
     }
     let w = heads[5 * (name + 1) + 4];
     if !is_word(w) {
-        return Said::Misused;
+        return Ok(Said::Misused);
     }
     copy_slot(name + 1, 0, rows, place, kinds, heads);
     forget_after(heads, rank);
-    said_of(w)
+    Ok(said_of(w))
 }

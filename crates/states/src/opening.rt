@@ -4,15 +4,15 @@ ghost use Rattle.model.specs.Values.{division_of};
 ghost use Rattle.model.specs.Limits.{most_divisions};
 ghost use Rattle.memory.specs.Memory.{memory, Fits};
 ghost use Rattle.rules.specs.Divisions.{divisions_in, Listed};
-ghost use Rattle.states.specs.Calls.{stepped, word_number, first_kinds, start_end, opens, start_step};
+ghost use Rattle.states.specs.Calls.{word_is, said_is, stepped, word_number, first_kinds, start_end, opens, start_step};
 ghost use Rattle.states.specs.Parts.{Room, Begun, Ran};
 
 use crate::Said;
 use crate::marking::said_of;
 use memory::ranks::forget_after;
 use memory::slots::fits;
-use model::{Division, limit};
-use rules::{divisions_of, start_refusal};
+use model::{Division, Refusal, limit};
+use rules::{check_start, divisions_of};
 use simplex::Verdict;
 
 // The number that stands for a word.
@@ -86,7 +86,7 @@ fn set_up(
     heads: &mut [usize],
 ) -> Said
     requires { Fits (memory rows.old place.old kinds.old heads.old) × Listed k divisions.now }
-    ensures { stepped result (memory rows.new place.new kinds.new heads.new) ≡ opens n k (start_end k (divisions_in k divisions.now)) (memory rows.old place.old kinds.old heads.old) }
+    ensures { stepped (word_is result) (memory rows.new place.new kinds.new heads.new) ≡ opens n k (start_end k (divisions_in k divisions.now)) (memory rows.old place.old kinds.old heads.old) }
 {
     let m = 2 * k;
     let names = limit::AXES + k + m;
@@ -110,19 +110,16 @@ pub fn start(
     place: &mut [usize],
     kinds: &mut [u8],
     heads: &mut [usize],
-) -> Said
-    ensures { stepped result (memory rows.new place.new kinds.new heads.new) ≡ start_step n divisions.now (memory rows.old place.old kinds.old heads.old) }
+) -> Result<Said, Refusal>
+    ensures { stepped (said_is result) (memory rows.new place.new kinds.new heads.new) ≡ start_step n divisions.now (memory rows.old place.old kinds.old heads.old) }
 {
     if !fits(rows, place, kinds, heads) {
-        return Said::Misused;
+        return Ok(Said::Misused);
     }
     if divisions.len() % 10 != 0 {
-        return Said::Misused;
+        return Ok(Said::Misused);
     }
     let k = divisions.len() / 10;
-    let c = start_refusal(n, divisions, k);
-    if c != 0 {
-        return Said::Refused(c);
-    }
-    set_up(n, divisions, k, rows, place, kinds, heads)
+    check_start(n, divisions, k)?;
+    Ok(set_up(n, divisions, k, rows, place, kinds, heads))
 }

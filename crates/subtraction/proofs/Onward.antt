@@ -20,6 +20,7 @@ use Rattle.codec.specs.Valid.{Valid}
 use Rattle.algebra.specs.Cut.{keeps, cut, cut_fits, cut_all, cut_all_fits}
 use Rattle.algebra.specs.Tighten.{divisible}
 use Rattle.algebra.proofs.Closed.{Tight, cut-valid, pieces-tight}
+use Rattle.std.specs.Prelude.{Some, None}
 use Rattle.cutting.specs.declared.pieces.CutSteps.{CutSteps}
 use Rattle.records.specs.Sound.{Sound}
 use Rattle.cutting.specs.Cutting.{Step, piece_of, Pair, CutTightIs, CutIs, Piece, PieceIs}
@@ -96,13 +97,13 @@ module _ {left : ℕ} {p : Stored} {b : List ℕ} {pos : ℕ} (level : Level lef
       pub level-pair : Pair p v
       level-pair = record { n = level.n; first = level.valid; second = level-cutters.0; divs = level.divs; cons = level.cons; divs' = d.divs; cons' = d.cons }
 
-      pub level-over : {c : CutSteps} → TightAt left p → CutTightIs p v c → c.fits ≡ false → (o o' : List ℕ) (s : Done) (at count : ℕ)
+      pub level-over : TightAt left p → CutTightIs p v None → (o o' : List ℕ) (s : Done) (at count : ℕ)
           → Emits (cut_all keeps (set_from b pos) (basic_set_of p)) (cut_all_fits keeps (set_from b pos) (basic_set_of p)) o s (record { at = at; count = count; fits = false }) o'
-      level-over {c} t i f o o' s at count =
-          let k = cut-is p v (t some) c i in
+      level-over t i o o' s at count =
+          let k = cut-is p v (t some) None i in
           emits-refused (cut_all keeps (set_from b pos) (basic_set_of p)) (cut_all_fits keeps (set_from b pos) (basic_set_of p)) o o' s at count
           (ap (λ (cs : Set). cut_all_fits keeps cs (basic_set_of p)) level-turn.set
-          ∙ ap (λ (x : Bool). x && all (cut_all_fits keeps (set_from b (end_of b (pos + 1)))) (cut keeps (basic_set_of p) (basic_set_of v))) (sym k.fits ∙ f))
+          ∙ ap (λ (x : Bool). x && all (cut_all_fits keeps (set_from b (end_of b (pos + 1)))) (cut keeps (basic_set_of p) (basic_set_of v))) (sym k.fits))
 
 -- p, cut by the first cutter v: the steps of c are the pieces
 pub record Pieced (left : ℕ) (p : Stored) (b : List ℕ) (pos : ℕ) (v : Stored) (next : ℕ) (c : CutSteps) : Type 0 where
@@ -111,16 +112,15 @@ pub record Pieced (left : ℕ) (p : Stored) (b : List ℕ) (pos : ℕ) (v : Stor
   pub decoded : Decoded b (pos + 1) v
   pub ends : next ≡ end_of b (pos + 1)
   pub cuts : TightAt left p
-  pub tight : CutTightIs p v c
-  pub fits : c.fits ≡ true
+  pub tight : CutTightIs p v (Some c)
   pub long : length c.steps ≡ 96
 
 abbrev pub pieces_of : CutSteps → Set
 pieces_of c = map (piece_of (basic_set_of c.working)) (take c.count c.steps)
 
 module _ {left : ℕ} {p : Stored} {b : List ℕ} {pos : ℕ} {v : Stored} {next : ℕ} {c : CutSteps} (x : Pieced left p b pos v next c) where
-  is_cut : CutIs p v c
-  is_cut = cut-is p v (x.cuts x.some) c x.tight
+  is_cut : CutIs p v (Some c)
+  is_cut = cut-is p v (x.cuts x.some) (Some c) x.tight
 
   here-turn : Turn x.level.n b pos v
   here-turn = level-turn x.level x.some x.decoded
@@ -137,14 +137,14 @@ module _ {left : ℕ} {p : Stored} {b : List ℕ} {pos : ℕ} {v : Stored} {next
       → Emits (cut_all keeps (set_from b pos) (basic_set_of p)) (cut_all_fits keeps (set_from b pos) (basic_set_of p)) o s r o'
   unfolding cut_all
   pieced-whole e =
-      let k = sym (is_cut.pieces x.fits) in
+      let k = sym (is_cut.pieces) in
       emits-as
       (ap (λ (cs : Set). cut_all keeps cs (basic_set_of p)) set ∙ ap (concat_map (cut_all keeps (set_from b next))) k)
-      (ap (λ (cs : Set). cut_all_fits keeps cs (basic_set_of p)) set ∙ ap₂ (λ (y : Bool) (l : Set). y && all (cut_all_fits keeps (set_from b next)) l) (sym is_cut.fits ∙ x.fits) k)
+      (ap (λ (cs : Set). cut_all_fits keeps cs (basic_set_of p)) set ∙ ap₂ (λ (y : Bool) (l : Set). y && all (cut_all_fits keeps (set_from b next)) l) (sym is_cut.fits) k)
       e
 
-  steps-long : length (take c.count c.steps) ≡ c.count
-  steps-long = length-take-le c.count c.steps (let h = is_cut.count x.fits in let l = x.long in omega arith)
+  pub steps-long : length (take c.count c.steps) ≡ c.count
+  steps-long = length-take-le c.count c.steps (let h = is_cut.count in let l = x.long in omega arith)
 
   pieces-long : length (pieces_of c) ≡ c.count
   pieces-long = length-map (take c.count c.steps) (piece_of (basic_set_of c.working)) ∙ steps-long
@@ -156,10 +156,10 @@ module _ {left : ℕ} {p : Stored} {b : List ℕ} {pos : ℕ} {v : Stored} {next
     pub pieced-step : Piece c.working (get_or c.steps i 0)
     pieced-step =
         record {
-          sound = record { n = x.level.n; valid = is_cut.valid x.fits x.level.n x.level.valid valid.0; divs = is_cut.divs x.fits; cons = is_cut.cons x.fits };
+          sound = record { n = x.level.n; valid = is_cut.valid x.level.n x.level.valid valid.0; divs = is_cut.divs; cons = is_cut.cons };
           step =
               subst (Step (basic_set_of c.working).constraints) (get_or-take c.count c.steps i 0 h)
-              (All-at (Step (basic_set_of c.working).constraints) (take c.count c.steps) i 0 (subst (λ (m : ℕ). i < m) (sym steps-long) h) (is_cut.steps x.fits));
+              (All-at (Step (basic_set_of c.working).constraints) (take c.count c.steps) i 0 (subst (λ (m : ℕ). i < m) (sym steps-long) h) (is_cut.steps));
         }
 
     module _ {q : Stored} (is : PieceIs c.working (get_or c.steps i 0) q) where
@@ -178,20 +178,20 @@ module _ {left : ℕ} {p : Stored} {b : List ℕ} {pos : ℕ} {v : Stored} {next
       pub pieced-level : Level (left - 1) q b next
       pieced-level =
           let n = x.level.n in
-          let f = to-T (cut_fits keeps (basic_set_of p) (basic_set_of v)) (sym is_cut.fits ∙ x.fits) in
-          let every = subst (All (Valid n)) (sym (is_cut.pieces x.fits)) (cut-valid keeps n (basic_set_of p) (basic_set_of v) x.level.valid valid.0 f) in
+          let f = to-T (cut_fits keeps (basic_set_of p) (basic_set_of v)) (sym is_cut.fits) in
+          let every = subst (All (Valid n)) (sym (is_cut.pieces)) (cut-valid keeps n (basic_set_of p) (basic_set_of v) x.level.valid valid.0 f) in
           record {
             n = n;
             here = subst (Boundary n b) (sym x.ends) here-turn.there;
             cutters = valid.1;
             many = let e = ap length set in let m = x.level.many in omega arith;
             valid = subst (Valid n) piece-at (All-at (Valid n) (pieces_of c) i (piece_of (basic_set_of c.working) 0) inside every);
-            divs = let e = is.divs in let l = is_cut.divs x.fits in omega arith;
+            divs = let e = is.divs in let l = is_cut.divs in omega arith;
             cons = is.cons;
           }
 
       -- and its piece is tight
       pub pieced-tight : any divisible (basic_set_of q).constraints ≡ false
       pieced-tight =
-          let every = subst (All Tight) (sym (x.tight.pieces x.fits)) (pieces-tight keeps x.level.n (basic_set_of p) (basic_set_of v) (x.cuts x.some)) in
+          let every = subst (All Tight) (sym (x.tight.pieces)) (pieces-tight keeps x.level.n (basic_set_of p) (basic_set_of v) (x.cuts x.some)) in
           subst Tight piece-at (All-at Tight (pieces_of c) i (piece_of (basic_set_of c.working) 0) inside every)

@@ -36,28 +36,17 @@ pub fn cut_all(
     }
     let v = decode_basic(b, pos + 1);
     let end = codec::end_of(b, pos + 1);
-    let c = cut(p, v, rows, place, kinds, past, spare);
-    let fits = c.fits;
-    if !fits {
-        return Done {
-            at: s.at,
-            count: s.count,
-            fits: false,
-        };
-    }
-    let w = c.working;
-    let n = c.count;
+    let c = match cut(p, v, rows, place, kinds, past, spare) {
+        Some(c) => c,
+        None => return Done { fits: false, ..s },
+    };
     let mut t = s;
-    let mut i = 0;
-    while i < n {
-        let v = c.steps[i];
-        let q = piece(w, v);
+    for i in 0..c.count {
+        let q = piece(c.working, c.steps[i]);
         t = cut_all(left - 1, q, b, end, out, t, rows, place, kinds, past, spare);
-        let on = t.fits;
-        if !on {
+        if !t.fits {
             return t;
         }
-        i += 1;
     }
     t
 }
@@ -78,17 +67,10 @@ fn cut_divided(
     requires { Level left p b.now 0 × Ready s × Tables rows.old place.old kinds.old × Spares past.old spare.old × (left ≡ 0 → ⊥) }
     ensures { Emits (cut_all keeps (set_from b.now 0) (basic_set_of p)) (cut_all_fits keeps (set_from b.now 0) (basic_set_of p)) out.old s result out.new }
 {
-    let t = tight_set(p);
-    let none = t.void;
-    if none {
-        return Done {
-            at: s.at,
-            count: s.count,
-            fits: true,
-        };
+    match tight_set(p) {
+        Some(q) => cut_all(left, q, b, 0, out, s, rows, place, kinds, past, spare),
+        None => s,
     }
-    let q = t.set;
-    cut_all(left, q, b, 0, out, s, rows, place, kinds, past, spare)
 }
 
 // A basic set of the first set, cut by all of b; with no cutter it stays as it is. Most are tight already.

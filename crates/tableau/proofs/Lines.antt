@@ -1,13 +1,13 @@
 -- Rows as lists of 18 numbers: loops over them, the common divisor, what a combination and a solved row keep. Assumes nothing.
 use mathlib.Core.Path.{◌≡◌, refl, sym, ap, ap₂, ◌∙◌, subst}
-use mathlib.Core.List.{List, [], ◌∷◌, map}
+use mathlib.Core.List.{List, [], ◌∷◌, ◌++◌, map}
 use mathlib.Core.Bool.{Bool, true, false, not, cond}
-use Prim.Native.Nat.{ℕ, zero, suc, ◌+◌, ◌-◌, ◌/◌, ◌^◌, ◌≤◌, ◌<◌, zero-le}
+use Prim.Native.Nat.{ℕ, zero, suc, ◌+◌, ◌-◌, ◌/◌, ◌^◌, ◌≤◌, ◌<◌, zero-le, suc-le-suc}
 use native.Mathlib.Nat.{le_of_suc-le-suc, le_refl, le_trans, not-suc-le-zero, mod-one, div-le_self, le-div_iff_mul-le, le_of_dvd, pos_of_dvd_of_pos}
 use native.Mathlib.Omega.{arith}
 use native.Mathlib.Numerals.{add-one}
 use lib.Dec.{T, ltb→lt, lt→ltb}
-use lib.ListN.{length, get_or, set, drop, replicate, length-set, length-map, drop_of_length-le, get_or-map}
+use lib.ListN.{length, get_or, set, take, drop, replicate, length-set, length-map, drop_of_length-le, get_or-map}
 use lib.Seq.{drop-cons, get_or-drop, get_or-set_other, get_or-set_same}
 use lib.IntN.{ℤ, pos, negsuc, neg_ℤ, nat_abs, ◌+ℤ◌, ◌-ℤ◌, ◌*ℤ◌, +ℤ_idl, +ℤ_idr, *ℤ-zero}
 use lib.Signed.{mag, quot_z, lt_z, ◌<ℤ◌}
@@ -78,6 +78,38 @@ zeros-divisor (x ∷ l) g h =
 -- the numbers past the n-th are 0
 pub divisor-end : (n i g : ℕ) (l : List ℤ) → Line n l → n ≤ i → divisor_from g (drop i l) ≡ g
 divisor-end n i g l h k = zeros-divisor (drop i l) g (λ j. get_or-drop i l j (pos 0) ∙ h.blank (i + j) (omega arith))
+
+-- none is left
+pub divisor-past : (g i : ℕ) (l : List ℤ) → length l ≤ i → g ≡ divisor_from g (drop i l)
+unfolding divisor_from
+divisor-past g i l h = sym (ap (divisor_from g) (drop_of_length-le l {i = i} h))
+
+-- the first n numbers alone
+pub divisor-front : (n g : ℕ) (l : List ℤ) → ((k : ℕ) → n ≤ k → get_or l k (pos 0) ≡ pos 0) → divisor_from g (take n l) ≡ divisor_from g l
+unfolding divisor_from
+divisor-front zero g l h = sym (zeros-divisor l g (λ k. h k zero-le))
+divisor-front (suc n) g [] h = refl
+divisor-front (suc n) g (x ∷ l) h = divisor-front n (gcd (nat_abs x) g) l (λ k a. h (suc k) (suc-le-suc a))
+
+pub map-front : (g : ℤ → ℤ) (n : ℕ) (l : List ℤ) → g (pos 0) ≡ pos 0 → ((k : ℕ) → n ≤ k → get_or l k (pos 0) ≡ pos 0) → map g (take n l) ++ drop n l ≡ map g l
+map-front g zero [] e h = refl
+map-front g zero (x ∷ l) e h = ap₂ ◌∷◌ (h 0 zero-le ∙ sym (ap g (h 0 zero-le) ∙ e)) (map-front g zero l e (λ k a. h (suc k) zero-le))
+map-front g (suc n) [] e h = refl
+map-front g (suc n) (x ∷ l) e h = ap (λ t. g x ∷ t) (map-front g n l e (λ k a. h (suc k) (suc-le-suc a)))
+
+-- what a loop over the first n numbers has not come to is as it was
+pub front-next : (f : ℕ → ℤ → ℤ) (n i : ℕ) (l r : List ℤ) → i < length (take n l) → r ≡ up_to f i (take n l) → get_or r i (pos 0) ≡ get_or l i (pos 0)
+front-next f n i l r h e = ap (λ t. get_or t i (pos 0)) e ∙ up_to-next f i (take n l) (pos 0) ∙ taken n i l h
+  where
+    taken : (n i : ℕ) (l : List ℤ) → i < length (take n l) → get_or (take n l) i (pos 0) ≡ get_or l i (pos 0)
+    taken zero i l h = absurd (not-suc-le-zero h)
+    taken (suc n) i [] h = refl
+    taken (suc n) zero (x ∷ l) h = refl
+    taken (suc n) (suc i) (x ∷ l) h = taken n i l (le_of_suc-le-suc h)
+
+-- a loop over the first n numbers that writes g of each, of a function that keeps 0
+pub front-mapped : (g : ℤ → ℤ) (n i : ℕ) (l r : List ℤ) → g (pos 0) ≡ pos 0 → Line n l → length (take n l) ≤ i → r ≡ up_to (each g) i (take n l) → r ++ drop n l ≡ map g l
+front-mapped g n i l r e h k f = ap (λ t. t ++ drop n l) (f ∙ up_to-each g i (take n l) k) ∙ map-front g n l e h.blank
 
 -- ---- a loop that changes a row from the front
 

@@ -1,20 +1,19 @@
 -- The searches and the number test: how they go on, what they tell; and that an exchange keeps the rows' shape. Assumes nothing.
 use mathlib.Core.Path.{◌≡◌, refl, sym, ap, ◌∙◌, subst}
 use mathlib.Core.List.{List, [], ◌∷◌, map}
-use mathlib.Core.Bool.{Bool, true, false, cond}
+use mathlib.Core.Bool.{Bool, true, false, cond, ◌&&◌}
 use Prim.Native.Nat.{ℕ, zero, suc, ◌+◌, ◌-◌, ◌^◌, ◌≤◌, ◌<◌, zero-le, suc-le-suc}
 use native.Mathlib.Nat.{not-suc-le-zero, le_of_suc-le-suc}
 use native.Mathlib.Numerals.{add-one}
 use native.Mathlib.Omega.{arith}
-use borrow.Author.Tests.{ltb-true, ltb-false, le-leb, lt-leb, leb-true, leb-false, ne_eqb}
+use borrow.Author.Tests.{ltb-true, ltb-false, le-leb, lt-leb, leb-true, leb-false}
 use lib.Dec.{leb, ltb, eqb, T}
-use lib.ListN.{length, get_or, set, drop, drop_of_length-le, length-set, length-map}
+use lib.ListN.{length, get_or, set, drop, length-set, length-map}
 use lib.Seq.{drop-cons, get_or-drop}
-use lib.IntN.{ℤ, pos, negsuc, nat_abs, ◌-ℤ◌}
+use lib.IntN.{ℤ, pos, nat_abs, ◌-ℤ◌}
 use lib.Signed.{lt_z, ◌<ℤ◌}
 use lib.Bits.{bit_or, or_lt, or_add_and, and_le_l, and_le_r}
-use mir.Syntax.{w64}
-use mir.Val.{SFits, of_z}
+use Rattle.std.specs.List.{list_all}
 use Rattle.integers.specs.Size.{bound}
 use Rattle.model.specs.Sets.{is_zero}
 use Rattle.tableau.specs.Rows.{entry, den, Small, Line, Whole, combine_rows, replace_row, rebuild_row, solve_row, exchange_rows, DivisorAt, ReadyAt, first, small_at, narrow_rows_at, narrow_row_at, violated_at, violated, helps_by, helps_at, helping}
@@ -39,12 +38,6 @@ first-no p n v h e = rw (first_more n v h) (ap (first p (n - (v + 1))) (add-one 
 pub first-end : (p : ℕ → Bool) (n v : ℕ) → n ≤ v → v ≡ first p (n - v) v
 unfolding first
 first-end p n v h = let e : n - v ≡ 0 = omega arith in sym (ap (λ k. first p k v) e)
-
--- ---- the test for 0 on the bits
-pub bits-test : (x : ℤ) → SFits w64 x → eqb (of_z w64 x) 0 ≡ is_zero x
-bits-test (pos zero) h = refl
-bits-test (pos (suc n)) h = refl
-bits-test (negsuc n) h = let k : n < 9223372036854775808 = h.sfits in ne_eqb (18446744073709551616 - suc n) 0 (λ e. omega arith)
 
 -- ---- the number test of two numbers at once, by their bits
 or_left : (a b : ℕ) → a ≤ bit_or a b
@@ -73,9 +66,14 @@ module _ (m : ℕ) where
   unfolding narrow_rows_at
   narrow_step j t k b h e = rw (add-one, drop-cons t k []) (ap (λ b. cond b (narrow_rows_at m j (drop (suc k) t)) false) e)
 
-  pub narrow-end : (j : ℕ) (t : List (List ℤ)) (k : ℕ) → length t ≤ k → true ≡ narrow_rows_at m j (drop k t)
+  and-cond : (b c : Bool) → (b && c) ≡ cond b c false
+  and-cond true c = refl
+  and-cond false c = refl
+
+  pub narrow-all : (j : ℕ) (t : List (List ℤ)) → list_all (narrow_row_at m j) t ≡ narrow_rows_at m j t
   unfolding narrow_rows_at
-  narrow-end j t k h = sym (ap (narrow_rows_at m j) (drop_of_length-le t {i = k} h))
+  narrow-all j [] = refl
+  narrow-all j (r ∷ t) = and-cond (narrow_row_at m j r) (list_all (narrow_row_at m j) t) ∙ ap (λ b. cond (narrow_row_at m j r) b false) (narrow-all j t)
 
 -- a number more, with those before it as their bits
 pub small-more : (l : List ℤ) (i a : ℕ) → i < length l → cond (leb (bit_or a (nat_abs (get_or l i (pos 0)))) (bound 64)) (small_at (bound 64) (drop (i + 1) l)) false ≡ cond (leb a (bound 64)) (small_at (bound 64) (drop i l)) false

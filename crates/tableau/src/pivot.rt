@@ -9,8 +9,7 @@ fn rebuild(r: &mut [i64; 18], n: usize, j: usize, m: i64, q: &[i64; 18]) -> usiz
     requires divisor { Divisor n m q.now }
     ensures { (r.new ≡ rebuild_row j m q.now r.old) × (result ≡ rebuilt j r.old) }
 {
-    let b = r[j + 2];
-    if b == 0 {
+    if r[j + 2] == 0 {
         return 0;
     }
     crate::row::replace(r, n, j, m, q);
@@ -22,13 +21,11 @@ fn sweep(t: &mut [[i64; 18]], n: usize, i: usize, j: usize, m: i64, q: &[i64; 18
     requires { (j < 16) × (length t.old ≤ 64) × ((k : ℕ) → k < length t.old → (k ≡ i → ⊥) → Fit n (get_or t.old k []) j) × Divisor n m q.now }
     ensures { (t.new ≡ set (map (rebuild_row j m q.now) t.old) i (get_or t.old i [])) × (result ≡ touched j (set t.old i [])) }
 {
-    let mut built: usize = 0;
-    let mut k: usize = 0;
-    while k < t.len() {
+    let mut built = 0;
+    for (k, r) in t.iter_mut().enumerate() {
         if k != i {
-            built += rebuild(&mut t[k], n, j, m, q);
+            built += rebuild(r, n, j, m, q);
         }
-        k += 1;
     }
     built
 }

@@ -12,24 +12,14 @@ fn common_divisor(r: &[i64; 18], n: usize) -> u64
     requires { Line n r.now }
     ensures { result ≡ divisor r.now }
 {
-    let mut g: u64 = 0;
-    let mut at: usize = 0;
-    while at < n {
+    let mut g = 0;
+    for x in &r[..n] {
         if g == 1 {
             return 1;
         }
-        let x = r[at];
-        g = integers::gcd(integers::magnitude(x), g);
-        at += 1;
+        g = integers::gcd(x.unsigned_abs(), g);
     }
     g
-}
-
-fn quotient(x: i64, d: i64) -> i64
-    requires { pos 0 <ℤ d }
-    ensures { result ≡ quot_z x d }
-{
-    x / d
 }
 
 fn divide(r: &mut [i64; 18], n: usize, d: i64)
@@ -37,11 +27,8 @@ fn divide(r: &mut [i64; 18], n: usize, d: i64)
     requires pos_bound { pos 0 <ℤ d }
     ensures { r.new ≡ map (λ x. quot_z x d) r.old }
 {
-    let mut i: usize = 0;
-    while i < n {
-        let x = r[i];
-        r[i] = quotient(x, d);
-        i += 1;
+    for x in &mut r[..n] {
+        *x /= d;
     }
 }
 
@@ -50,9 +37,10 @@ fn divisor_with(g: u64, x: i64) -> u64
     ensures { result ≡ gcd_of (nat_abs x) g }
 {
     if g == 1 {
-        return 1;
+        1
+    } else {
+        integers::gcd(x.unsigned_abs(), g)
     }
-    integers::gcd(integers::magnitude(x), g)
 }
 
 // x · m − b · y, place by place, and the common divisor of these numbers.
@@ -65,15 +53,11 @@ fn combine(r: &mut [i64; 18], n: usize, m: i64, b: i64, q: &[i64; 18]) -> u64
     requires within_2 { Within (bound 64) b }
     ensures { (r.new ≡ combine_rows m b r.old q.now) × (result ≡ divisor r.new) }
 {
-    let mut g: u64 = 0;
-    let mut i: usize = 0;
-    while i < n {
-        let x = r[i];
-        let y = q[i];
-        let z = integers::determinant(x, m, b, y);
+    let mut g = 0;
+    for i in 0..n {
+        let z = integers::determinant(r[i], m, b, q[i]);
         r[i] = z;
         g = divisor_with(g, z);
-        i += 1;
     }
     g
 }
@@ -102,17 +86,14 @@ fn reduce(r: &mut [i64; 18], n: usize)
     reduce_by(r, n, g);
 }
 
-// x + y, place by place. All 18 places, so that the compiler adds them two at a time.
+// x + y, place by place. All 18 places, so that the compiler adds them two at a time; by index, since nothing is known of
+// what was written through a `zip` of `iter_mut`.
 fn plus(r: &mut [i64; 18], q: &[i64; 18])
     requires { Line 18 r.old × Line 18 q.now × Small (bound 64) r.old × Small (bound 64) q.now }
     ensures { r.new ≡ combine_rows (pos 1) (negsuc 0) r.old q.now }
 {
-    let mut i: usize = 0;
-    while i < 18 {
-        let x = r[i];
-        let y = q[i];
-        r[i] = x + y;
-        i += 1;
+    for i in 0..18 {
+        r[i] += q[i];
     }
 }
 
@@ -121,12 +102,8 @@ fn minus(r: &mut [i64; 18], q: &[i64; 18])
     requires { Line 18 r.old × Line 18 q.now × Small (bound 64) r.old × Small (bound 64) q.now }
     ensures { r.new ≡ combine_rows (pos 1) (pos 1) r.old q.now }
 {
-    let mut i: usize = 0;
-    while i < 18 {
-        let x = r[i];
-        let y = q[i];
-        r[i] = x - y;
-        i += 1;
+    for i in 0..18 {
+        r[i] -= q[i];
     }
 }
 
@@ -135,24 +112,13 @@ fn add(r: &mut [i64; 18], n: usize, b: i64, q: &[i64; 18])
     requires { Line n r.old × Line n q.now × Small (bound 64) r.old × Small (bound 64) q.now × Within (bound 64) b }
     ensures { r.new ≡ combine_rows (pos 1) (pos 0 -ℤ b) r.old q.now }
 {
-    if b == 1 {
-        plus(r, q);
-        return;
+    match b {
+        1 => plus(r, q),
+        -1 => minus(r, q),
+        _ => {
+            combine(r, n, 1, -b, q);
+        },
     }
-    if b == -1 {
-        minus(r, q);
-        return;
-    }
-    combine(r, n, 1, 0 - b, q);
-}
-
-fn both_one(m: i64, d: i64) -> bool
-    ensures { result ≡ true → (m ≡ pos 1) × (d ≡ pos 1) }
-{
-    if m != 1 {
-        return false;
-    }
-    d == 1
 }
 
 // The row with the variable of column j replaced by a row, given as its denominator m and its other numbers q.
@@ -169,14 +135,13 @@ pub fn replace(r: &mut [i64; 18], n: usize, j: usize, m: i64, q: &[i64; 18])
     ensures { r.new ≡ replace_row r.old j m q.now }
 {
     let b = r[j + 2];
-    let d = r[0];
     r[j + 2] = 0;
-    if both_one(m, d) {
+    if m == 1 && r[0] == 1 {
         add(r, n, b, q);
-        return;
+    } else {
+        let g = combine(r, n, m, -b, q);
+        reduce_by(r, n, g);
     }
-    let g = combine(r, n, m, 0 - b, q);
-    reduce_by(r, n, g);
 }
 
 // Each number with the other sign.
@@ -185,11 +150,8 @@ fn negate(r: &mut [i64; 18], n: usize)
     requires small { Small (bound 64) r.old }
     ensures { r.new ≡ minus_row r.old }
 {
-    let mut i: usize = 0;
-    while i < n {
-        let x = r[i];
-        r[i] = 0 - x;
-        i += 1;
+    for x in &mut r[..n] {
+        *x = -*x;
     }
 }
 
@@ -203,8 +165,8 @@ fn turn(r: &mut [i64; 18], n: usize, j: usize)
     let a = r[j + 2];
     let d = r[0];
     if a < 0 {
-        r[0] = 0 - a;
-        r[j + 2] = 0 - d;
+        r[0] = -a;
+        r[j + 2] = -d;
     } else {
         negate(r, n);
         r[0] = a;

@@ -7,28 +7,22 @@ use integers::bound;
 pub fn is_violated(kind: u8, x: i64) -> bool
     ensures { result ≡ violated_by kind x }
 {
-    if kind == 1 {
-        return x < 0;
+    match kind {
+        1 => x < 0,
+        2 => x != 0,
+        _ => false,
     }
-    if kind == 2 {
-        return x != 0;
-    }
-    false
 }
 
 fn is_helping(kind: u8, c: i64, e: i64) -> bool
     ensures { result ≡ helps_by kind c e }
 {
-    if kind == 0 {
-        return e != 0;
+    match kind {
+        0 => e != 0,
+        1 if c < 0 => 0 < e,
+        1 => e < 0,
+        _ => false,
     }
-    if kind == 1 {
-        if c < 0 {
-            return 0 < e;
-        }
-        return e < 0;
-    }
-    false
 }
 
 // The bound of the definition `bound 64`, for magnitudes.
@@ -39,12 +33,9 @@ pub fn small(r: &[i64; 18], n: usize) -> bool
     requires { Line n r.now }
     ensures { result ≡ small_of r.now }
 {
-    let mut bits: u64 = 0;
-    let mut i: usize = 0;
-    while i < 18 {
-        let x = r[i];
-        bits = bits | integers::magnitude(x);
-        i += 1;
+    let mut bits = 0;
+    for x in r {
+        bits |= x.unsigned_abs();
     }
     bits <= MOST
 }
@@ -54,11 +45,7 @@ fn row_narrow(r: &[i64; 18], n: usize, j: usize) -> bool
     requires line { Line n r.now }
     ensures { result ≡ narrow_row j r.now }
 {
-    let e = r[j + 2];
-    if e == 0 {
-        return true;
-    }
-    small(r, n)
+    r[j + 2] == 0 || small(r, n)
 }
 
 pub fn narrow(t: &[[i64; 18]], n: usize, j: usize) -> bool
@@ -66,14 +53,7 @@ pub fn narrow(t: &[[i64; 18]], n: usize, j: usize) -> bool
     requires by_index { (k : ℕ) → k < length t.now → Line n (get_or t.now k []) }
     ensures { result ≡ narrow_rows j t.now }
 {
-    let mut k: usize = 0;
-    while k < t.len() {
-        if !row_narrow(&t[k], n, j) {
-            return false;
-        }
-        k += 1;
-    }
-    true
+    t.iter().all(|r| row_narrow(r, n, j))
 }
 
 fn row_violated(t: &[[i64; 18]], place: &[usize], kinds: &[u8], v: usize) -> bool
@@ -83,11 +63,7 @@ fn row_violated(t: &[[i64; 18]], place: &[usize], kinds: &[u8], v: usize) -> boo
     ensures { result ≡ violated_at t.now place.now kinds.now v }
 {
     let i = place[v];
-    if i < 64 {
-        let x = t[i][1];
-        return is_violated(kinds[v], x);
-    }
-    false
+    i < 64 && is_violated(kinds[v], t[i][1])
 }
 
 // The variable of the lowest-numbered violated row; the number of variables where there is none.
@@ -96,14 +72,12 @@ pub fn violated(t: &[[i64; 18]], place: &[usize], kinds: &[u8]) -> usize
     requires by_index { (v : ℕ) → v < length place.now → get_or place.now v 0 < 64 → get_or place.now v 0 < length t.now }
     ensures { result ≡ violated_of t.now place.now kinds.now }
 {
-    let mut v: usize = 0;
-    while v < place.len() {
+    for v in 0..place.len() {
         if row_violated(t, place, kinds, v) {
             return v;
         }
-        v += 1;
     }
-    v
+    place.len()
 }
 
 fn column_helps(r: &[i64; 18], place: &[usize], kinds: &[u8], v: usize) -> bool
@@ -113,12 +87,7 @@ fn column_helps(r: &[i64; 18], place: &[usize], kinds: &[u8], v: usize) -> bool
     ensures { result ≡ helps_at r.now place.now kinds.now v }
 {
     let i = place[v];
-    if i < 64 {
-        return false;
-    }
-    let c = r[1];
-    let e = r[i - 64 + 2];
-    is_helping(kinds[v], c, e)
+    i >= 64 && is_helping(kinds[v], r[1], r[i - 64 + 2])
 }
 
 // The variable of the lowest-numbered column that helps the row; the number of variables where there is none.
@@ -127,12 +96,10 @@ pub fn helping(r: &[i64; 18], place: &[usize], kinds: &[u8]) -> usize
     requires by_index { (v : ℕ) → v < length place.now → get_or place.now v 0 < 80 }
     ensures { result ≡ helping_of r.now place.now kinds.now }
 {
-    let mut v: usize = 0;
-    while v < place.len() {
+    for v in 0..place.len() {
         if column_helps(r, place, kinds, v) {
             return v;
         }
-        v += 1;
     }
-    v
+    place.len()
 }

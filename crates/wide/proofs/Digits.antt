@@ -2,12 +2,9 @@
 use mathlib.Core.Path.{◌≡◌, sym, ap, ap₂, ◌∙◌}
 use Prim.Native.Nat.{ℕ, ◌+◌, ◌-◌, ◌*◌, ◌/◌, ◌%◌, ◌≤◌, ◌<◌}
 use native.Mathlib.Omega.{arith}
-use mathlib.Core.Logic.{◌⊎◌, inl, inr, ⊎_elim}
-use borrow.Author.Tests.{lt-ltb, le-ltb}
-use lib.Dec.{ltb}
+use mathlib.Core.Logic.{◌⊎◌, inl, inr}
 use lib.Arith.{digits_div, digits_mod}
-use native.Mathlib.Nat.{eq-zero-or-pos, pos_of_ne-zero, mul-le-mul_left, div-add-mod', mod-lt, mul-le-mul, mul-le-mul_right, lt_of_mul-lt-mul_right, div-lt_iff_lt-mul}
-use Rattle.integers.specs.Part.{lt-or-le}
+use native.Mathlib.Nat.{eq-zero-or-pos, pos_of_ne-zero, mul-le-mul_left, div-add-mod', mod-lt, mul-le-mul, mul-le-mul_right, div-lt_iff_lt-mul}
 
 -- ---- the product of two numbers of two digits, by its four partial products
 pub poly : (B a1 a0 b1 b0 q0 r0 q1 r1 q2 r2 : ℕ) → q0 * B + r0 ≡ a0 * b0 → q1 * B + r1 ≡ a1 * b0 + q0 → q2 * B + r2 ≡ a0 * b1 + r1 → (a1 * b1 + q1 + q2) * (B * B) + (r2 * B + r0) ≡ (a1 * B + a0) * (b1 * B + b0)
@@ -54,28 +51,8 @@ module _ (B a b : ℕ) where
     high_fits = room B (a / B) (b / B) (mid / B) (mid2 / B) (high_lt B a h ha) (high_lt B b h hb) (high_lt B mid h mid-fits) (high_lt B mid2 h mid2-fits)
 
 -- ---- numbers hi · B + lo
-pub two-lt : (B hi lo hi' lo' : ℕ) → lo < B → hi < hi' → hi * B + lo < hi' * B + lo'
-two-lt B hi lo hi' lo' h k = let p : (hi + 1) * B ≤ hi' * B = mul-le-mul_right B (omega arith) in omega arith
-
--- a sum's high word, without and with a carry
-pub sum-high : (B hi lo hi' lo' : ℕ) → hi * B + lo + (hi' * B + lo') < B * B → hi + hi' < B
-sum-high B hi lo hi' lo' h = let p : (hi + hi') * B < B * B = omega arith in lt_of_mul-lt-mul_right B p
-
-pub sum-carry : (M lo lo' hi hi' : ℕ) → hi * (M + 1) + lo + (hi' * (M + 1) + lo') < (M + 1) * (M + 1) → M - lo' < lo → hi + hi' + 1 < M + 1
-sum-carry M lo lo' hi hi' h k = let p : (hi + hi' + 1) * (M + 1) < (M + 1) * (M + 1) = omega arith in lt_of_mul-lt-mul_right (M + 1) p
-
 pub sum_is : (B hi lo hi' lo' : ℕ) → (hi + hi') * B + (lo + lo') ≡ hi * B + lo + (hi' * B + lo')
 sum_is B hi lo hi' lo' = omega arith
-
-pub sum-carried : (M hi lo hi' lo' : ℕ) → lo' ≤ M → M - lo' < lo → (hi + hi' + 1) * (M + 1) + (lo - (M - lo') - 1) ≡ hi * (M + 1) + lo + (hi' * (M + 1) + lo')
-sum-carried M hi lo hi' lo' h k = omega arith
-
--- a difference's high word, without and with a borrow
-pub diff-high : (B hi lo hi' lo' : ℕ) → lo < B → hi' * B + lo' ≤ hi * B + lo → hi' ≤ hi
-diff-high B hi lo hi' lo' h k = let p : hi' * B < (hi + 1) * B = omega arith in let q = lt_of_mul-lt-mul_right B p in omega arith
-
-pub diff-borrow : (B hi lo hi' lo' : ℕ) → lo < lo' → hi' * B + lo' ≤ hi * B + lo → hi' < hi
-diff-borrow B hi lo hi' lo' h k = let p : hi' * B < hi * B = omega arith in lt_of_mul-lt-mul_right B p
 
 pub diff_is : (B hi lo hi' lo' : ℕ) → lo' ≤ lo → hi' ≤ hi → (hi - hi') * B + (lo - lo') ≡ (hi * B + lo) - (hi' * B + lo')
 diff_is B hi lo hi' lo' h k = go (hi - hi') (omega arith)
@@ -89,24 +66,8 @@ diff-borrowed M hi lo hi' lo' h k l = go (hi - hi' - 1) (omega arith)
     go : (d : ℕ) → hi ≡ hi' + d + 1 → d * (M + 1) + (M - (lo' - lo) + 1) ≡ (hi * (M + 1) + lo) - (hi' * (M + 1) + lo')
     go d e = let f = ap (λ (x : ℕ). x * (M + 1)) e in omega arith
 
-pub two-same : (B hi lo hi' lo' : ℕ) → hi' ≤ hi → hi ≤ hi' → lo' ≤ lo → hi' * B + lo' ≤ hi * B + lo
-two-same B hi lo hi' lo' h k l = let p : hi' * B ≤ hi * B = mul-le-mul_right B h in omega arith
-
-pub one-off : (a b : ℕ) → b < a → 1 ≤ a - b
-one-off a b h = omega arith
-
-pub word-left : (M a b : ℕ) → b ≤ M → b - a ≤ M
-word-left M a b h = omega arith
-
 pub back_in : (M a b : ℕ) → a < b → b ≤ M → M - (b - a) + 1 < M + 1
 back_in M a b h k = omega arith
-
-pub two-ltb : (B hi lo hi' lo' : ℕ) → hi ≤ hi' → hi' ≤ hi → ltb lo lo' ≡ ltb (hi * B + lo) (hi' * B + lo')
-two-ltb B hi lo hi' lo' h k =
-    ⊎_elim
-    (λ l. lt-ltb lo lo' l ∙ sym (lt-ltb (hi * B + lo) (hi' * B + lo') (let p = mul-le-mul_right B h in omega arith)))
-    (λ l. le-ltb lo lo' l ∙ sym (le-ltb (hi * B + lo) (hi' * B + lo') (two-same B hi lo hi' lo' k h l)))
-    (lt-or-le lo lo')
 
 -- ---- zero
 pub zero_high : (B h l : ℕ) → 0 < B → (h ≡ 0 → ⊥) → h * B + l ≡ 0 → ⊥
@@ -126,13 +87,6 @@ quotient_is x d q r e h = sym (digits_div q h) ∙ ap (λ (n : ℕ). n / d) e
 pub remainder_is : (x d q r : ℕ) → q * d + r ≡ x → r < d → r ≡ x % d
 remainder_is x d q r e h = sym (digits_mod q h) ∙ ap (λ (n : ℕ). n % d) e
 
--- one word by one word
-pub word-divisor : (B h l : ℕ) → h ≡ 0 → 0 < h * B + l → 0 < l
-word-divisor B h l e k = let f = one_word B h l e in omega arith
-
-pub gcd-turn : (x y z : ℕ) → z ≡ x % y → 0 < y → z < y
-gcd-turn x y z e h = let p = mod-lt x h in omega arith
-
 pub high_zero : (B h l : ℕ) → h * B + l < B → h ≡ 0
 high_zero B h l k = go (eq-zero-or-pos h)
   where
@@ -147,34 +101,15 @@ large M B h l k ne = let q : 1 * B ≤ h * B = mul-le-mul_right B (pos_of_ne-zer
 pub low_word : (B h l : ℕ) → h * B + l < B → l ≡ h * B + l
 low_word B h l k = sym (one_word B h l (high_zero B h l k))
 
-pub high-pos : (B h l : ℕ) → 0 < B → 0 < h → 0 < h * B + l
-high-pos B h l p k = let q : 1 * B ≤ h * B = mul-le-mul_right B k in omega arith
-
-pub none-high : (h : ℕ) → h ≤ 0 → h ≡ 0
-none-high h k = omega arith
-
-pub more-not : (n : ℕ) → 1 < n → n ≡ 1 → ⊥
-more-not n h e = omega arith
-
 -- ---- division by parts: q and r so far, k times d taken off
 pub part_off : (x d q r k m : ℕ) → q * d + r ≡ x → m ≡ k * d → m ≤ r → (q + k) * d + (r - m) ≡ x
 part_off x d q r k m e f h = omega arith
 
-pub part-less : (d r k m : ℕ) → m ≡ k * d → 0 < k → 0 < d → m ≤ r → r - m < r
-part-less d r k m f h g l = let p : 1 * 1 ≤ k * d = mul-le-mul h g in omega arith
-
 pub part-fits : (x d q r k m N : ℕ) → q * d + r ≡ x → m ≡ k * d → m ≤ r → 0 < d → x < N → q + k < N
 part-fits x d q r k m N e f h g l = let p : (q + k) * 1 ≤ (q + k) * d = mul-le-mul_left (q + k) g in omega arith
 
--- g times a number of two words
-pub times-two : (B g h l p q ph pl qh ql : ℕ) → ph * B + pl ≡ g * l → qh * B + ql ≡ g * h → qh ≡ 0 → (ph + ql) * B + pl ≡ g * (h * B + l)
-times-two B g h l p q ph pl qh ql e f z = let k : qh * B ≡ 0 * B = ap (λ (n : ℕ). n * B) z in let m = ap (λ (n : ℕ). n * B) f in let o : ql ≡ g * h = omega arith in let u = ap (λ (n : ℕ). n * B) o in omega arith
-
 pub once : (d : ℕ) → d ≡ 1 * d
 once d = omega arith
-
-pub word-add : (M a b : ℕ) → a ≤ M → b ≤ M - a → a + b < M + 1
-word-add M a b h k = omega arith
 
 pub two-room : (B h l : ℕ) → h < B → l < B → h * B + l < B * B
 two-room B h l k m = let p : (h + 1) * B ≤ B * B = mul-le-mul_right B (omega arith) in omega arith

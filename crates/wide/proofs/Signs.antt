@@ -1,6 +1,6 @@
 -- Laws of a sign and a size, `signed neg n`: they name no word. Assumes nothing.
 use mathlib.Core.Path.{◌≡◌, refl, sym, ap, ◌∙◌}
-use mathlib.Core.Bool.{Bool, true, false, not}
+use mathlib.Core.Bool.{Bool, true, false, not, beq}
 use mathlib.Core.List.{[], ◌∷◌}
 use Prim.Native.Nat.{ℕ, zero, suc, ◌+◌, ◌-◌, ◌*◌, ◌/◌, ◌≤◌, ◌<◌, zero-le}
 use native.Mathlib.Omega.{arith}
@@ -17,15 +17,18 @@ nat_abs-signed false n = refl
 nat_abs-signed true zero = refl
 nat_abs-signed true (suc n) = refl
 
-pub signed-neg : (s : Bool) (n : ℕ) → signed (not s) n ≡ neg_ℤ (signed s n)
-signed-neg false n = refl
-signed-neg true n = ring (pos n ∷ []) {a = pos n} {b = neg_ℤ (neg_ℤ (pos n))} (search quote depth 30) tt
-
 pub signed_mul : (s t : Bool) (m n : ℕ) → signed (xor s t) (m * n) ≡ signed s m *ℤ signed t n
 signed_mul false false m n = refl
 signed_mul false true m n = ring (pos m ∷ pos n ∷ []) {a = neg_ℤ (pos m *ℤ pos n)} {b = pos m *ℤ neg_ℤ (pos n)} (search quote depth 30) tt
 signed_mul true false m n = ring (pos m ∷ pos n ∷ []) {a = neg_ℤ (pos m *ℤ pos n)} {b = neg_ℤ (pos m) *ℤ pos n} (search quote depth 30) tt
 signed_mul true true m n = ring (pos m ∷ pos n ∷ []) {a = pos m *ℤ pos n} {b = neg_ℤ (pos m) *ℤ neg_ℤ (pos n)} (search quote depth 30) tt
+
+-- signs that differ
+pub xor-differs : (s t : Bool) → not (beq s t) ≡ xor s t
+xor-differs false false = refl
+xor-differs false true = refl
+xor-differs true false = refl
+xor-differs true true = refl
 
 -- the same sign
 pub signed_add : (s : Bool) (m n : ℕ) → signed s (m + n) ≡ signed s m +ℤ signed s n
@@ -59,18 +62,6 @@ signed_lt false (suc n) h = le-ltb (suc n) 0 (omega arith)
 signed_lt true (suc n) h = refl
 
 -- ---- a sum by the signs
-pub apart-left : (s t : Bool) (m n k : ℕ) → xor s t ≡ true → n ≤ m → k ≡ m - n → signed s k ≡ signed s m +ℤ signed t n
-apart-left false false m n k e h f = clash e refl
-apart-left false true m n k e h f = ap (signed false) f ∙ signed-take false m n h
-apart-left true false m n k e h f = ap (signed true) f ∙ signed-take true m n h
-apart-left true true m n k e h f = clash e refl
-
-pub apart-right : (s t : Bool) (m n k : ℕ) → xor s t ≡ true → m ≤ n → k ≡ n - m → signed t k ≡ signed s m +ℤ signed t n
-apart-right false false m n k e h f = clash e refl
-apart-right false true m n k e h f = ap (signed true) f ∙ signed-take true n m h ∙ add_comm (signed true n) (signed false m)
-apart-right true false m n k e h f = ap (signed false) f ∙ signed-take false n m h ∙ add_comm (signed false n) (signed true m)
-apart-right true true m n k e h f = clash e refl
-
 pub alike : (s t : Bool) (m n k : ℕ) → xor s t ≡ false → k ≡ m + n → signed s k ≡ signed s m +ℤ signed t n
 alike false false m n k e f = ap (signed false) f ∙ signed_add false m n
 alike false true m n k e f = clash refl e

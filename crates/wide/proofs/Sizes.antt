@@ -4,9 +4,9 @@ use mathlib.Core.Bool.{Bool, true, false, cond}
 use mathlib.Core.Logic.{⊎_elim}
 use Prim.Native.Nat.{ℕ, zero, suc, ◌+◌, ◌-◌, ◌*◌, ◌/◌, ◌%◌, ◌^◌, ◌≤◌, ◌<◌, zero-le}
 use native.Mathlib.Omega.{arith}
-use native.Mathlib.Nat.{eq-zero-or-pos, zero-div, le_trans, le_of_eq, mod-eq-sub-mod, mod-eq_of_lt, lt_of_mul-lt-mul_right, div-lt_iff_lt-mul, div-add-mod', two-pow-succ}
+use native.Mathlib.Nat.{eq-zero-or-pos, zero-div, le_trans, le_of_eq, mod-eq-sub-mod, mod-eq_of_lt, div-lt_iff_lt-mul, div-add-mod', two-pow-succ}
 use lib.IntN.{ℤ, pos, negsuc, neg_ℤ, nat_abs, ◌-ℤ◌, ◌*ℤ◌}
-use lib.Arith.{digits_lt, digits_div, digits_mod}
+use lib.Arith.{digits_div, digits_mod}
 use lib.Pow.{pow_pos}
 use lib.Dec.{leb}
 use lib.Signed.{lt_z}
@@ -50,12 +50,6 @@ module _ (H B lo : ℕ) where
 
   pub cell-high : (hi k : ℕ) → k < H → k ≡ hi - H → H ≤ hi → signed true (k * B + lo) ≡ cell_at hi
   cell-high hi k h e l = ap₂ (λ (s : Bool) (n : ℕ). signed s (n * B + lo)) (sym (le-leb H hi l)) (sym (mod-eq-sub-mod l ∙ ap (λ (n : ℕ). n % H) (sym e) ∙ mod-eq_of_lt h))
-
-  pub cell-fits : (hi : ℕ) → lo < B → hi < H → hi * B + lo < H * B
-  cell-fits hi h k = digits_lt k h
-
-  pub high-below : (hi : ℕ) → hi * B + lo < H * B → hi < H
-  high-below hi h = let p : hi * B < H * B = omega arith in lt_of_mul-lt-mul_right B p
 
 -- a number's own two words
 module _ (H B : ℕ) (b : 0 < B) where

@@ -17,25 +17,15 @@ pub struct Split {
 fn bits(x: u64) -> u32
     ensures { result ≤ 64 }
 {
-    let z = u64::leading_zeros(x);
-    if z < 64 {
-        return 64 - z;
-    }
-    0
+    u64::BITS - x.leading_zeros()
 }
 
 fn left(x: u64, s: u32) -> u64 {
-    if s < 64 {
-        return x << s;
-    }
-    0
+    x.checked_shl(s).unwrap_or(0)
 }
 
 fn right(x: u64, s: u32) -> u64 {
-    if s < 64 {
-        return x >> s;
-    }
-    0
+    x.checked_shr(s).unwrap_or(0)
 }
 
 // The upper 64 bits of a number of 64 + a bits.
@@ -46,25 +36,23 @@ fn top(h: u64, l: u64, a: u32) -> u64
 }
 
 // About r / d and not above it, from the upper 64 bits of r and the upper 32 bits of d.
-fn guess(rh: u64, rl: u64, dh: u64, dl: u64) -> u64 {
-    if rh == 0 {
-        if dl != 0 {
-            return rl / dl;
-        }
-        return 0;
+fn guess(r: Magnitude, d: Magnitude) -> u64 {
+    if r.hi == 0 {
+        return r.lo.checked_div(d.lo).unwrap_or(0);
     }
-    let a = bits(rh);
-    let e = bits(dh);
-    let t = top(dh, dl, e);
+    let a = bits(r.hi);
+    let e = bits(d.hi);
+    let t = top(d.hi, d.lo, e);
     let k = bits(t);
     let up = a + (64 - k);
     let down = e + 32;
     let m = left(t, 64 - k) / 4294967296 + 1;
-    let g = top(rh, rl, a) / m;
+    let g = top(r.hi, r.lo, a) / m;
     if down <= up {
-        return left(g, up - down);
+        left(g, up - down)
+    } else {
+        right(g, down - up)
     }
-    right(g, down - up)
 }
 
 // ---- division: guessed parts are taken off while they can be
@@ -80,28 +68,18 @@ pub struct Part {
 fn multiple(g: u64, d: Magnitude) -> Part
     ensures { (size result.part ≡ result.by * size d) × (0 < result.by) }
 {
-    let dh = d.hi;
-    let dl = d.lo;
-    let p = product(g, dl);
-    let q = product(g, dh);
-    let ph = p.hi;
-    let pl = p.lo;
-    let qh = q.hi;
-    let ql = q.lo;
-    if g == 0 {
+    let p = product(g, d.lo);
+    let q = product(g, d.hi);
+    if g == 0 || q.hi != 0 || u64::MAX - p.hi < q.lo {
         return Part { by: 1, part: d };
     }
-    if qh != 0 {
-        return Part { by: 1, part: d };
+    Part {
+        by: g,
+        part: Magnitude {
+            hi: p.hi + q.lo,
+            lo: p.lo,
+        },
     }
-    if 18446744073709551615 - ph < ql {
-        return Part { by: 1, part: d };
-    }
-    let m = Magnitude {
-        hi: ph + ql,
-        lo: pl,
-    };
-    Part { by: g, part: m }
 }
 
 // A multiple of d that r holds.
@@ -109,36 +87,26 @@ fn taken(r: Magnitude, d: Magnitude) -> Part
     requires { size d ≤ size r }
     ensures { Taken r d result }
 {
-    let rh = r.hi;
-    let rl = r.lo;
-    let dh = d.hi;
-    let dl = d.lo;
-    let g = guess(rh, rl, dh, dl);
-    let p = multiple(g, d);
-    let m = p.part;
-    if less(r, m) {
-        return Part { by: 1, part: d };
+    let p = multiple(guess(r, d), d);
+    if less(r, p.part) {
+        Part { by: 1, part: d }
+    } else {
+        p
     }
-    p
 }
 
 fn long_divide(x: Magnitude, d: Magnitude) -> Split
     requires { 0 < size d }
     ensures { Divided x d result }
 {
-    let dh = d.hi;
-    let dl = d.lo;
-    let mut q = Magnitude { hi: 0, lo: 0 };
-    let mut r = x;
-    while !less(r, d) {
-        let p = taken(r, d);
-        let k = p.by;
-        let m = p.part;
-        let one = Magnitude { hi: 0, lo: k };
-        q = sum(q, one);
-        r = difference(r, m);
+    let mut quo = Magnitude { hi: 0, lo: 0 };
+    let mut rem = x;
+    while !less(rem, d) {
+        let p = taken(rem, d);
+        quo = sum(quo, Magnitude { hi: 0, lo: p.by });
+        rem = difference(rem, p.part);
     }
-    Split { quo: q, rem: r }
+    Split { quo, rem }
 }
 
 // x divided by d of one word: the high word first.
@@ -146,16 +114,19 @@ fn word_divide(x: Magnitude, d: u64) -> Split
     requires { 0 < d }
     ensures { (size result.quo ≡ size x / d) × (size result.rem ≡ size x % d) }
 {
-    let xh = x.hi;
-    let xl = x.lo;
-    let t = Magnitude { hi: xh % d, lo: xl };
-    let w = Magnitude { hi: 0, lo: d };
-    let s = long_divide(t, w);
-    let u = s.quo;
-    let r = s.rem;
-    let h = Magnitude { hi: xh / d, lo: 0 };
-    let q = sum(h, u);
-    Split { quo: q, rem: r }
+    let left = Magnitude {
+        hi: x.hi % d,
+        lo: x.lo,
+    };
+    let s = long_divide(left, Magnitude { hi: 0, lo: d });
+    let high = Magnitude {
+        hi: x.hi / d,
+        lo: 0,
+    };
+    Split {
+        quo: sum(high, s.quo),
+        rem: s.rem,
+    }
 }
 
 // x divided by d.
@@ -163,37 +134,29 @@ pub fn divide(x: Magnitude, d: Magnitude) -> Split
     requires { 0 < size d }
     ensures { Divided x d result }
 {
-    let dh = d.hi;
-    let dl = d.lo;
-    let xh = x.hi;
-    let xl = x.lo;
-    if dh != 0 {
+    if d.hi != 0 {
         return long_divide(x, d);
     }
-    if xh != 0 {
-        return word_divide(x, dl);
+    if x.hi != 0 {
+        return word_divide(x, d.lo);
     }
-    let q = Magnitude { hi: 0, lo: xl / dl };
-    let r = Magnitude { hi: 0, lo: xl % dl };
-    Split { quo: q, rem: r }
-}
-
-// Whether x takes two words.
-fn is_long(x: Magnitude) -> bool
-    ensures { result ≡ ltb 0 x.hi }
-{
-    let h = x.hi;
-    0 < h
+    Split {
+        quo: Magnitude {
+            hi: 0,
+            lo: x.lo / d.lo,
+        },
+        rem: Magnitude {
+            hi: 0,
+            lo: x.lo % d.lo,
+        },
+    }
 }
 
 fn word_rem(x: Magnitude, d: u64) -> u64
     requires { 0 < d }
     ensures { result ≡ size x % d }
 {
-    let w = Magnitude { hi: 0, lo: d };
-    let s = divide(x, w);
-    let r = s.rem;
-    r.lo
+    divide(x, Magnitude { hi: 0, lo: d }).rem.lo
 }
 
 // The greatest common divisor: Euclid's steps on two words until one is enough.
@@ -202,18 +165,16 @@ pub fn gcd(a: Magnitude, b: Magnitude) -> Magnitude
 {
     let mut x = a;
     let mut y = b;
-    while is_long(y) {
+    while y.hi != 0 {
         let s = long_divide(x, y);
         x = y;
         y = s.rem;
     }
-    let l = y.lo;
-    if l == 0 {
+    if y.lo == 0 {
         return x;
     }
-    let k = word_rem(x, l);
     Magnitude {
         hi: 0,
-        lo: integers::gcd(l, k),
+        lo: integers::gcd(y.lo, word_rem(x, y.lo)),
     }
 }

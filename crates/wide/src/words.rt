@@ -1,5 +1,5 @@
 // Sizes: sums, differences, products.
-ghost use Rattle.std.specs.Prelude.{◌≡◌, ◌+◌, ◌-◌, ◌*◌, ◌^◌, ◌<◌, ◌≤◌, ltb, eqb};
+ghost use Rattle.std.specs.Prelude.{◌≡◌, ◌+◌, ◌-◌, ◌*◌, ◌^◌, ◌<◌, ◌≤◌, ltb, leb, eqb};
 ghost use Rattle.wide.specs.Wide.{size};
 
 use crate::Magnitude;
@@ -25,20 +25,16 @@ pub fn sum(a: Magnitude, b: Magnitude) -> Magnitude
     requires { size a + size b < 2 ^ 128 }
     ensures { size result ≡ size a + size b }
 {
-    let ah = a.hi;
-    let al = a.lo;
-    let bh = b.hi;
-    let bl = b.lo;
-    let left = 18446744073709551615 - bl;
-    if al <= left {
+    let left = u64::MAX - b.lo;
+    if a.lo <= left {
         Magnitude {
-            hi: ah + bh,
-            lo: al + bl,
+            hi: a.hi + b.hi,
+            lo: a.lo + b.lo,
         }
     } else {
         Magnitude {
-            hi: ah + bh + 1,
-            lo: al - left - 1,
+            hi: a.hi + b.hi + 1,
+            lo: a.lo - left - 1,
         }
     }
 }
@@ -46,36 +42,22 @@ pub fn sum(a: Magnitude, b: Magnitude) -> Magnitude
 pub fn less(a: Magnitude, b: Magnitude) -> bool
     ensures { result ≡ ltb (size a) (size b) }
 {
-    let ah = a.hi;
-    let al = a.lo;
-    let bh = b.hi;
-    let bl = b.lo;
-    if ah < bh {
-        return true;
-    }
-    if bh < ah {
-        return false;
-    }
-    al < bl
+    a.hi < b.hi || a.hi == b.hi && a.lo < b.lo
 }
 
 pub fn difference(a: Magnitude, b: Magnitude) -> Magnitude
     requires { size b ≤ size a }
     ensures { size result ≡ size a - size b }
 {
-    let ah = a.hi;
-    let al = a.lo;
-    let bh = b.hi;
-    let bl = b.lo;
-    if al < bl {
+    if a.lo < b.lo {
         Magnitude {
-            hi: ah - bh - 1,
-            lo: 18446744073709551615 - (bl - al) + 1,
+            hi: a.hi - b.hi - 1,
+            lo: u64::MAX - (b.lo - a.lo) + 1,
         }
     } else {
         Magnitude {
-            hi: ah - bh,
-            lo: al - bl,
+            hi: a.hi - b.hi,
+            lo: a.lo - b.lo,
         }
     }
 }
@@ -83,21 +65,17 @@ pub fn difference(a: Magnitude, b: Magnitude) -> Magnitude
 pub fn is_zero(x: Magnitude) -> bool
     ensures { result ≡ eqb (size x) 0 }
 {
-    let h = x.hi;
-    let l = x.lo;
-    if h != 0 {
-        return false;
-    }
-    l == 0
+    x.hi == 0 && x.lo == 0
 }
 
 pub fn is_one(x: Magnitude) -> bool
     ensures { result ≡ eqb (size x) 1 }
 {
-    let h = x.hi;
-    let l = x.lo;
-    if h != 0 {
-        return false;
-    }
-    l == 1
+    x.hi == 0 && x.lo == 1
+}
+
+pub fn is_at_most(x: Magnitude, most: u64) -> bool
+    ensures { result ≡ leb (size x) most }
+{
+    x.hi == 0 && x.lo <= most
 }

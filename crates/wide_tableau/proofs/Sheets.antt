@@ -1,12 +1,14 @@
 -- Rows of two-word cells: reading and storing a number, and a table's rows. Assumes nothing.
 use mathlib.Core.Path.{◌≡◌, refl, sym, ap, ap₂, ◌∙◌}
-use mathlib.Core.List.{List, [], ◌∷◌}
+use mathlib.Core.Bool.{Bool, ◌&&◌}
+use mathlib.Core.List.{List, [], ◌∷◌, map}
 use Prim.Native.Nat.{ℕ, zero, suc, ◌+◌, ◌^◌, ◌<◌}
 use native.Mathlib.Omega.{arith}
 use native.Mathlib.Nat.{not-suc-le-zero}
 use lib.Dec.{lit<}
 use lib.ListN.{length, get_or, set, length-set, length-map}
 use lib.IntN.{ℤ, pos, nat_abs}
+use Rattle.std.specs.List.{list_all}
 use Rattle.model.proofs.Lists.{map-set}
 use Rattle.wide.specs.Wide.{cell, high_of, low_of}
 use Rattle.wide.proofs.Sizes.{cell-back}
@@ -86,6 +88,11 @@ rows_at (x ∷ t) (suc k) = rows_at t k
 
 pub rows-length : (t : List (List ℕ)) → length (rows_of t) ≡ length t
 rows-length t = length-map t cells
+
+-- a test of every row, by the rows' numbers
+pub all-through : (f : List ℕ → List ℤ) (p : List ℤ → Bool) (t : List (List ℕ)) → list_all p (map f t) ≡ list_all (λ r. p (f r)) t
+all-through f p [] = refl
+all-through f p (r ∷ t) = ap (λ b. p (f r) && b) (all-through f p t)
 
 sheets-go : (t : List (List ℕ)) (i : ℕ) (r : List ℕ) → ((k : ℕ) → k < length t → Sheet (get_or t k [])) → Sheet r → (k : ℕ) → k < length (set t i r) → Sheet (get_or (set t i r) k [])
 sheets-go [] i r h s k l = h k l

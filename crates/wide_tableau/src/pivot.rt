@@ -12,9 +12,7 @@ pub fn rebuild(r: &mut [u64; 36], n: usize, j: usize, m: Wide, q: &[u64; 36]) ->
     requires { Sheet r.old × Sheet q.now × (j < 16) × FitAt (bound 128) n (cells r.old) j × DivisorAt (bound 128) n (value_of m) (cells q.now) }
     ensures { Becomes r.new (rebuild_row j (value_of m) (cells q.now) (cells r.old)) × (result ≡ rebuilt j (cells r.old)) }
 {
-    let b = crate::row::cell_at(r, j + 2);
-    let s = b.magnitude;
-    if wide::is_zero(s) {
+    if wide::is_zero(crate::row::cell_at(r, j + 2).magnitude) {
         return 0;
     }
     crate::row::replace(r, n, j, m, q);
@@ -26,13 +24,11 @@ fn sweep(t: &mut [[u64; 36]], n: usize, i: usize, j: usize, m: Wide, q: &[u64; 3
     requires { Sheets t.old × Sheet q.now × (j < 16) × (length t.old ≤ 64) × ((k : ℕ) → k < length t.old → (k ≡ i → ⊥) → FitAt (bound 128) n (cells (get_or t.old k [])) j) × DivisorAt (bound 128) n (value_of m) (cells q.now) }
     ensures { Turns t.new (set (map (rebuild_row j (value_of m) (cells q.now)) (rows_of t.old)) i (get_or (rows_of t.old) i [])) × (result ≡ touched j (set (rows_of t.old) i [])) }
 {
-    let mut built: usize = 0;
-    let mut k: usize = 0;
-    while k < t.len() {
+    let mut built = 0;
+    for (k, r) in t.iter_mut().enumerate() {
         if k != i {
-            built += rebuild(&mut t[k], n, j, m, q);
+            built += rebuild(r, n, j, m, q);
         }
-        k += 1;
     }
     built
 }

@@ -15,29 +15,23 @@ pub fn cell_at(r: &[u64; 36], i: usize) -> Wide
     requires { Sheet r.now × (i < 18) }
     ensures { (value_of result ≡ get_or (cells r.now) i (pos 0)) × (size result.magnitude < 2 ^ 127) }
 {
-    let h = r[i + i];
-    let l = r[i + i + 1];
-    wide::unpack(h, l)
+    wide::unpack(r[i + i], r[i + i + 1])
 }
 
 pub fn set_cell(r: &mut [u64; 36], i: usize, x: Wide)
     requires { Sheet r.old × (i < 18) × (size x.magnitude < 2 ^ 127) }
     ensures { Becomes r.new (set (cells r.old) i (value_of x)) }
 {
-    let h = wide::high_of(x);
-    let m = x.magnitude;
-    let l = m.lo;
-    r[i + i] = h;
-    r[i + i + 1] = l;
+    r[i + i] = wide::high_of(x);
+    r[i + i + 1] = x.magnitude.lo;
 }
 
 pub fn zero() -> Wide
     ensures { (value_of result ≡ pos 0) × (size result.magnitude < 2 ^ 127) }
 {
-    let m = Magnitude { hi: 0, lo: 0 };
     Wide {
         neg: false,
-        magnitude: m,
+        magnitude: Magnitude { hi: 0, lo: 0 },
     }
 }
 
@@ -45,11 +39,11 @@ pub fn zero() -> Wide
 fn divisor_with(g: Magnitude, x: Wide) -> Magnitude
     ensures { size result ≡ gcd_of (nat_abs (value_of x)) (size g) }
 {
-    let m = x.magnitude;
     if wide::is_one(g) {
-        return g;
+        g
+    } else {
+        wide::gcd(x.magnitude, g)
     }
-    wide::gcd(m, g)
 }
 
 // The common divisor of a row's numbers.
@@ -58,11 +52,8 @@ fn common_divisor(r: &[u64; 36], n: usize) -> Magnitude
     ensures { size result ≡ divisor (cells r.now) }
 {
     let mut g = Magnitude { hi: 0, lo: 0 };
-    let mut i: usize = 0;
-    while i < n {
-        let x = cell_at(r, i);
-        g = divisor_with(g, x);
-        i += 1;
+    for i in 0..n {
+        g = divisor_with(g, cell_at(r, i));
     }
     g
 }
@@ -71,14 +62,9 @@ pub fn divide(r: &mut [u64; 36], n: usize, d: Magnitude)
     requires { Sheet r.old × Line n (cells r.old) × (0 < size d) }
     ensures { Becomes r.new (map (λ x. quot_z x (pos (size d))) (cells r.old)) }
 {
-    let dh = d.hi;
-    let dl = d.lo;
-    let mut i: usize = 0;
-    while i < n {
-        let x = cell_at(r, i);
-        let z = wide::quotient(x, d);
+    for i in 0..n {
+        let z = wide::quotient(cell_at(r, i), d);
         set_cell(r, i, z);
-        i += 1;
     }
 }
 
@@ -88,14 +74,10 @@ pub fn combine(r: &mut [u64; 36], n: usize, m: Wide, b: Wide, q: &[u64; 36]) -> 
     ensures { Combined r.new (combine_rows (value_of m) (value_of b) (cells r.old) (cells q.now)) (size result) }
 {
     let mut g = Magnitude { hi: 0, lo: 0 };
-    let mut i: usize = 0;
-    while i < n {
-        let x = cell_at(r, i);
-        let y = cell_at(q, i);
-        let z = wide::determinant(x, m, b, y);
+    for i in 0..n {
+        let z = wide::determinant(cell_at(r, i), m, b, cell_at(q, i));
         set_cell(r, i, z);
         g = divisor_with(g, z);
-        i += 1;
     }
     g
 }
@@ -124,10 +106,9 @@ fn long_replace(r: &mut [u64; 36], n: usize, j: usize, m: Wide, q: &[u64; 36])
     requires { Sheet r.old × Sheet q.now × (j < 16) × Line n (cells r.old) × Line n (cells q.now) × Small (bound 128) (cells r.old) × Small (bound 128) (cells q.now) × (get_or (cells q.now) 0 (pos 0) ≡ pos 0) × Bounded m × (pos 0 <ℤ value_of m) × (pos 0 <ℤ den (cells r.old)) }
     ensures { Becomes r.new (replace_row (cells r.old) j (value_of m) (cells q.now)) }
 {
-    let b = cell_at(r, j + 2);
-    let c = wide::negate(b);
+    let b = wide::negate(cell_at(r, j + 2));
     clear(r, j);
-    let g = combine(r, n, m, c, q);
+    let g = combine(r, n, m, b, q);
     reduce_by(r, n, g);
 }
 
@@ -137,29 +118,23 @@ pub fn carry_row(s: &[i64; 18], out: &mut [u64; 36])
     ensures { Becomes out.new s.now }
 {
     *out = [0u64; 36];
-    let mut i: usize = 0;
-    while i < 18 {
-        let x = s[i];
-        let z = wide::widen(x);
-        set_cell(out, i, z);
-        i += 1;
+    for (i, x) in s.iter().enumerate() {
+        set_cell(out, i, wide::widen(*x));
     }
 }
 
-// Whether the number test at 64 bits passes each number of a row; if so s has them.
+// Whether the number test at 64 bits passes each number of a row; if so s has them. Lent, so that no array is copied back.
 fn narrowed(r: &[u64; 36], n: usize, s: &mut [i64; 18]) -> bool
     requires { Sheet r.now × Line n (cells r.now) }
     ensures { result ≡ true → Narrows (cells r.now) s.new }
 {
     *s = [0i64; 18];
-    let mut i: usize = 0;
-    while i < n {
+    for i in 0..n {
         let x = cell_at(r, i);
         if !wide::is_narrow(x) {
             return false;
         }
         s[i] = wide::narrow(x);
-        i += 1;
     }
     true
 }
@@ -176,13 +151,7 @@ fn all_narrow(
     requires { Sheet r.now × Sheet q.now × Line n (cells r.now) × Line n (cells q.now) }
     ensures { result ≡ true → Narrows (cells r.now) s.new × Narrows (cells q.now) p.new × Within (bound 64) (value_of m) }
 {
-    if !wide::is_narrow(m) {
-        return false;
-    }
-    if !narrowed(r, n, s) {
-        return false;
-    }
-    narrowed(q, n, p)
+    wide::is_narrow(m) && narrowed(r, n, s) && narrowed(q, n, p)
 }
 
 // The row with the variable of column j replaced by a row, given as its denominator m and its other numbers q: at 64
@@ -194,12 +163,11 @@ pub fn replace(r: &mut [u64; 36], n: usize, j: usize, m: Wide, q: &[u64; 36])
     let mut s = [0i64; 18];
     let mut p = [0i64; 18];
     if all_narrow(r, q, m, n, &mut s, &mut p) {
-        let d = wide::narrow(m);
-        tableau::replace(&mut s, n, j, d, &p);
+        tableau::replace(&mut s, n, j, wide::narrow(m), &p);
         carry_row(&s, r);
-        return;
+    } else {
+        long_replace(r, n, j, m, q);
     }
-    long_replace(r, n, j, m, q);
 }
 
 // The row without an entry in column j.
@@ -207,8 +175,7 @@ pub fn clear(r: &mut [u64; 36], j: usize)
     requires { Sheet r.old × (j < 16) }
     ensures { Becomes r.new (set (cells r.old) (j + 2) (pos 0)) }
 {
-    let z = zero();
-    set_cell(r, j + 2, z);
+    set_cell(r, j + 2, zero());
 }
 
 // The row without its denominator.
@@ -216,8 +183,7 @@ pub fn wipe(r: &mut [u64; 36])
     requires { Sheet r.old }
     ensures { Becomes r.new (set (cells r.old) 0 (pos 0)) }
 {
-    let z = zero();
-    set_cell(r, 0, z);
+    set_cell(r, 0, zero());
 }
 
 // Each number with the other sign.
@@ -225,12 +191,9 @@ fn negate(r: &mut [u64; 36], n: usize)
     requires { Sheet r.old × Line n (cells r.old) }
     ensures { Becomes r.new (minus_row (cells r.old)) }
 {
-    let mut i: usize = 0;
-    while i < n {
-        let x = cell_at(r, i);
-        let z = wide::negate(x);
+    for i in 0..n {
+        let z = wide::negate(cell_at(r, i));
         set_cell(r, i, z);
-        i += 1;
     }
 }
 
@@ -242,15 +205,13 @@ fn turn(r: &mut [u64; 36], n: usize, j: usize)
     let a = cell_at(r, j + 2);
     let d = cell_at(r, 0);
     if wide::is_negative(a) {
-        let x = wide::negate(a);
-        let y = wide::negate(d);
-        set_cell(r, 0, x);
-        set_cell(r, j + 2, y);
-        return;
+        set_cell(r, 0, wide::negate(a));
+        set_cell(r, j + 2, wide::negate(d));
+    } else {
+        negate(r, n);
+        set_cell(r, 0, a);
+        set_cell(r, j + 2, d);
     }
-    negate(r, n);
-    set_cell(r, 0, a);
-    set_cell(r, j + 2, d);
 }
 
 // The row solved for the variable of column j.

@@ -11,51 +11,39 @@ use wide::Wide;
 pub fn is_violated(kind: u8, x: Wide) -> bool
     ensures { result ≡ violated_by kind (value_of x) }
 {
-    let m = x.magnitude;
-    if kind == 1 {
-        return wide::is_negative(x);
+    match kind {
+        1 => wide::is_negative(x),
+        2 => !wide::is_zero(x.magnitude),
+        _ => false,
     }
-    if kind == 2 {
-        return !wide::is_zero(m);
-    }
-    false
 }
 
 // 0 < x
 fn is_positive(x: Wide) -> bool
     ensures { result ≡ lt_z (pos 0) (value_of x) }
 {
-    let y = wide::negate(x);
-    wide::is_negative(y)
+    wide::is_negative(wide::negate(x))
 }
 
 fn is_helping(kind: u8, c: Wide, e: Wide) -> bool
     ensures { result ≡ helps_by kind (value_of c) (value_of e) }
 {
-    let m = e.magnitude;
-    if kind == 0 {
-        return !wide::is_zero(m);
+    match kind {
+        0 => !wide::is_zero(e.magnitude),
+        1 if wide::is_negative(c) => is_positive(e),
+        1 => wide::is_negative(e),
+        _ => false,
     }
-    if kind == 1 {
-        if wide::is_negative(c) {
-            return is_positive(e);
-        }
-        return wide::is_negative(e);
-    }
-    false
 }
 
 pub fn small(r: &[u64; 36], n: usize) -> bool
     requires { Sheet r.now × Line n (cells r.now) }
     ensures { result ≡ small_at (bound 128) (cells r.now) }
 {
-    let mut i: usize = 0;
-    while i < n {
-        let x = crate::row::cell_at(r, i);
-        if !wide::is_small(x) {
+    for i in 0..n {
+        if !wide::is_small(crate::row::cell_at(r, i)) {
             return false;
         }
-        i += 1;
     }
     true
 }
@@ -64,26 +52,14 @@ pub fn row_narrow(r: &[u64; 36], n: usize, j: usize) -> bool
     requires { Sheet r.now × (j < 16) × Line n (cells r.now) }
     ensures { result ≡ narrow_row_at (bound 128) j (cells r.now) }
 {
-    let e = crate::row::cell_at(r, j + 2);
-    let m = e.magnitude;
-    if wide::is_zero(m) {
-        return true;
-    }
-    small(r, n)
+    wide::is_zero(crate::row::cell_at(r, j + 2).magnitude) || small(r, n)
 }
 
 pub fn narrow(t: &[[u64; 36]], n: usize, j: usize) -> bool
     requires { Sheets t.now × (j < 16) × ((k : ℕ) → k < length t.now → Line n (cells (get_or t.now k []))) }
     ensures { result ≡ narrow_rows_at (bound 128) j (rows_of t.now) }
 {
-    let mut k: usize = 0;
-    while k < t.len() {
-        if !row_narrow(&t[k], n, j) {
-            return false;
-        }
-        k += 1;
-    }
-    true
+    t.iter().all(|r| row_narrow(r, n, j))
 }
 
 // The constant of row i.
@@ -99,12 +75,7 @@ fn row_violated(t: &[[u64; 36]], place: &[usize], kinds: &[u8], v: usize) -> boo
     ensures { result ≡ violated_at (rows_of t.now) place.now kinds.now v }
 {
     let i = place[v];
-    let k = kinds[v];
-    if i < 64 {
-        let x = constant_at(t, i);
-        return is_violated(k, x);
-    }
-    false
+    i < 64 && is_violated(kinds[v], constant_at(t, i))
 }
 
 // The variable of the lowest-numbered violated row; the number of variables where there is none.
@@ -112,14 +83,12 @@ pub fn violated(t: &[[u64; 36]], place: &[usize], kinds: &[u8]) -> usize
     requires { Sheets t.now × (length kinds.now ≡ length place.now) × ((v : ℕ) → v < length place.now → get_or place.now v 0 < 64 → get_or place.now v 0 < length t.now) }
     ensures { result ≡ violated_of (rows_of t.now) place.now kinds.now }
 {
-    let mut v: usize = 0;
-    while v < place.len() {
+    for v in 0..place.len() {
         if row_violated(t, place, kinds, v) {
             return v;
         }
-        v += 1;
     }
-    v
+    place.len()
 }
 
 fn column_helps(r: &[u64; 36], place: &[usize], kinds: &[u8], v: usize) -> bool
@@ -127,13 +96,12 @@ fn column_helps(r: &[u64; 36], place: &[usize], kinds: &[u8], v: usize) -> bool
     ensures { result ≡ helps_at (cells r.now) place.now kinds.now v }
 {
     let i = place[v];
-    let k = kinds[v];
-    if i < 64 {
-        return false;
-    }
-    let c = crate::row::cell_at(r, 1);
-    let e = crate::row::cell_at(r, i - 64 + 2);
-    is_helping(k, c, e)
+    i >= 64
+        && is_helping(
+            kinds[v],
+            crate::row::cell_at(r, 1),
+            crate::row::cell_at(r, i - 64 + 2),
+        )
 }
 
 // The variable of the lowest-numbered column that helps the row; the number of variables where there is none.
@@ -141,12 +109,10 @@ pub fn helping(r: &[u64; 36], place: &[usize], kinds: &[u8]) -> usize
     requires { Sheet r.now × (length kinds.now ≡ length place.now) × ((v : ℕ) → v < length place.now → get_or place.now v 0 < 80) }
     ensures { result ≡ helping_of (cells r.now) place.now kinds.now }
 {
-    let mut v: usize = 0;
-    while v < place.len() {
+    for v in 0..place.len() {
         if column_helps(r, place, kinds, v) {
             return v;
         }
-        v += 1;
     }
-    v
+    place.len()
 }

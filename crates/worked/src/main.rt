@@ -7,8 +7,8 @@ mod telling;
 
 use sets::{one, table, tenth, two};
 use std::io;
-use std::io::Stdout;
-use telling::{found, length, membership, number, outcome, say, tested};
+use std::io::{Stdout, Write};
+use telling::{found, length, membership, outcome, refused, say, tested};
 
 fn holds(to: &mut Stdout, words: &[u8], set: &[u8], x: i32) -> io::Result<()> {
     say(to, words)?;
@@ -86,10 +86,11 @@ fn halves(to: &mut Stdout, half: &[u8]) -> io::Result<()> {
 // The complement of x - 2147483648 >= 0 is its opposite alone, whose constant stands at byte 2.
 fn on_opposite(to: &mut Stdout) -> io::Result<()> {
     let mut out = table();
-    operations::complement(1, &one(0x14, -2147483647 - 1, 1), &mut out);
     say(to, b"the opposite of x - 2147483648 >= 0 has constant ")?;
-    number(to, integers::u32_at(&out, 2))?;
-    say(to, b"\n")
+    match operations::complement(1, &one(0x14, i32::MIN, 1), &mut out) {
+        Ok(_) => writeln!(to, "{}", integers::u32_at(&out, 2)),
+        Err(refusal) => refused(to, refusal),
+    }
 }
 
 // Parts of the lent tables, of A and of its complement.
@@ -106,8 +107,10 @@ fn parts<'a>(to: &mut Stdout, a: &'a [u8], rest: &'a [u8]) -> io::Result<()> {
 fn on_parts(to: &mut Stdout) -> io::Result<()> {
     let a = two(0, 1, 2186, -1);
     let mut out = [0u8; 113];
-    operations::complement(1, &a, &mut out);
-    parts(to, &a, &out)
+    match operations::complement(1, &a, &mut out) {
+        Ok(_) => parts(to, &a, &out),
+        Err(refusal) => refused(to, refusal),
+    }
 }
 
 fn main(rt: HostRuntime) -> io::Result<()> {
@@ -116,7 +119,7 @@ fn main(rt: HostRuntime) -> io::Result<()> {
     on_floors(to)?;
     on_opposite(to)?;
     apart(to, b"x - 2147483647 >= 0 with -x >= 0: ", -2147483647)?;
-    apart(to, b"x - 2147483648 >= 0 with -x >= 0: ", -2147483647 - 1)?;
+    apart(to, b"x - 2147483648 >= 0 with -x >= 0: ", i32::MIN)?;
     halves(to, &one(0x13, -1, 2))?;
     on_parts(to)?;
     refusals::layout(to)?;

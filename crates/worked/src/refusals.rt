@@ -4,13 +4,16 @@ ghost use Rattle.std.specs.Prelude.{◌≡◌, ◌+◌, ◌≤◌, length};
 use crate::sets::{many_rules, one, table, two};
 use crate::telling::{found, outcome, refused, say};
 use integers::put_i16;
-use session::{Listing, State};
+use session::State;
 use std::io;
 use std::io::Stdout;
 
 fn checked(to: &mut Stdout, words: &[u8], n: usize, set: &[u8]) -> io::Result<()> {
     say(to, words)?;
-    refused(to, codec::check(n, set))
+    match codec::check(n, set) {
+        Ok(()) => say(to, b"accepted\n"),
+        Err(refusal) => refused(to, refusal),
+    }
 }
 
 // One rule, 0 but for the coefficient at a place of the bytes.
@@ -61,7 +64,7 @@ fn zero_divisor() -> [u8; 24]
 
 pub fn numbers(to: &mut Stdout) -> io::Result<()> {
     checked(to, b"d = 0: ", 1, &zero_divisor())?;
-    coefficient(to, b"coefficient -32768: ", 6, -32767 - 1)?;
+    coefficient(to, b"coefficient -32768: ", 6, i16::MIN)?;
     coefficient(to, b"n = 1, place 2 is 5: ", 8, 5)?;
     checked(to, b"49 rules: ", 1, &many_rules())
 }
@@ -123,7 +126,7 @@ fn turn(to: &mut Stdout, words: &[u8], n: usize, input: &[u8]) -> io::Result<()>
     let mut text = [0u8; 512];
     let state = State {
         axes: n,
-        listing: Listing::Nothing,
+        listing: None,
     };
     let t = script::step(
         state,

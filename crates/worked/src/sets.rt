@@ -62,10 +62,8 @@ pub fn many_rules() -> [u8; 1814]
 {
     let mut s = [0u8; 1814];
     s[0] = 0x11;
-    let mut i = 0;
-    while i < 49 {
+    for i in 0..49 {
         s[1 + 37 * i] = 0x14;
-        i += 1;
     }
     s
 }

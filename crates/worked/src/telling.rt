@@ -1,9 +1,7 @@
 // Answers, as lines of text.
-use carrying::Tested;
-use query::Membership;
-use results::Outcome;
-use search::FirstPoint;
-use simplex::Verdict;
+use model::Refusal;
+use search::{FirstPoint, Outcome};
+use simplex::{Ended, Verdict};
 use std::io;
 use std::io::{Stdout, Write};
 
@@ -11,76 +9,59 @@ pub fn say(to: &mut Stdout, words: &[u8]) -> io::Result<()> {
     to.write_all(words)
 }
 
-pub fn number(to: &mut Stdout, n: u64) -> io::Result<()> {
-    write!(to, "{n}")
-}
-
-pub fn refused(to: &mut Stdout, k: u32) -> io::Result<()> {
-    say(to, b"refused ")?;
-    number(to, k as u64)?;
-    say(to, b"\n")
+pub fn refused(to: &mut Stdout, refusal: Refusal) -> io::Result<()> {
+    writeln!(to, "refused {}", refusal.number())
 }
 
 pub fn length(to: &mut Stdout, n: usize) -> io::Result<()> {
-    say(to, b"length ")?;
-    number(to, n as u64)?;
-    say(to, b"\n")
+    writeln!(to, "length {n}")
 }
 
 // An operation: how long the result is.
-pub fn outcome(to: &mut Stdout, o: Outcome) -> io::Result<()> {
-    match o {
-        Outcome::Length(n) => length(to, n),
-        Outcome::Refused(k) => refused(to, k),
+pub fn outcome(to: &mut Stdout, answer: Result<usize, Refusal>) -> io::Result<()> {
+    match answer {
+        Ok(n) => length(to, n),
+        Err(refusal) => refused(to, refusal),
     }
 }
 
-pub fn membership(to: &mut Stdout, m: Membership) -> io::Result<()> {
-    match m {
-        Membership::In => say(to, b"in\n"),
-        Membership::Out => say(to, b"out\n"),
-        Membership::Refused(k) => refused(to, k),
+pub fn membership(to: &mut Stdout, held: Result<bool, Refusal>) -> io::Result<()> {
+    match held {
+        Ok(true) => say(to, b"in\n"),
+        Ok(false) => say(to, b"out\n"),
+        Err(refusal) => refused(to, refusal),
     }
 }
 
-fn tally(to: &mut Stdout, words: &[u8], n: u32) -> io::Result<()> {
-    say(to, words)?;
-    number(to, n as u64)?;
-    say(to, b" tested\n")
-}
-
-pub fn found(to: &mut Stdout, f: FirstPoint) -> io::Result<()> {
-    let outcome = f.outcome;
-    let n = f.tested;
+fn ending(outcome: Outcome) -> &'static str {
     match outcome {
-        search::Outcome::At => tally(to, b"found, ", n),
-        search::Outcome::Nothing => tally(to, b"none, ", n),
-        search::Outcome::Spent => tally(to, b"spent, ", n),
-        search::Outcome::Refused(k) => refused(to, k),
+        Outcome::At(_) => "found",
+        Outcome::Nothing => "none",
+        Outcome::Spent => "spent",
     }
 }
 
-fn verdict(to: &mut Stdout, v: Verdict) -> io::Result<()> {
-    match v {
-        Verdict::Point => say(to, b"point"),
-        Verdict::Dropped => say(to, b"dropped"),
-        Verdict::Long => say(to, b"long"),
-        Verdict::Wide => say(to, b"wide"),
+pub fn found(to: &mut Stdout, found: Result<FirstPoint, Refusal>) -> io::Result<()> {
+    match found {
+        Ok(found) => writeln!(to, "{}, {} tested", ending(found.outcome), found.tested),
+        Err(refusal) => refused(to, refusal),
     }
 }
 
-fn answered(to: &mut Stdout, v: Verdict, pivots: usize) -> io::Result<()> {
-    verdict(to, v)?;
-    say(to, b", ")?;
-    number(to, pivots as u64)?;
-    say(to, b" pivots\n")
+fn word(verdict: Verdict) -> &'static str {
+    match verdict {
+        Verdict::Point => "point",
+        Verdict::Dropped => "dropped",
+        Verdict::Long => "long",
+        Verdict::Wide => "wide",
+    }
 }
 
 // A test for fractions: the answer, and the pivots made.
-pub fn tested(to: &mut Stdout, t: Tested) -> io::Result<()> {
-    match t {
-        Tested::Refused(k) => refused(to, k),
-        Tested::NoSuchSet => say(to, b"no such set\n"),
-        Tested::Answers(e) => answered(to, e.verdict, e.pivots),
+pub fn tested(to: &mut Stdout, test: Result<Option<Ended>, Refusal>) -> io::Result<()> {
+    match test {
+        Ok(Some(ended)) => writeln!(to, "{}, {} pivots", word(ended.verdict), ended.pivots),
+        Ok(None) => say(to, b"no such set\n"),
+        Err(refusal) => refused(to, refusal),
     }
 }

@@ -1,7 +1,6 @@
 -- `extremes::value::both_halves` meets its contract. Assumes nothing.
-use mathlib.Core.Path.{ap, ◌∙◌}
+use mathlib.Core.Path.{◌∙◌}
 use borrow.Author.Rules.{rules}
-use Rattle.codec.specs.Bytes.{gives}
 use Rattle.simplex.specs.declared.Verdict.TheVariants.{Dropped, Long, Wide}
 use Rattle.extremes.proofs.Outcomes.{reached-posed, halves-after, climbed-over, halves-point}
 use Rattle.extremes.proofs.value.both_halves.Statement.{statement}
@@ -63,7 +62,7 @@ returns c =
     let l = climbing c.before in
     let t = between l in
     let r = reaching t.before in
-    c.ended.ensures ∙ ap gives (halves-point (start r).requires.2 r.reach-e.ensures _ l.climb-x.ensures t.in-Point.is)
+    c.ended.ensures ∙ halves-point (start r).requires.2 r.reach-e.ensures _ l.climb-x.ensures t.in-Point.is
 
 same-length-3 : tie.Need-shape_of-t-in-Dropped
 same-length-3 c = search rules
@@ -72,7 +71,7 @@ same-length-4 : tie.Need-shape_of-place-in-Dropped
 same-length-4 c = search rules
 
 returns-2 : tie.Need-returns-in-Dropped
-returns-2 c = let r = reaching c.before in ap gives (halves-after (start r).requires.2 r.reach-e.ensures _ Dropped c.in-Dropped.is)
+returns-2 c = let r = reaching c.before in halves-after (start r).requires.2 r.reach-e.ensures _ Dropped c.in-Dropped.is
 
 same-length-5 : tie.Need-shape_of-t-in-Long
 same-length-5 c = search rules
@@ -81,7 +80,7 @@ same-length-6 : tie.Need-shape_of-place-in-Long
 same-length-6 c = search rules
 
 returns-3 : tie.Need-returns-in-Long
-returns-3 c = let r = reaching c.before in ap gives (halves-after (start r).requires.2 r.reach-e.ensures _ Long c.in-Long.is)
+returns-3 c = let r = reaching c.before in halves-after (start r).requires.2 r.reach-e.ensures _ Long c.in-Long.is
 
 same-length-7 : tie.Need-shape_of-t-in-Wide
 same-length-7 c = search rules
@@ -90,7 +89,7 @@ same-length-8 : tie.Need-shape_of-place-in-Wide
 same-length-8 c = search rules
 
 returns-4 : tie.Need-returns-in-Wide
-returns-4 c = let r = reaching c.before in ap gives (halves-after (start r).requires.2 r.reach-e.ensures _ Wide c.in-Wide.is)
+returns-4 c = let r = reaching c.before in halves-after (start r).requires.2 r.reach-e.ensures _ Wide c.in-Wide.is
 
 pub both_halves_spec : {M : Type 1} → statement M
 both_halves_spec =

@@ -1,10 +1,9 @@
 -- `extremes::value::of_basic` meets its contract. Assumes nothing.
-use mathlib.Core.Path.{sym, ap, ◌∙◌}
+use mathlib.Core.Path.{sym, ◌∙◌}
 use Prim.Native.Nat.{◌+◌, ◌*◌}
 use borrow.Author.Rules.{rules}
 use lib.ListN.{take}
 use Rattle.model.specs.Values.{constraint_of}
-use Rattle.codec.specs.Bytes.{gives}
 use Rattle.wide_tableau.specs.Cells.{rows_of}
 use Rattle.simplex.proofs.Filled.{FirstTable, first-places, first-kinds}
 use Rattle.extremes.proofs.Beginning.{taken-rows, begun-table, begun-posed, begun-value}
@@ -88,7 +87,7 @@ returns c =
     let h = c.before.before in
     let r = ready h.before in
     let f = filling r in
-    h.both_halves.ensures ∙ ap gives (begun-value (start f).requires f.conditions.ensures (constraint_of (start f).args.c) r.goal_row.ensures (start f).args.greatest)
+    h.both_halves.ensures ∙ begun-value (start f).requires f.conditions.ensures (constraint_of (start f).args.c) r.goal_row.ensures (start f).args.greatest
 
 pub of_basic_spec : {M : Type 1} → statement M
 of_basic_spec =

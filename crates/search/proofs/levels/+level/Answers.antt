@@ -1,54 +1,64 @@
 -- The call of `climb` goes through the values; below a prefix that passed the level calls itself.
-use Rattle.std.proofs.Common.{◌≡◌, ◌≤◌, ℕ, ap, sym, subst₂, ◌∙◌, arith}
+use Rattle.std.proofs.Common.{◌≡◌, ◌+◌, ◌≤◌, ℕ, ap, sym, subst₂, ◌∙◌, arith}
 use Rattle.search.specs.Sides.{trail_of}
 use Rattle.search.specs.Live.{Rowed}
 use Rattle.search.specs.Levels.{Ready}
-use Rattle.search.proofs.Climbs.{onward, level-start, Descends, climbed-most, climbed-fewer, climbed-below, Goes, climbed-ends, climbed-goes, level-found, level-none}
+use Rattle.search.proofs.Climbs.{onward, level-start, Descends, climbed-most, climbed-fewer, climbed-below, climbed-past, climbed-spent, climbed-point, climbed-goes, level-found, level-none}
 use Rattle.search.proofs.levels.+level.Goals as goal
 
-pub loop-p-init : goal.loop-p-init
-loop-p-init t c =
+pub loop-passed-init : goal.loop-passed-init
+loop-passed-init t c =
     let p = c.args.p in let d = c.requires.0 in
-    (c.requires.1, d.within, level-start c.args.s.now p.n p.k p.low p.high d.standing p.limit c.args.t.now.tested)
+    record { rowed = c.requires.1; within = d.within; is = level-start c.args.s.now p.n p.k p.low p.high d.standing p.limit c.args.tested.now }
 
-pub overflow_add-t : goal.overflow_add-t
-overflow_add-t t c =
-    let h = climbed-most c.args.s.now c.args.p c.loop-p.i c.loop-p.t.tested c.climb-x.result c.climb-x.ensures.is in
+pub overflow_add-tested : goal.overflow_add-tested
+overflow_add-tested t c =
+    let h = climbed-most c.args.s.now c.args.p c.loop-passed.from c.loop-passed.tested c.climb-stop.result c.climb-stop.ensures.is in
     let f = c.requires.0.fits in omega arith
 
-pub returns-then-x-ne3 : goal.returns-then-x-ne3
-returns-then-x-ne3 t c =
-    let s = c.args.s.now in let p = c.args.p in let d = c.requires.0 in let l = c.loop-p in let x = c.climb-x in
-    let here : Ready s p l.t.tested = record { standing = d.standing; within = l.invariant.1; fits = d.fits; lives = d.lives } in
-    (x.ensures.rows, climbed-ends s p l.i l.t.tested here x.result x.ensures.is c.if-x-ne3.true ∙ ap trail_of l.invariant.2)
+pub returns-in-Past : goal.returns-in-Past
+returns-in-Past t c =
+    let s = c.args.s.now in let p = c.args.p in let d = c.requires.0 in let l = c.loop-passed in let x = c.climb-stop in
+    let here : Ready s p l.tested = record { standing = d.standing; within = l.invariant.within; fits = d.fits; lives = d.lives } in
+    (x.ensures.rows, climbed-past s p l.from l.tested here x.result x.ensures.is c.in-Past.is ∙ ap trail_of l.invariant.is)
 
-pub level-r-requires : goal.level-r-requires
-level-r-requires t c =
-    let s = c.args.s.now in let p = c.args.p in let d = c.requires.0 in let l = c.loop-p in let x = c.climb-x in
-    let here : Ready s p l.t.tested = record { standing = d.standing; within = l.invariant.1; fits = d.fits; lives = d.lives } in
-    let b : Descends s p l.t.tested x.result = climbed-below s p l.i l.t.tested here x.result x.ensures.is c.if-x-ne3.false in
+pub returns-in-Spent : goal.returns-in-Spent
+returns-in-Spent t c =
+    let s = c.args.s.now in let p = c.args.p in let d = c.requires.0 in let l = c.loop-passed in let x = c.climb-stop in
+    let here : Ready s p l.tested = record { standing = d.standing; within = l.invariant.within; fits = d.fits; lives = d.lives } in
+    (x.ensures.rows, climbed-spent s p l.from l.tested here x.result x.ensures.is c.in-Spent.is ∙ ap trail_of l.invariant.is)
+
+pub returns-in-Point : goal.returns-in-Point
+returns-in-Point t c =
+    let s = c.args.s.now in let p = c.args.p in let d = c.requires.0 in let l = c.loop-passed in let x = c.climb-stop in
+    let here : Ready s p l.tested = record { standing = d.standing; within = l.invariant.within; fits = d.fits; lives = d.lives } in
+    (x.ensures.rows, climbed-point s p l.from l.tested here x.result x.ensures.is c.in-Point.passed c.in-Point.is ∙ ap trail_of l.invariant.is)
+
+pub level-requires : goal.level-requires
+level-requires t c =
+    let s = c.args.s.now in let p = c.args.p in let d = c.requires.0 in let l = c.loop-passed in let x = c.climb-stop in let q = c.in-Below.passed in
+    let here : Ready s p l.tested = record { standing = d.standing; within = l.invariant.within; fits = d.fits; lives = d.lives } in
+    let b : Descends s p (l.tested + x.result.tested) q.at = climbed-below s p l.from l.tested here x.result x.ensures.is q c.in-Below.is in
     (omega (arith, b.deeper, c.decreases), (b.ready, subst₂ (λ (n k : ℕ). Rowed s n k x.new.rows) (sym b.axes) (sym b.count) x.ensures.rows))
 
-pub returns-then-r-ne0 : goal.returns-then-r-ne0
-returns-then-r-ne0 t c =
-    let s = c.args.s.now in let p = c.args.p in let d = c.requires.0 in let l = c.loop-p in let x = c.climb-x in let r = c.level-r in
-    let here : Ready s p l.t.tested = record { standing = d.standing; within = l.invariant.1; fits = d.fits; lives = d.lives } in
-    let b : Descends s p l.t.tested x.result = climbed-below s p l.i l.t.tested here x.result x.ensures.is c.if-x-ne3.false in
-    let g : Goes s p l.i l.t.tested x.result = climbed-goes s p l.i l.t.tested here x.result x.ensures.is c.if-x-ne3.false in (
+pub loop-passed-smaller : goal.loop-passed-smaller
+loop-passed-smaller t c = climbed-fewer c.args.s.now c.args.p c.loop-passed.from c.loop-passed.tested c.climb-stop.result c.climb-stop.ensures.is c.in-Below.passed c.in-Below.is
+
+pub loop-passed-preserved : goal.loop-passed-preserved
+loop-passed-preserved t c =
+    let s = c.args.s.now in let p = c.args.p in let d = c.requires.0 in let l = c.loop-passed in let x = c.climb-stop in let q = c.in-Below.passed in let r = c.level in
+    let here : Ready s p l.tested = record { standing = d.standing; within = l.invariant.within; fits = d.fits; lives = d.lives } in
+    let b : Descends s p (l.tested + x.result.tested) q.at = climbed-below s p l.from l.tested here x.result x.ensures.is q c.in-Below.is in
+    let g = climbed-goes s p l.from l.tested here x.result x.ensures.is q c.in-Below.is in
+    let e : (r.new.tested ≤ p.limit) × (onward s p q.next r.new.tested ≡ onward s p l.from l.tested) = level-none s p (onward s p l.from l.tested) (l.tested + x.result.tested) q b.limit g r.result r.new.tested r.ensures.1 c.in-Nothing.is in
+    record { rowed = subst₂ (λ (n k : ℕ). Rowed s n k r.new.rows) b.axes b.count r.ensures.0; within = e.0; is = e.1 ∙ l.invariant.is }
+
+pub returns-in_default : goal.returns-in_default
+returns-in_default t c =
+    let s = c.args.s.now in let p = c.args.p in let d = c.requires.0 in let l = c.loop-passed in let x = c.climb-stop in let q = c.in-Below.passed in let r = c.level in
+    let here : Ready s p l.tested = record { standing = d.standing; within = l.invariant.within; fits = d.fits; lives = d.lives } in
+    let b : Descends s p (l.tested + x.result.tested) q.at = climbed-below s p l.from l.tested here x.result x.ensures.is q c.in-Below.is in
+    let g = climbed-goes s p l.from l.tested here x.result x.ensures.is q c.in-Below.is in (
       subst₂ (λ (n k : ℕ). Rowed s n k r.new.rows) b.axes b.count r.ensures.0,
-      level-found s p l.i l.t.tested x.result b.limit g r.result r.new.t.tested r.ensures.1 c.if-r-ne0.true ∙ ap trail_of l.invariant.2,
+      level-found s p (onward s p l.from l.tested) (l.tested + x.result.tested) q b.limit g r.result r.new.tested r.ensures.1 c.in_default.not-Nothing ∙ ap trail_of l.invariant.is,
     )
-
-pub loop-p-smaller : goal.loop-p-smaller
-loop-p-smaller t c =
-    let w = c.if-x-ne3.false in
-    climbed-fewer c.args.s.now c.args.p c.loop-p.i c.loop-p.t.tested c.climb-x.result c.climb-x.ensures.is (λ e. omega arith) (λ e. omega arith)
-
-pub loop-p-preserved : goal.loop-p-preserved
-loop-p-preserved t c =
-    let s = c.args.s.now in let p = c.args.p in let d = c.requires.0 in let l = c.loop-p in let x = c.climb-x in let r = c.level-r in
-    let here : Ready s p l.t.tested = record { standing = d.standing; within = l.invariant.1; fits = d.fits; lives = d.lives } in
-    let b : Descends s p l.t.tested x.result = climbed-below s p l.i l.t.tested here x.result x.ensures.is c.if-x-ne3.false in
-    let g : Goes s p l.i l.t.tested x.result = climbed-goes s p l.i l.t.tested here x.result x.ensures.is c.if-x-ne3.false in
-    let e : (r.new.t.tested ≤ p.limit) × (onward s p x.result.next r.new.t.tested ≡ onward s p l.i l.t.tested) = level-none s p l.i l.t.tested x.result b.limit g r.result r.new.t.tested r.ensures.1 c.if-r-ne0.false in
-    (subst₂ (λ (n k : ℕ). Rowed s n k r.new.rows) b.axes b.count r.ensures.0, e.0, e.1 ∙ l.invariant.2)

@@ -1,0 +1,9 @@
+use Rattle.std.specs.Prelude.{◌-◌, length}
+use Rattle.codec.specs.Accepting.{Further}
+use Rattle.codec.proofs.accepting.further.Given as goal
+
+abbrev pub invariant-loop-c : goal.invariant-loop-c
+invariant-loop-c g l = Further l.s l.fn.c l.c
+
+abbrev pub decreases-loop-c : goal.decreases-loop-c
+decreases-loop-c g l = length l.s - l.c.at

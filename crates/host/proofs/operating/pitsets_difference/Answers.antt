@@ -1,0 +1,10 @@
+-- The length of the result is a number of the host.
+use Rattle.codec.proofs.Valid.{bytes_of}
+use Rattle.algebra.proofs.Again.{difference-within}
+use Rattle.host.proofs.Lengths.{short-of}
+use Rattle.host.proofs.operating.pitsets_difference.Goals as goal
+
+pub length_number-requires : goal.length_number-requires
+length_number-requires c =
+    let first = bytes_of c.args.a.now (λ i. (c.type_inv.a i).fits) in let second = bytes_of c.args.b.now (λ i. (c.type_inv.b i).fits) in
+    short-of _ c.difference.result c.difference.ensures _ (λ l. difference-within _ _ _ _ l first second)

@@ -1,0 +1,20 @@
+use Rattle.std.proofs.Common.{refl, length}
+use Rattle.model.proofs.Refused.{number-some}
+use Rattle.algebra.specs.Cut as C
+use Rattle.algebra.specs.Cut.{keeps, intersection_fits}
+use Rattle.algebra.specs.Operations.{result, intersection_bytes}
+use Rattle.results.specs.Outcome.{outcome_is}
+use Rattle.operations.proofs.Answering.{two-refused, two-given}
+use Rattle.operations.proofs.calls.intersection.Goals as goal
+
+pub returns-in-Ok : goal.returns-in-Ok
+unfolding intersection_bytes
+returns-in-Ok c =
+    two-given c.args.n c.args.a.now c.args.b.now 0 (intersection_fits keeps) (C.intersection keeps) c.args.out.now _ c.finish.new.out c.intersect-d.result c.finish.result c.in-Ok.ensures refl
+    c.intersect-d.auto.out c.intersect-d.ensures c.finish.ensures
+
+pub returns-in-Err : goal.returns-in-Err
+unfolding intersection_bytes
+returns-in-Err c =
+    two-refused c.args.n c.args.a.now c.args.b.now (λ s t. result (intersection_fits keeps s t) (length c.args.out.now) (C.intersection keeps s t)) _ (length c.args.out.now) (outcome_is c.refuse.result) c.refuse.new.out
+    c.in-Err.ensures (number-some _) c.refuse.ensures
