@@ -37,7 +37,7 @@ def row(crate):
     both = [code_and_contracts(p) for p in below(os.path.join(at, "src"), ".rt")]
     proofs = {True: 0, False: 0}
     for p in below(os.path.join(at, "proofs"), ".antt"):
-        proofs[p.endswith("Proof.antt")] += len(lines(p, "--"))
+        proofs[p.endswith(("Proof.antt", "Answers.antt", "Invariants.antt"))] += len(lines(p, "--"))
     specs = sum(len(lines(p, "--")) for p in below(os.path.join(at, "specs"), ".antt"))
     edits = [len(list(below(folder, ".edit"))) for folder in (os.path.join(at, "must-fail"), os.path.join("tests/edits", crate))]
     return [sum(c for c, _ in both), sum(c for _, c in both), specs, proofs[False], proofs[True], *edits]
