@@ -1,6 +1,7 @@
 #!/usr/bin/env python3
 """Definitions and laws that nothing uses: names declared under crates/*/specs and crates/*/proofs that no other line of crates/ names and no
-document under docs/ names as a theorem for readers. Run at the repository's root; prints them and ends with 'N passed, M failed'.
+document under docs/ names as a theorem for readers; pages that tell what a change did are not read. Run at the repository's root; prints
+them and ends with 'N passed, M failed'.
 
 A function's own proof (Proof.antt) is not looked at; integers/proofs/Examples.antt is the page of examples that docs/PROOFS.md points to."""
 import os
@@ -9,6 +10,7 @@ import sys
 
 EDGE = r"\s(){}\[\],;.:λ→"
 WORD = rf"[^{EDGE}]+"
+TELLING_OF_CHANGES = ("/DESIGN-PASS.md", "/LOOK-BACK.md")
 DECLARED = re.compile(rf"^( *)(?:(?:abbrev|unfoldable|pub) )*({WORD})(?: \{{\w+\}})? : ", re.M)
 
 
@@ -26,7 +28,7 @@ def texts(folder, ends):
 
 def main():
     crates = {p: t for p, t in texts("crates", (".rt", ".antt")) if "/must-fail/" not in p}
-    documents = " ".join(t for _, t in texts("docs", ".md"))
+    documents = " ".join(t for p, t in texts("docs", ".md") if not p.endswith(TELLING_OF_CHANGES))
     named = {}
     for text in crates.values():
         for word in re.findall(WORD, text):

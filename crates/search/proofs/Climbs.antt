@@ -23,6 +23,7 @@ use Rattle.enumeration.specs.Search.{Interval, only, can_hold, Walk, or_else, on
 use Rattle.search.specs.Sides.{side, limited, sides_of, Standing, padded, outcome_of, trail_of}
 use Rattle.search.specs.Levels.{ok_at, walk_at, level_of, span_at, value_at, rest_at, passes_at, Ready, trail, next_of, way_at, stop_at, lows_at, highs_at, Failed, Climbed, past, exhausted, passing}
 use Rattle.search.specs.declared.levels.Passed.{Passed}
+use Rattle.search.specs.declared.levels.Way.{Way}
 use Rattle.search.specs.declared.levels.Way.TheVariants.{Past, Point, Below}
 use Rattle.search.specs.declared.levels.Way.TheVariants as W
 use Rattle.search.specs.declared.levels.Outcome.{Outcome}
@@ -446,6 +447,13 @@ module _ (s : List ℕ) (p : Prefix) (i t : ℕ) where
 abbrev pub Goes : List ℕ → Prefix → Tallied → ℕ → Passed → Type 0
 Goes s p whole t q = whole ≡ limited p.limit t (or_else (walk_at s q.at) (values_from s p q.next))
 
+-- how a level ended that goes below no prefix
+abbrev pub outcome_at : Way → Outcome
+outcome_at Past = Nothing
+outcome_at W.Spent = Spent
+outcome_at (Point q) = At q.at.low
+outcome_at (Below q) = Nothing
+
 module _ (s : List ℕ) (p : Prefix) (i t : ℕ) (d : Ready s p t) where
   -- m values failed
   after : (m : ℕ) → Failed s p i m → m ≤ suc (span_at p) - i → t + m ≤ p.limit
@@ -481,6 +489,16 @@ module _ (s : List ℕ) (p : Prefix) (i t : ℕ) (d : Ready s p t) where
       ap (λ (x : Passed). trail (At x.at.low) (t + (m + 1))) y.1
       ∙ ap (trail (At (lows_at p (i + m)))) (and_one m)
       ∙ climb-at s p.n p.k p.low p.high d.standing (onward s p i t) p.limit (t + m) (i + m) (after m f (omega arith) (omega arith)) h l e y.0
+
+  -- a level that goes below no prefix has ended
+  pub climbed-ends : (r : Stop) → Climbed s p i t r → ((q : Passed) → r.way ≡ Below q → ⊥) → trail (outcome_at r.way) (t + r.tested) ≡ trail_of (onward s p i t)
+  climbed-ends r c n = go r.way refl
+    where
+      go : (w : Way) → r.way ≡ w → trail (outcome_at w) (t + r.tested) ≡ trail_of (onward s p i t)
+      go Past e = climbed-past r c e
+      go W.Spent e = climbed-spent r c e
+      go (Point q) e = climbed-point r c q e
+      go (Below q) e = absurd (n q e)
 
   pub climbed-goes : (r : Stop) → Climbed s p i t r → (q : Passed) → r.way ≡ Below q → Goes s p (onward s p i t) (t + r.tested) q
   climbed-goes _ (past m f e l) q w = cc

@@ -5,7 +5,7 @@ ghost use Rattle.codec.specs.Places.{set_from};
 ghost use Rattle.enumeration.specs.Search.{box_of, walk, search_bytes};
 ghost use Rattle.search.specs.Sides.{limited, trail_of, point_or_zeros, Boxed, answer_of};
 
-use crate::levels::{Outcome, level};
+use crate::levels::{Outcome, tallied};
 use crate::windows::{begin, corners_fit, limit_fits, upright};
 use model::{Refusal, limit};
 
@@ -41,9 +41,7 @@ fn walked(
 {
     let mut rows = [[0i64; 129]; limit::BASIC_SETS];
     let all = begin(n, s, low, high, limit, &mut rows);
-    let mut tested = 0;
-    let outcome = level(s, all, &mut tested, &mut rows);
-    FirstPoint { outcome, tested }
+    tallied(s, all, &mut rows)
 }
 
 // The first point of the set in the box, with the number of prefixes tested.

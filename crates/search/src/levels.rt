@@ -8,8 +8,15 @@ ghost use Rattle.search.specs.Sides.{trail_of};
 ghost use Rattle.search.specs.Live.{Rowed};
 ghost use Rattle.search.specs.Levels.{Ready, Climbed, stop_at, level_of, trail};
 
+use crate::first::FirstPoint;
 use crate::opening::{Opening, opened_in};
 use model::limit;
+
+// How many prefixes were tested: one record lent to each level, which adds to it there.
+#[derive(Clone, Copy)]
+pub struct Tally {
+    pub tested: u32,
+}
 
 // A prefix of k numbers, on whose axes low and high are the same, and the basic sets that can hold over the box
 // (`live`); with what all levels share: the number of axes, the limit, and how many rows are in use.
@@ -154,28 +161,41 @@ pub fn climb(
 }
 
 // The walk below a prefix. `rows` has a row of ends for each basic set, over whatever box it was last asked; each level
-// adds to `tested` the prefixes that it tests.
+// adds to the tally the prefixes that it tests.
 pub fn level(
     s: &[u8],
     p: Prefix,
-    tested: &mut u32,
+    tally: &mut Tally,
     rows: &mut [[i64; 129]; limit::BASIC_SETS],
 ) -> Outcome
-    requires { Ready s.now p tested.old × Rowed s.now p.n p.count rows.old }
-    ensures { Rowed s.now p.n p.count rows.new × (trail result tested.new ≡ trail_of (level_of s.now p tested.old)) }
+    requires { Ready s.now p tally.old.tested × Rowed s.now p.n p.count rows.old }
+    ensures { Rowed s.now p.n p.count rows.new × (trail result tally.new.tested ≡ trail_of (level_of s.now p tally.old.tested)) }
 {
     let mut from = 0;
     loop {
-        let stop = climb(s, p, from, *tested, rows);
-        *tested += stop.tested;
+        let stop = climb(s, p, from, tally.tested, rows);
+        tally.tested += stop.tested;
         match stop.way {
             Way::Past => return Outcome::Nothing,
             Way::Spent => return Outcome::Spent,
             Way::Point(passed) => return Outcome::At(passed.at.low),
-            Way::Below(passed) => match level(s, passed.at, tested, rows) {
+            Way::Below(passed) => match level(s, passed.at, tally, rows) {
                 Outcome::Nothing => from = passed.next,
                 found => return found,
             },
         }
+    }
+}
+
+// The walk below a prefix, with a tally of its own: what every other caller calls.
+pub fn tallied(s: &[u8], p: Prefix, rows: &mut [[i64; 129]; limit::BASIC_SETS]) -> FirstPoint
+    requires { Ready s.now p 0 × Rowed s.now p.n p.count rows.old }
+    ensures { result ≡ trail_of (level_of s.now p 0) }
+{
+    let mut tally = Tally { tested: 0 };
+    let outcome = level(s, p, &mut tally, rows);
+    FirstPoint {
+        outcome,
+        tested: tally.tested,
     }
 }

@@ -79,18 +79,6 @@ zeros-divisor (x ∷ l) g h =
 pub divisor-end : (n i g : ℕ) (l : List ℤ) → Line n l → n ≤ i → divisor_from g (drop i l) ≡ g
 divisor-end n i g l h k = zeros-divisor (drop i l) g (λ j. get_or-drop i l j (pos 0) ∙ h.blank (i + j) (omega arith))
 
--- none is left
-pub divisor-past : (g i : ℕ) (l : List ℤ) → length l ≤ i → g ≡ divisor_from g (drop i l)
-unfolding divisor_from
-divisor-past g i l h = sym (ap (divisor_from g) (drop_of_length-le l {i = i} h))
-
--- the first n numbers alone
-pub divisor-front : (n g : ℕ) (l : List ℤ) → ((k : ℕ) → n ≤ k → get_or l k (pos 0) ≡ pos 0) → divisor_from g (take n l) ≡ divisor_from g l
-unfolding divisor_from
-divisor-front zero g l h = sym (zeros-divisor l g (λ k. h k zero-le))
-divisor-front (suc n) g [] h = refl
-divisor-front (suc n) g (x ∷ l) h = divisor-front n (gcd (nat_abs x) g) l (λ k a. h (suc k) (suc-le-suc a))
-
 pub map-front : (g : ℤ → ℤ) (n : ℕ) (l : List ℤ) → g (pos 0) ≡ pos 0 → ((k : ℕ) → n ≤ k → get_or l k (pos 0) ≡ pos 0) → map g (take n l) ++ drop n l ≡ map g l
 map-front g zero [] e h = refl
 map-front g zero (x ∷ l) e h = ap₂ ◌∷◌ (h 0 zero-le ∙ sym (ap g (h 0 zero-le) ∙ e)) (map-front g zero l e (λ k a. h (suc k) zero-le))

@@ -8,7 +8,7 @@ use native.Mathlib.Numerals.{add-one}
 use native.Mathlib.Omega.{arith}
 use borrow.Author.Tests.{ltb-true, ltb-false, le-leb, lt-leb, leb-true, leb-false}
 use lib.Dec.{leb, ltb, eqb, T}
-use lib.ListN.{length, get_or, set, drop, length-set, length-map}
+use lib.ListN.{length, get_or, set, drop, drop_of_length-le, length-set, length-map}
 use lib.Seq.{drop-cons, get_or-drop}
 use lib.IntN.{ℤ, pos, nat_abs, ◌-ℤ◌}
 use lib.Signed.{lt_z, ◌<ℤ◌}
@@ -65,6 +65,10 @@ module _ (m : ℕ) where
   pub narrow_step : (j : ℕ) (t : List (List ℤ)) (k : ℕ) (b : Bool) → k < length t → narrow_row_at m j (get_or t k []) ≡ b → narrow_rows_at m j (drop k t) ≡ cond b (narrow_rows_at m j (drop (k + 1) t)) false
   unfolding narrow_rows_at
   narrow_step j t k b h e = rw (add-one, drop-cons t k []) (ap (λ b. cond b (narrow_rows_at m j (drop (suc k) t)) false) e)
+
+  pub narrow-end : (j : ℕ) (t : List (List ℤ)) (k : ℕ) → length t ≤ k → true ≡ narrow_rows_at m j (drop k t)
+  unfolding narrow_rows_at
+  narrow-end j t k h = sym (ap (narrow_rows_at m j) (drop_of_length-le t {i = k} h))
 
   and-cond : (b c : Bool) → (b && c) ≡ cond b c false
   and-cond true c = refl

@@ -13,11 +13,11 @@ fn common_divisor(r: &[i64; 18], n: usize) -> u64
     ensures { result ≡ divisor r.now }
 {
     let mut g = 0;
-    for x in &r[..n] {
+    for at in 0..n {
         if g == 1 {
             return 1;
         }
-        g = integers::gcd(x.unsigned_abs(), g);
+        g = integers::gcd(r[at].unsigned_abs(), g);
     }
     g
 }

@@ -53,7 +53,12 @@ pub fn narrow(t: &[[i64; 18]], n: usize, j: usize) -> bool
     requires by_index { (k : ℕ) → k < length t.now → Line n (get_or t.now k []) }
     ensures { result ≡ narrow_rows j t.now }
 {
-    t.iter().all(|r| row_narrow(r, n, j))
+    for k in 0..t.len() {
+        if !row_narrow(&t[k], n, j) {
+            return false;
+        }
+    }
+    true
 }
 
 fn row_violated(t: &[[i64; 18]], place: &[usize], kinds: &[u8], v: usize) -> bool

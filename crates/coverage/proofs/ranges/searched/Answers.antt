@@ -10,8 +10,8 @@ use Rattle.coverage.proofs.ranges.searched.Goals as goal
 
 pub returns-in_err-p : goal.returns-in_err-p
 returns-in_err-p c =
-    let a = c.args in let q = c.requires.0 in
-    not-refused c.in_err-p.ensures (searched-is a.n a.set.now a.lows a.highs a.inside (set_from a.set.now 0) (decode_is a.n a.set.now q.boxed.accepted) q.boxed.box q.limit_inside)
+    let a = c.args in let q = c.requires.0 in let i = q.limit_inside in let o = q.limit_outside in
+    not-refused c.in_err-p.ensures (searched-is a.n a.set.now a.lows a.highs _ (set_from a.set.now 0) (decode_is a.n a.set.now q.boxed.accepted) q.boxed.box (search (i, o)))
 
 pub slice_bounds-first_point-end : goal.slice_bounds-first_point-end
 slice_bounds-first_point-end c = let a = c.args in let h = c.requires.1.inside in omega (arith, length-take a.l a.table.now)

@@ -2,7 +2,7 @@ use Rattle.operations.proofs.Meeting.{admit-void, admit-sound, admit-tested}
 use Rattle.operations.proofs.pairs.admit_divided.Goals as goal
 
 pub emit_kept-requires : goal.emit_kept-requires
-emit_kept-requires c = (admit-sound c.in-Some.ensures c.requires.0, c.requires.1, c.requires.2)
+emit_kept-requires c = let tightened = admit-sound c.in-Some.ensures c.requires.0 in let given = c.requires.0 in (search (tightened, given), c.requires.1, c.requires.2)
 
 pub returns-in-Some : goal.returns-in-Some
 returns-in-Some c = admit-tested c.in-Some.ensures c.args.out.now c.args.s c.emit_kept.ensures

@@ -8,4 +8,4 @@ use Rattle.search.proofs.first.walked.Goals as goal
 pub returns : goal.returns
 returns c =
     let b = c.begin-all.ensures in
-    c.level-outcome.ensures.1 ∙ ap₂ (λ (l : ℕ) (w : Walk). trail_of (limited l 0 w)) b.limit_is (begun-is b (walk (set_from c.args.s.now 0)))
+    c.tallied.ensures ∙ ap₂ (λ (l : ℕ) (w : Walk). trail_of (limited l 0 w)) b.limit_is (begun-is b (walk (set_from c.args.s.now 0)))

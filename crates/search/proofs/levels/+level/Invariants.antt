@@ -16,7 +16,7 @@ pub record Onward (s : List ℕ) (p : Prefix) (before tested from : ℕ) (rows :
   pub is : onward s p from tested ≡ level_of s p before
 
 abbrev pub invariant-loop-passed : goal.invariant-loop-passed
-invariant-loop-passed l = Onward l.s l.p l.fn.tested l.tested l.from l.rows
+invariant-loop-passed l = Onward l.s l.p l.fn.tally.tested l.tally.tested l.from l.rows
 
 -- the number of values left
 abbrev pub decreases-loop-passed : goal.decreases-loop-passed

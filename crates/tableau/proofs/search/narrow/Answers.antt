@@ -1,22 +1,21 @@
--- Each row that the test is asked of stands in the tableau.
-use Rattle.std.proofs.Common.{sym, subst, ◌∙◌, [], rules, tests}
-use Rattle.std.proofs.lemmas.List.{get_or_default}
-use Rattle.std.proofs.lemmas.Iterator.{YieldsList-from_slice}
-use Rattle.std.proofs.lemmas.Iterator.Search.{all_from_yields_List}
-use Rattle.std.proofs.lemmas.Iterator.Adapters.{serves_from_places}
+use Rattle.std.proofs.Common.{sym, refl, ◌∙◌, true, false}
 use Rattle.integers.specs.Size.{bound}
-use Rattle.tableau.specs.Rows.{narrow_row, Line}
-use Rattle.tableau.proofs.Searches.{narrow-all}
+use Rattle.tableau.proofs.Searches.{narrow_step, narrow-end}
 use Rattle.tableau.proofs.search.narrow.Goals as goal
 
-pub all-requires-clause-callable : goal.all-requires-clause-callable
-all-requires-clause-callable c =
-    serves_from_places (YieldsList-from_slice c.args.t.now cc) (λ x q e. search rules)
-    (λ x k lt e.
-    let h : Line c.args.n x.now = subst (Line c.args.n) (sym (e ∙ get_or_default c.args.t.now k x.now [] lt)) (c.requires.by_index k lt) in
-    search rules)
+pub loop-k-init : goal.loop-k-init
+loop-k-init c = refl
+
+pub row_narrow-requires : goal.row_narrow-requires
+row_narrow-requires c = record { j_bound = c.requires.j_bound; line = c.requires.by_index c.loop-k.k c.loop-k-test.true }
+
+pub returns-then-not-row_narrow : goal.returns-then-not-row_narrow
+returns-then-not-row_narrow c =
+    sym (narrow_step (bound 64) c.args.j c.args.t.now c.loop-k.k false c.loop-k-test.true (sym c.row_narrow.ensures ∙ c.if-not-row_narrow.true)) ∙ c.loop-k.invariant
+
+pub loop-k-preserved : goal.loop-k-preserved
+loop-k-preserved c =
+    sym (narrow_step (bound 64) c.args.j c.args.t.now c.loop-k.k true c.loop-k-test.true (sym c.row_narrow.ensures ∙ c.if-not-row_narrow.false)) ∙ c.loop-k.invariant
 
 pub returns : goal.returns
-returns c =
-    all_from_yields_List (narrow_row c.args.j) _ _ _ c.all.ensures.ran (YieldsList-from_slice c.args.t.now cc) (λ x b q k. search (rules, tests))
-    ∙ narrow-all (bound 64) c.args.j c.args.t.now
+returns c = narrow-end (bound 64) c.args.j c.args.t.now c.loop-k.k c.loop-k-test.false ∙ c.loop-k.invariant
