@@ -1,48 +1,45 @@
 // An answer as a number: what each case is stands in specs/Numbers; a refusal is minus its number.
 ghost use Rattle.std.specs.Prelude.{◌≡◌, pos, neg_ℤ};
-ghost use Rattle.model.specs.Refused.{number_of};
-ghost use Rattle.codec.specs.Refusing.{answer_is};
-ghost use Rattle.query.specs.Holding.{member_is};
-ghost use Rattle.results.specs.Outcome.{outcome_is};
-ghost use Rattle.fleet.specs.Looking.{fleet_is};
-ghost use Rattle.extremes.specs.Answers.{extent_is, extreme_is};
-ghost use Rattle.states.specs.Calls.{word_is, said_is};
+ghost use Rattle.codec.specs.Refusing.{answer_by};
+ghost use Rattle.fleet.specs.Looking.{seen_is};
+ghost use Rattle.extremes.specs.Answers.{extreme_is};
+ghost use Rattle.states.specs.Calls.{word_is, said_by};
 ghost use Rattle.answers.specs.Numbers.{member_number, Short, length_number, outcome_number, fleet_number, range_number, reading_number, said_number, extreme_number, extent_number};
 
+use crate::Numbered;
 use counting::Counted;
 use coverage::{Range, Reading};
 use extremes::Extent;
 use fleet::Seen;
-use model::Refusal;
 use states::Said;
 
-fn refused(refusal: Refusal) -> i64
-    ensures { result ≡ neg_ℤ (pos (number_of refusal)) }
+fn refused<E: Numbered>(refusal: E) -> i64
+    ensures { result ≡ neg_ℤ (pos (E.number_of refusal)) }
 {
     -i64::from(refusal.number())
 }
 
-pub fn member_number(held: Result<bool, Refusal>) -> i64
-    ensures { result ≡ member_number (member_is held) }
+pub fn member_number<E: Numbered>(held: Result<bool, E>) -> i64
+    ensures { result ≡ member_number (answer_by E.number_of (λ b. b) held) }
 {
     held.map_or_else(refused, i64::from)
 }
 
-pub fn length_number(length: Result<usize, Refusal>) -> i64
-    requires { Short (outcome_is length) }
-    ensures { result ≡ length_number (outcome_is length) }
+pub fn length_number<E: Numbered>(length: Result<usize, E>) -> i64
+    requires { Short (answer_by E.number_of (λ l. l) length) }
+    ensures { result ≡ length_number (answer_by E.number_of (λ l. l) length) }
 {
     length.map_or_else(refused, |length| length as i64)
 }
 
-pub fn count_number(count: Result<Counted, Refusal>) -> i64
-    ensures { result ≡ outcome_number (answer_is (λ x. x) count) }
+pub fn count_number<E: Numbered>(count: Result<Counted, E>) -> i64
+    ensures { result ≡ outcome_number (answer_by E.number_of (λ c. c) count) }
 {
     count.map_or_else(refused, |count| count.whole.map_or(-1000, i64::from))
 }
 
-pub fn fleet_number(look: Result<Seen, Refusal>) -> i64
-    ensures { result ≡ fleet_number (fleet_is look) }
+pub fn fleet_number<E: Numbered>(look: Result<Seen, E>) -> i64
+    ensures { result ≡ fleet_number (answer_by E.number_of seen_is look) }
 {
     look.map_or_else(refused, |seen| i64::from(seen.count))
 }
@@ -59,8 +56,8 @@ fn range_told(range: Range) -> i64
     }
 }
 
-pub fn range_number(reading: Result<Reading, Refusal>) -> i64
-    ensures { result ≡ reading_number (answer_is (λ x. x) reading) }
+pub fn range_number<E: Numbered>(reading: Result<Reading, E>) -> i64
+    ensures { result ≡ reading_number (answer_by E.number_of (λ x. x) reading) }
 {
     reading.map_or_else(refused, |reading| range_told(reading.range))
 }
@@ -77,8 +74,8 @@ fn word(said: Said) -> i64
     }
 }
 
-pub fn said_number(said: Result<Said, Refusal>) -> i64
-    ensures { result ≡ said_number (said_is said) }
+pub fn said_number<E: Numbered>(said: Result<Said, E>) -> i64
+    ensures { result ≡ said_number (said_by E.number_of said) }
 {
     said.map_or_else(refused, word)
 }
@@ -95,8 +92,8 @@ fn extent_told(extent: Extent) -> i64
     }
 }
 
-pub fn extent_number(extent: Result<Extent, Refusal>) -> i64
-    ensures { result ≡ extent_number (extent_is extent) }
+pub fn extent_number<E: Numbered>(extent: Result<Extent, E>) -> i64
+    ensures { result ≡ extent_number (answer_by E.number_of extreme_is extent) }
 {
     extent.map_or_else(refused, extent_told)
 }

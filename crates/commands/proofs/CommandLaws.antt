@@ -175,9 +175,6 @@ assign-kept st b s e y {t} {l} {r} h = subst (λ (x : Effect). Holds (memory_of 
 -- ---- the whole command
 
 module _ (axes : ℕ) (tables lengths : List ℕ) (c : List ℕ) (r : CommandDone) (out out' : List ℕ) where
-  abbrev Is : List ℕ → Type 0
-  Is c = CommandIs (execute (state_in axes tables lengths) c) (effect_of (state_in axes tables lengths) c) r out out'
-
   by-definition : (d : Done) (e : Effect) → execute (state_in axes tables lengths) c ≡ d → effect_of (state_in axes tables lengths) c ≡ e
       → Told (shown d.text e) d.state.axes d.goes (listing_of e) r out out' → CommandIs (execute (state_in axes tables lengths) c) (effect_of (state_in axes tables lengths) c) r out out'
   by-definition d e p q t =

@@ -1,16 +1,9 @@
 -- A table of zeros.
 use mathlib.Core.Path.{◌≡◌, refl, ap, ◌∙◌}
-use mathlib.Core.List.{List, [], ◌∷◌, map}
+use mathlib.Core.List.{List, ◌∷◌}
 use Prim.Native.Nat.{ℕ, zero, suc, ◌-◌}
 use native.Mathlib.Omega.{arith}
 use lib.ListN.{length, take, drop, get_or, replicate}
-
-abbrev pub nought : ℕ → ℕ
-nought n = 0
-
-pub all-nought : (l : List ℕ) → map nought l ≡ replicate (length l) 0
-all-nought [] = refl
-all-nought (n ∷ l) = ap (λ (m : List ℕ). 0 ∷ m) (all-nought l)
 
 pub zeros-at : (k j : ℕ) → ◌≡◌ {A = ℕ} (get_or (replicate k 0) j 0) 0
 zeros-at zero zero = refl

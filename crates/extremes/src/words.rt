@@ -1,11 +1,11 @@
 // A value in words: numerator and denominator, two words each, as two's complement, the lower word first.
-ghost use Rattle.std.specs.Prelude.{◌≡◌, ◌/◌, ◌%◌};
+ghost use Rattle.std.specs.Prelude.{◌≡◌, ◌/◌, ◌%◌, ℕ};
+ghost use Rattle.codec.specs.Refusing.{answer_by};
 ghost use Rattle.wide.specs.Wide.{value_of};
-ghost use Rattle.extremes.specs.Answers.{fraction_is, extent_is};
+ghost use Rattle.extremes.specs.Answers.{fraction_is, extreme_is};
 ghost use Rattle.extremes.specs.Words.{complement, extreme_words, value_words};
 
 use crate::{Extent, Fraction};
-use model::Refusal;
 use wide::Wide;
 
 fn low(x: Wide) -> u64
@@ -45,9 +45,9 @@ fn fraction_words(f: Fraction) -> [u64; 4]
     [low(x), high(x), d.lo, d.hi]
 }
 
-// 0 where there is no value.
-pub fn value_words(answer: Result<Extent, Refusal>) -> [u64; 4]
-    ensures { result ≡ value_words (extent_is answer) }
+// 0 where there is no value; whatever tells a refusal.
+pub fn value_words<E: Drop>(answer: Result<Extent, E>) -> [u64; 4]
+    ensures { (number : E → ℕ) → result ≡ value_words (answer_by number extreme_is answer) }
 {
     match answer {
         Ok(Extent::Value(f)) => fraction_words(f),

@@ -31,9 +31,12 @@ pub record Walked (s : List ℕ) (n : ℕ) (xs : List ℤ) (k : ℕ) (r : List B
   pub size : length r ≡ most_points
   pub is : (j : ℕ) → j < k → get_or r j false ≡ in_set (point_at n xs j) (set_from s 0)
 
+abbrev pub seen_is : Seen → Fleet
+seen_is s = record { mask = s.mask; count = s.count }
+
 -- the answers of a look
 abbrev pub fleet_is : Result Seen Refusal → Answer Fleet
-fleet_is r = answer_is (λ s. record { mask = s.mask; count = s.count }) r
+fleet_is r = answer_is seen_is r
 
 -- "A refused answer carries its number and otherwise zeros" (document 01, "Refused")
 abbrev pub mask_in : Answer Fleet → ℕ

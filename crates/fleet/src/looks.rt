@@ -1,8 +1,9 @@
 // A list of points against one set.
-ghost use Rattle.std.specs.Prelude.{◌≡◌, ◌<◌};
+ghost use Rattle.std.specs.Prelude.{◌≡◌, ◌<◌, ℕ};
 ghost use Rattle.codec.specs.Places.{Accepted, set_from};
+ghost use Rattle.codec.specs.Refusing.{answer_by};
 ghost use Rattle.fleet.specs.Fleet.{points_of, mask_of, holding, fleet_bytes};
-ghost use Rattle.fleet.specs.Looking.{Points, fleet_is, mask_in};
+ghost use Rattle.fleet.specs.Looking.{Points, seen_is, fleet_is, mask_in};
 
 use crate::marks::{coordinates_fit, mask_of, walked, widened};
 use model::{Refusal, limit};
@@ -44,9 +45,9 @@ pub fn look(n: usize, set: &[u8], points: &[i32]) -> Result<Seen, Refusal>
     })
 }
 
-// Its mask; 0 for a refusal.
-pub fn mask_in(r: Result<Seen, Refusal>) -> u64
-    ensures { result ≡ mask_in (fleet_is r) }
+// Its mask; 0 for a refusal, whatever tells it.
+pub fn mask_in<E: Drop>(r: Result<Seen, E>) -> u64
+    ensures { (number : E → ℕ) → result ≡ mask_in (answer_by number seen_is r) }
 {
     match r {
         Ok(seen) => seen.mask,

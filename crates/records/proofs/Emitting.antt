@@ -1,7 +1,7 @@
 -- Laws of what is put into a table, and of the bytes that are put.
 use mathlib.Core.Path.{◌≡◌, refl, sym, ap, ap₂, ◌∙◌, subst}
 use mathlib.Core.List.{List, [], ◌∷◌, ◌++◌, map, append_assoc, append-nil}
-use Prim.Native.Nat.{ℕ, zero, suc, ◌+◌, ◌-◌, ◌/◌, ◌%◌, ◌≤◌, ◌<◌}
+use Prim.Native.Nat.{ℕ, zero, suc, ◌+◌, ◌-◌, ◌≤◌, ◌<◌}
 use native.Mathlib.Numerals.{add-one}
 use native.Mathlib.Nat.{add-zero}
 use native.Mathlib.Omega.{arith}
@@ -13,7 +13,7 @@ use Rattle.model.specs.Values.{division_of, constraint_of, basic_set_of}
 use Rattle.model.specs.declared.Division.{Division}
 use Rattle.model.specs.declared.Constraint.{Constraint}
 use Rattle.model.specs.declared.BasicSet.{BasicSet}
-use Rattle.codec.specs.Bytes.{bytes_of, Command, division, constraint, encode_command, encode}
+use Rattle.codec.specs.Bytes.{Command, division, constraint, encode_command, encode}
 use Rattle.codec.proofs.Commands.{concat-more, concat-map}
 use Rattle.records.specs.Writing.{put, Emitted}
 
@@ -69,14 +69,6 @@ put-cut at i l o h full =
         sym (put-past (at + length (take i l)) (drop i l) (put at (take i l) o) (omega (arith, put-length at (take i l) o)))
         ∙ sym (put-more at (take i l) (drop i l) o) ∙ ap (λ (m : List ℕ). put at m o) (lib.ListN.take-append-drop i l)
 
--- one byte more of l
-pub put_next : (at i : ℕ) (l o : List ℕ) → i < length l → set (put at (take i l) o) (at + i) (get_or l i 0) ≡ put at (take (i + 1) l) o
-put_next at i l o h =
-    let e : length (take i l) ≡ i = length-take-le i l (omega arith) in
-    sym (put_one (at + i) (get_or l i 0) (put at (take i l) o))
-    ∙ ap (λ (j : ℕ). put (at + j) (get_or l i 0 ∷ []) (put at (take i l) o)) (sym e)
-    ∙ sym (put-more at (take i l) (get_or l i 0 ∷ []) o) ∙ ap (λ (m : List ℕ). put at m o) (sym (take-suc l i 0 h) ∙ ap (λ (j : ℕ). take j l) (sym (add-one i)))
-
 -- a table of its own that is filled whole
 pub put-fresh : (l o : List ℕ) → length o ≡ length l → put 0 l o ≡ l
 put-fresh l o e =
@@ -102,9 +94,6 @@ pub emitted-of : {l m o o' : List ℕ} {at e : ℕ} → l ≡ m → Emitted l o 
 emitted-of {l} {m} {o} {o'} {at} {e} q p = subst (λ (x : List ℕ). Emitted x o at e o') q p
 
 -- ---- the bytes of numbers, commands and basic sets
-pub bytes_4 : (v : ℕ) → bytes_of 4 v ≡ bytes_of 2 v ++ bytes_of 2 (v / 65536)
-bytes_4 v = let e : v / 256 / 256 ≡ v / 65536 = omega arith in ap (λ (x : ℕ). v % 256 ∷ v / 256 % 256 ∷ x % 256 ∷ x / 256 % 256 ∷ []) e
-
 pub concat-one : {A B : Type 0} (f : A → List B) (l : List A) (a : A) → concat_map f (l ++ a ∷ []) ≡ concat_map f l ++ f a
 concat-one f l a = concat-more f l (a ∷ []) ∙ ap (λ (r : List _). concat_map f l ++ r) (append-nil (f a))
 

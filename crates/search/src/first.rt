@@ -44,6 +44,13 @@ fn walked(
     tallied(s, all, &mut rows)
 }
 
+// An answer for which no prefix is tested.
+fn untested(answer: Result<Outcome, Refusal>) -> Result<FirstPoint, Refusal>
+    ensures { answer_is (λ x. x) result ≡ answer_is (λ outcome. record { outcome = outcome; tested = 0 }) answer }
+{
+    answer.map(|outcome| FirstPoint { outcome, tested: 0 })
+}
+
 // The first point of the set in the box, with the number of prefixes tested.
 pub fn first_point(
     n: usize,
@@ -54,18 +61,17 @@ pub fn first_point(
 ) -> Result<FirstPoint, Refusal>
     ensures { answer_is (λ x. x) result ≡ answer_of (search_bytes n set.now lows highs limit) }
 {
-    codec::check(n, set)?;
+    if let Err(refusal) = codec::check(n, set) {
+        return untested(Err(refusal));
+    }
     if !corners_fit(n, lows, highs) {
-        return Err(Refusal::BadPoint);
+        return untested(Err(Refusal::BadPoint));
     }
     if !limit_fits(limit) {
-        return Err(Refusal::BadLimit);
+        return untested(Err(Refusal::BadLimit));
     }
     if !upright(lows, highs) {
-        return Ok(FirstPoint {
-            outcome: Outcome::Nothing,
-            tested: 0,
-        });
+        return untested(Ok(Outcome::Nothing));
     }
     Ok(walked(n, set, lows, highs, limit))
 }

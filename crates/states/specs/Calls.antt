@@ -36,10 +36,13 @@ word_is W.Wide = Wide
 word_is W.Long = Long
 word_is W.Misused = Misused
 
--- each case of the code's answer
+-- each case of the code's answer; `number` is what number an error has
+abbrev pub said_by : {E : Type 0} → (E → ℕ) → Result Said E → Saying
+said_by number (Ok x) = word_is x
+said_by number (Err e) = Refused (number e)
+
 abbrev pub said_is : Result Said Refusal → Saying
-said_is (Ok x) = word_is x
-said_is (Err r) = Refused (number_of r)
+said_is r = said_by number_of r
 
 pub record Step : Type 0 where
   pub said : Saying

@@ -7,4 +7,4 @@ use Rattle.host.proofs.operating.pitsets_intersection.Goals as goal
 pub length_number-requires : goal.length_number-requires
 length_number-requires c =
     let first = bytes_of c.args.a.now (λ i. (c.type_inv.a i).fits) in let second = bytes_of c.args.b.now (λ i. (c.type_inv.b i).fits) in
-    short-of _ c.intersection.result c.intersection.ensures _ (λ l. intersection-within _ _ _ _ l first second)
+    short-of _ c.intersection.result c.intersection.ensures _ (λ l. intersection-within _ _ _ _ l (search) (search))
