@@ -31,6 +31,9 @@ pick-within {B} {u} {v} a h k = go (non_neg a)
 pub term-within : {B : ℕ} {a u v : ℤ} → Within 32768 a → Within B u → Within B v → Within (32768 * B) (a *ℤ cond (non_neg a) u v)
 term-within {B} {a} w h k = within-mul w (pick-within a h k)
 
+pub product-fits : {a u : ℤ} → Within 32768 a → Within 2199023255552 u → SFits w64 (a *ℤ u)
+product-fits h k = within-fits (omega arith) (within-mul h k)
+
 pub term-plain : {a u v : ℤ} → Within 32768 a → Within 2199023255552 u → Within 2199023255552 v
     → to_z w64 (of_z w64 a) *ℤ cond (non_neg (to_z w64 (of_z w64 a))) (to_z w64 (of_z w64 u)) (to_z w64 (of_z w64 v)) ≡ a *ℤ cond (non_neg a) u v
 term-plain {a} {u} {v} ha hu hv =

@@ -57,6 +57,9 @@ within_all m (z ∷ x) t =
     let h : z ≤ℤ pos (suc m) = record { le = and_right (le_z (negsuc m) z) (le_z z (pos (suc m))) b } in
     all_cons (within_of l h) (within_all m x (and_right (within (negsuc m) (pos (suc m)) z) (all (within (negsuc m) (pos (suc m))) x) t))
 
+pub zeros-all : {m : ℕ} → AllWithin m (pos 0 ∷ pos 0 ∷ pos 0 ∷ pos 0 ∷ pos 0 ∷ pos 0 ∷ pos 0 ∷ pos 0 ∷ [])
+zeros-all {m} = let z : Within m (pos 0) = record { size = omega arith } in all_cons z (all_cons z (all_cons z (all_cons z (all_cons z (all_cons z (all_cons z (all_cons z all_nil)))))))
+
 pub set-within : (m : ℕ) (q : List ℤ) (i : ℕ) (v : ℤ) → AllWithin m q → Within m v → i < length q → AllWithin m (set q i v)
 set-within m q i v a h l = record {
   at = λ j. by (λ (b : Bool). Within m (get_or (set q i v) j (pos 0))) (eqb j i)

@@ -1,17 +1,18 @@
 -- The candidates of a cut, and the test of the working constraints as it grows. Assumes nothing.
 use mathlib.Core.Path.{◌≡◌, refl, sym, ap, ap₂, ◌∙◌, subst}
-use mathlib.Core.Bool.{Bool, false}
+use mathlib.Core.Bool.{Bool, true, false, cond}
 use mathlib.Core.List.{List, [], ◌∷◌, ◌++◌, map, append_assoc}
 use Prim.Native.Nat.{ℕ, ◌+◌, ◌-◌, ◌*◌, ◌≤◌, ◌<◌}
 use native.Mathlib.Numerals.{add-one}
 use native.Mathlib.Omega.{arith}
+use borrow.Author.Tests.{eq-eqb, ne_eqb}
 use lib.Dec.{T}
 use lib.IntN.{ℤ}
 use lib.ListN.{length, take, get_or, set, length-map, length-append}
 use lib.Seq.{length-take-le, get_or-take, get_or-append-add, take-suc, take_all, take-take, take-append_seam}
 use Rattle.integers.specs.Mach.{clash}
-use Rattle.model.specs.Sets.{Kind, equality, Constraint, BasicSet, bounds, conditions}
-use Rattle.model.specs.Values.{division_of, constraint_of, basic_set_of}
+use Rattle.model.specs.Sets.{Kind, equality, inequality, Constraint, BasicSet, bounds, conditions}
+use Rattle.model.specs.Values.{kind_is, division_of, constraint_of, basic_set_of}
 use Rattle.model.specs.declared.Constraint.{Constraint as StoredConstraint}
 use Rattle.model.specs.declared.BasicSet.{BasicSet as Stored}
 use Rattle.model.proofs.Lists.{map-take, map_get}
@@ -25,14 +26,14 @@ use Rattle.simplex.specs.declared.Verdict.TheVariants.{Point, Dropped, Long, Wid
 use Rattle.simplex.specs.Answers.{verdict_of}
 use Rattle.carrying.specs.Carried.{is_wide}
 use Rattle.sharing.specs.declared.history.Standing.{Standing}
-use Rattle.sharing.specs.Working.{trace_of, Stands, Grown, Tried}
+use Rattle.sharing.specs.Working.{trace_of, Stands, Growing, Grown, Tried}
 use Rattle.sharing.proofs.Firsts.{first-tests}
 use Rattle.sharing.proofs.Begins.{bounds-long}
 use Rattle.algebra.specs.Tighten.{void}
 use Rattle.algebra.specs.Cut.{is_kept, keeps}
 use Rattle.joining.specs.Joining.{Below, Above, Settled}
 use Rattle.joining.proofs.Placing.{no_constraint, map-pushed}
-use Rattle.candidates.specs.Candidates.{Tables, with_last, candidate, no_rule, Opposed, Holds, Behind, Caught}
+use Rattle.candidates.specs.Candidates.{Tables, with_last, candidate, no_rule, Opposed, Holds, Behind, Caught, Followed, followed}
 
 -- ---- a constraint put behind the first ones
 
@@ -87,6 +88,14 @@ pub put_last : (w : Stored) → length w.constraints ≡ 48 → w.cons ≤ 48 �
 put_last w l h o =
     let z : length (basic_set_of w).constraints ≡ w.cons = length-map (take w.cons w.constraints) constraint_of ∙ length-take-le w.cons w.constraints (omega arith) in
     ap (λ (cs : List Constraint). record { divisions = (basic_set_of w).divisions; constraints = cs ++ (o ∷ []) }) (take_all w.cons (basic_set_of w).constraints (omega arith))
+
+-- an opposite is an inequality
+pub opposite-plain : (o : StoredConstraint) (r : Constraint) → constraint_of o ≡ r → r.kind ≡ inequality → o.equality ≡ false
+opposite-plain o r e k = at o.equality (ap (λ (c : Constraint). c.kind) e ∙ k)
+  where
+    at : (b : Bool) → kind_is b ≡ inequality → b ≡ false
+    at true q = let z : ◌≡◌ {A = ℕ} 0 1 = cc in absurd (omega arith)
+    at false q = refl
 
 pub opposed : (n k : ℕ) (r : StoredConstraint) → ((t : Bool) → t ≡ void (constraint_of r) → Settled (constraint_of r) t) → ValidConstraint n k (constraint_of r) → Opposed r
 opposed n k r s v = record { below = below_of v; above = λ e. above_of e v; settled = s }
@@ -146,6 +155,9 @@ module _ {w : Stored} (valid : Counted w) where
       pub behind-inside : x.rows - 2 * w.divs < w.cons
       behind-inside = let f = g.from in omega arith
 
+      pub behind-growing : Growing w.divs x rows place kinds past columns
+      behind-growing = let d = g.divs in let c = g.cons in record { cs = take x.rows (conditions (basic_set_of w)); stands = g.stands; less = omega arith }
+
       pub behind-grown : {x' : Standing} {rows' : List (List ℤ)} {place' kinds' : List ℕ} {past' : List (List ℤ)} {columns' : List ℕ}
           → Grown w.divs (get_or w.constraints (x.rows - 2 * w.divs) no_constraint) x rows place kinds past columns x' rows' place' kinds' past' columns' → Behind w x' rows' place' kinds' past' columns' × (x'.rows ≡ x.rows + 1)
       behind-grown {x'} {rows'} {place'} {kinds'} {past'} {columns'} d =
@@ -176,5 +188,44 @@ behind-end {w} {x} {rows} {place} {kinds} {past} {columns} g h =
     let z = g.size in
     record { count = g.count; size = g.size; stands = subst (λ (l : List Constraint). Stands w.divs l x rows place kinds past columns) (take_all x.rows (conditions (basic_set_of w)) (omega arith)) g.stands }
 
+module _ {w : Stored} {x : Standing} {rows : List (List ℤ)} {place kinds : List ℕ} {past : List (List ℤ)} {columns : List ℕ} (g : Caught w x rows place kinds past columns) where
+  pub caught-all : 2 * w.divs + w.cons ≤ x.rows
+  caught-all = let z = g.size in let n = g.stands.size in omega arith
+
+  pub caught-behind : w.divs ≤ 8 → w.cons ≤ 48 → Behind w x rows place kinds past columns
+  caught-behind d c =
+      let z = g.size in
+      let n = g.stands.size in
+      record {
+        divs = d;
+        cons = c;
+        count = g.count;
+        size = g.size;
+        from = omega arith;
+        upto = omega arith;
+        stands = subst (λ (l : List Constraint). Stands w.divs l x rows place kinds past columns) (sym (take_all x.rows (conditions (basic_set_of w)) (omega arith))) g.stands;
+      }
+
 pub caught-holds : {w : Stored} {h : Standing} {rows : List (List ℤ)} {place kinds : List ℕ} {past : List (List ℤ)} {columns : List ℕ} → Caught w h rows place kinds past columns → Holds w.divs (basic_set_of w) h rows place kinds past columns
 caught-holds g = record { divs = g.count; stands = g.stands }
+
+pub caught-growing : {w : Stored} {h : Standing} {rows : List (List ℤ)} {place kinds : List ℕ} {past : List (List ℤ)} {columns : List ℕ} → Caught w h rows place kinds past columns → w.divs ≤ 8 → w.cons < 48 → Growing w.divs h rows place kinds past columns
+caught-growing {w} g d c = let n = g.size in let z = g.stands.size in record { cs = conditions (basic_set_of w); stands = g.stands; less = omega arith }
+
+-- ---- the test goes on, or stays
+
+module _ {k : ℕ} {r : StoredConstraint} {p : Bool} {left : ℕ} {h : Standing} {rows : List (List ℤ)} {place kinds : List ℕ} {past : List (List ℤ)} {columns : List ℕ} where
+  pub follow-none : p ≡ false → Followed k r p left h rows place kinds past columns h rows place kinds past columns
+  follow-none e = record { stands = λ cs g. subst (λ (b : Bool). Stands k (followed b left r cs) h rows place kinds past columns) (sym e) g }
+
+  pub follow-last : left ≡ 0 → Followed k r p left h rows place kinds past columns h rows place kinds past columns
+  follow-last e = record { stands = λ cs g. subst (λ (l : List Constraint). Stands k l h rows place kinds past columns) (at p cs ∙ ap (λ (b : Bool). cond p (cond b cs (cs ++ (constraint_of r ∷ []))) cs) (sym (eq-eqb left 0 e))) g }
+    where
+      at : (b : Bool) (cs : List Constraint) → cs ≡ cond b cs cs
+      at true cs = refl
+      at false cs = refl
+
+  pub follow-on : {h' : Standing} {rows' : List (List ℤ)} {place' kinds' : List ℕ} {past' : List (List ℤ)} {columns' : List ℕ} → p ≡ true → (left ≡ 0 → ⊥) → Grown k r h rows place kinds past columns h' rows' place' kinds' past' columns'
+      → Followed k r p left h rows place kinds past columns h' rows' place' kinds' past' columns'
+  follow-on {h'} {rows'} {place'} {kinds'} {past'} {columns'} e z d =
+      record { stands = λ cs g. subst (λ (l : List Constraint). Stands k l h' rows' place' kinds' past' columns') (sym (ap₂ (λ (b q : Bool). cond b (cond q cs (cs ++ (constraint_of r ∷ []))) cs) e (ne_eqb left 0 z))) (d.grown cs g) }

@@ -9,7 +9,8 @@ use native.Mathlib.Numerals.{add-one}
 use native.Mathlib.Omega.{arith}
 use borrow.Author.Tests.{ltb-true, lt-ltb, le-ltb, le-leb, lt-leb, ne_eqb, leb-true, eqb-true}
 use lib.Dec.{T, ltb, leb, eqb}
-use lib.IntN.{ℤ}
+use lib.IntN.{ℤ, negsuc}
+use lib.Signed.{le_z}
 use lib.ListN.{length, take, drop, get_or, drop_of_length-le, length-drop}
 use lib.Seq.{drop-cons, drop-drop}
 use lib.Dec.{ltb→lt}
@@ -17,8 +18,8 @@ use Rattle.integers.specs.LittleEndian.{signed-ind}
 use Rattle.model.specs.Lists.{all}
 use Rattle.model.specs.Sets.{Constraint, is_zero, absent, equality, inequality}
 use Rattle.model.specs.Numbers.{numbered}
-use Rattle.codec.specs.Bytes.{Answer, refused, gives, value_of, signed, signed_list, coefficient, constant_fits, constant_in, axes_in, divisions_in, Command, opens, division, constraint, is_division, is_bare, is_numbered, is_constraint, is_equality, goes_on, has_head, misnumbered, body_of, head_of, division_body, constraint_body, kind_of, Counts, first_failing, tests_of, refusal, counted, width_of, read_division, read_constraint, body_in, is_misnumbered, read_rule, read_command, head_refusal, after, parse, set_of, axes_fit, decode, number}
-use Rattle.codec.specs.Places.{bare_width, numbered_width}
+use Rattle.codec.specs.Bytes.{Answer, refused, gives, value_of, signed, signed_list, coefficient, constant_fits, constant_in, axes_in, divisions_in, Command, opens, division, constraint, is_opening, is_division, is_bare, is_numbered, is_constraint, is_equality, goes_on, has_head, misnumbered, body_of, head_of, division_body, constraint_body, kind_of, Counts, first_failing, tests_of, refusal, counted, width_of, read_division, read_constraint, body_in, is_misnumbered, read_rule, read_command, head_refusal, after, parse, set_of, axes_fit, decode, number}
+use Rattle.codec.specs.Places.{bare_width, numbered_width, longest_constraint}
 
 -- ---- lists of coefficients
 pub all_more : (f : ℤ → Bool) (left p : ℕ) (s : List ℕ) → (left ≡ 0 → ⊥) → all f (signed_list left (drop p s)) ≡ (f (signed 2 (value_of (take 2 (drop p s)))) && all f (signed_list (left - 1) (drop (p + 2) s)))
@@ -64,6 +65,9 @@ zero-not v h n = signed-ind 2 (λ (z : ℤ). is_zero z ≡ false) v (λ l. ne_eq
 
 pub zero-is : (v : ℕ) → v < 65536 → leb v 0 ≡ is_zero (signed 2 v)
 zero-is v h = ⊎_elim (λ e. le-leb v 0 (omega (arith, e.1)) ∙ sym (zero-yes v e.1)) (λ e. lt-leb v 0 (omega (arith, e.1)) ∙ sym (zero-not v h e.1)) (eqb_tells v 0)
+
+pub equality-yes : (v : ℕ) → v < 4294967296 → (v ≡ 2147483648 → ⊥) → constant_fits equality (signed 4 v) ≡ true
+equality-yes v k h = signed-ind 4 (λ (z : ℤ). le_z (negsuc 2147483646) z ≡ true) v (λ l. refl) (λ l. le-leb (4294967296 - suc v) 2147483646 (omega arith))
 
 -- ---- tests in a row
 pub pos-ltb : (b : ℕ) → (b ≡ 0 → ⊥) → ltb 0 b ≡ true
@@ -261,6 +265,20 @@ off_code b e =
     let x : eqb b 0x13 ≡ false = ne_eqb b 0x13 (λ z. omega arith) in let y : eqb b 0x14 ≡ false = ne_eqb b 0x14 (λ z. omega arith) in
     let u : eqb b 0x16 ≡ false = ne_eqb b 0x16 (λ z. omega arith) in let v : eqb b 0x17 ≡ false = ne_eqb b 0x17 (λ z. omega arith) in
     (ne_eqb b 0x12 (λ z. omega arith), simp (x, y, u, v))
+
+-- the width by the tests of the first byte: it opens, is a division, a constraint, has a number
+abbrev width_by : Bool → Bool → Bool → Bool → ℕ
+width_by x y z m = cond x 1 (cond y (cond (y || m) 3 1 + division_body) (cond z (cond (y || m) 3 1 + constraint_body) 0))
+
+pub width-most : (b : ℕ) → width_of b ≤ longest_constraint
+width-most b = go (is_opening b) (is_division b) (is_constraint b) (is_numbered b)
+  where
+    go : (x y z m : Bool) → width_by x y z m ≤ longest_constraint
+    go true y z m = omega arith
+    go false true z m = omega arith
+    go false false true true = omega arith
+    go false false true false = omega arith
+    go false false false m = omega arith
 
 pub kind-equality : (b : ℕ) → is_equality b ≡ true → kind_of b ≡ equality
 kind-equality b e = ap (λ (x : Bool). cond x equality inequality) e

@@ -9,7 +9,7 @@ use native.Mathlib.Omega.{arith}
 use borrow.Author.Tests.{eqb-true, eqb-false}
 use lib.Dec.{eqb}
 use lib.IntN.{ℤ, pos, negsuc}
-use lib.Signed.{◌≤ℤ◌, le_z}
+use lib.Signed.{◌≤ℤ◌, le_z, ≤ℤ_refl}
 use lib.ListN.{length, take, drop, get_or, set, replicate, get_or-replicate, get_or-append}
 use lib.Seq.{get_or-set_same, get_or-set_other}
 use Rattle.integers.specs.Order.{≤ℤ-trans, ≤ℤ-antisymm}
@@ -23,6 +23,9 @@ use Rattle.codec.proofs.Parsing.{both, absent-of}
 use Rattle.codec.proofs.Flags.{from, from_start, from_end, passed}
 
 -- ---- at each place
+pub under_same : (x : List ℤ) → Under x x
+under_same x = record { each = λ i h. ≤ℤ_refl (get_or x i (pos 0)) }
+
 pub under_more : (x y z : List ℤ) → Under x y → Under y z → Under x z
 under_more x y z p q = record { each = λ i h. ≤ℤ-trans (p.each i h) (q.each i h) }
 

@@ -8,8 +8,8 @@ use native.Mathlib.Numerals.{add-one}
 use native.Mathlib.Omega.{arith}
 use borrow.Author.Tests.{eq-eqb, ne_eqb, le-leb, lt-leb}
 use lib.Dec.{eqb}
-use lib.ListN.{length, take, drop, get_or, set, length-append, drop_of_length-le, get_or-append}
-use lib.Seq.{drop-cons, take-append-le, take-append_seam, get_or-append_seam, take-set-le}
+use lib.ListN.{length, take, drop, get_or, set, length-append, length-set, drop_of_length-le, get_or-append}
+use lib.Seq.{drop-cons, take-append-le, take-append_seam, get_or-append_seam, take-suc-set, take-set-le}
 use Rattle.model.specs.Lists.{cons_if, is_nil, All}
 use Rattle.model.specs.Sets.{Division, Kind, equality, inequality, Constraint, BasicSet}
 use Rattle.model.specs.Values.{constraint_of}
@@ -30,6 +30,31 @@ use Rattle.joining.proofs.Dividing.{reduced-kind, reduced-below, reduced-above, 
 pub bit-small : (b : Bool) → cond b 1 0 ≤ 1
 bit-small true = omega arith
 bit-small false = omega arith
+
+-- the next constraint is a later one, at most the end
+pub passed_on : (b : Bool) (k n m : ℕ) → k < n → m ≡ cond b n (k + 1) → (k < m) × (m ≤ n)
+passed_on true k n m h e = (omega arith, omega arith)
+passed_on false k n m h e = (omega arith, omega arith)
+
+-- one step each for those that are kept
+pub steps-stored : (l : List ℕ) (n u v : ℕ) (a b : Bool) → n + 1 < length l → take (n + cond a 1 0 + cond b 1 0) (set (set l n u) (n + cond a 1 0) v) ≡ take n l ++ (cond a (u ∷ []) [] ++ cond b (v ∷ []) [])
+steps-stored l n u v true true h =
+    let g : n < length l = omega arith in
+    let k : n + 1 < length (set l n u) = rw (length-set) h in
+    let e : take (n + 1 + 1) (set (set l n u) (n + 1) v) ≡ take (n + 1) (set l n u) ++ (v ∷ []) = rw (add-one (n + 1)) (take-suc-set (set l n u) (n + 1) v k) in
+    let f : take (n + 1) (set l n u) ≡ take n l ++ (u ∷ []) = rw (add-one) (take-suc-set l n u g) in
+    e ∙ ap (λ (x : List ℕ). x ++ (v ∷ [])) f ∙ append_assoc (take n l) (u ∷ []) (v ∷ [])
+steps-stored l n u v true false h =
+    let g : n < length l = omega arith in
+    let f : take (n + 1) (set l n u) ≡ take n l ++ (u ∷ []) = rw (add-one) (take-suc-set l n u g) in
+    ap (λ (k : ℕ). take k (set (set l n u) (n + 1) v)) (add-zero (n + 1)) ∙ take-set-le (n + 1) (set l n u) (n + 1) v (le_refl (n + 1)) ∙ f
+steps-stored l n u v false true h =
+    let k : n < length (set l n u) = rw (length-set) (omega arith) in
+    let e : take (n + 1) (set (set l n u) n v) ≡ take n (set l n u) ++ (v ∷ []) = rw (add-one) (take-suc-set (set l n u) n v k) in
+    ap (λ (j : ℕ). take (j + 1) (set (set l n u) j v)) (add-zero n) ∙ e ∙ ap (λ (x : List ℕ). x ++ (v ∷ [])) (take-set-le n l n u (le_refl n))
+steps-stored l n u v false false h =
+    ap (λ (j : ℕ). take j (set (set l n u) (n + 0) v)) (add-zero (n + 0)) ∙ ap (λ (j : ℕ). take j (set (set l n u) j v)) (add-zero n)
+    ∙ take-set-le n (set l n u) n v (le_refl n) ∙ take-set-le n l n u (le_refl n) ∙ sym (append-nil (take n l))
 
 pub joined-stored : (cs : List StoredConstraint) (n : ℕ) (r : StoredConstraint) (b : Bool) → n < length cs
     → map constraint_of (take (n + cond b 1 0) (set cs n r)) ≡ cond b (map constraint_of (take n cs) ++ (constraint_of r ∷ [])) (map constraint_of (take n cs))
@@ -183,6 +208,9 @@ pub record Carved (keep : BasicSet → Bool) (ds : List Division) (w₀ rs : Lis
   pub fits : candidates_fit keep ds w (drop k rs) ≡ candidates_fit keep ds w₀ rs
   pub steps : All (Step w) vs
   pub every : (n d : ℕ) → All (ValidConstraint n d) w₀ → All (ValidConstraint n d) rs → All (ValidConstraint n d) w
+
+pub carved-start : (keep : BasicSet → Bool) (ds : List Division) (w rs : List Constraint) → Carved keep ds w rs 0 w []
+carved-start keep ds w rs = record { pieces = refl; fits = refl; steps = tt; every = λ n d p q. p }
 
 module _ (keep : BasicSet → Bool) (ds : List Division) (w₀ rs : List Constraint) (k : ℕ) (w : List Constraint) (vs : List ℕ) (c : Carved keep ds w₀ rs k w vs) where
   -- a candidate over 48

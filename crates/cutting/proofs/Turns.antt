@@ -1,15 +1,16 @@
 -- The loop of a cut: what holds between two constraints of the cutter.
-use mathlib.Core.Path.{◌≡◌, sym, ap, ap₂, ◌∙◌, subst}
+use mathlib.Core.Path.{◌≡◌, refl, sym, ap, ap₂, ◌∙◌, subst}
 use mathlib.Core.Bool.{Bool, true, false, ◌&&◌, ◌||◌, cond}
 use mathlib.Core.List.{List, [], ◌∷◌, ◌++◌, map, append_assoc, append-nil}
-use Prim.Native.Nat.{ℕ, ◌+◌, ◌≤◌, ◌<◌}
+use Prim.Native.Nat.{ℕ, ◌+◌, ◌≤◌, ◌<◌, zero-le}
 use native.Mathlib.Nat.{add-zero}
 use native.Mathlib.Omega.{arith}
 use native.Mathlib.Numerals.{add-one}
+use lib.Dec.{leb}
 use lib.IntN.{ℤ}
 use lib.ListN.{length, take, get_or, set, length-map, length-append, length-set}
-use lib.Seq.{length-take-le, get_or-take, take-suc}
-use borrow.Author.Tests.{leb-true}
+use lib.Seq.{length-take-le, get_or-take, take-suc, take_all}
+use borrow.Author.Tests.{leb-true, le-leb, lt-leb}
 use Rattle.model.specs.Lists.{all, concat_map, All}
 use Rattle.model.proofs.Lists.{map_get}
 use Rattle.model.proofs.Count.{and-true}
@@ -26,15 +27,15 @@ use Rattle.algebra.specs.Cut.{above, below, cut_by, joined_divisions, moved_cons
 use Rattle.cutting.specs.declared.pieces.CutSteps.{CutSteps}
 use Rattle.joining.specs.declared.divisions.Joined.{Joined}
 use Rattle.candidates.specs.declared.survivors.Survivors.{Survivors}
-use Rattle.joining.specs.Joining.{Joining, reduced_of, Settled}
+use Rattle.joining.specs.Joining.{Joining, Placed, reduced_of, Settled}
 use Rattle.candidates.specs.Candidates.{no_rule, candidate, is_equality, Keeping}
 use Rattle.std.specs.Prelude.{Option, Some, None}
 use Rattle.std.proofs.lemmas.Option.{IfSome_then}
-use Rattle.cutting.specs.Cutting.{piece_of, steps_at, Extending, Pair, CutIs, CutTightIs}
+use Rattle.cutting.specs.Cutting.{piece_of, steps_at, Extending, Pair, CutIs, CutTightIs, BothIs}
 use Rattle.joining.proofs.Placing.{no_constraint, All-at, map-pushed}
 use Rattle.joining.proofs.Dividing.{void-reduced, reduced-valid, reduced-settled}
 use Rattle.algebra.proofs.Closed.{Tight, joined-valid, first-valid, second-valid}
-use Rattle.cutting.proofs.Steps.{bit-small, Carved, carved-full, carved-next, carved-end}
+use Rattle.cutting.proofs.Steps.{bit-small, Carved, carved-start, carved-full, carved-next, carved-end}
 
 -- the cutter's constraints, moved
 abbrev pub moved_to : List ℕ → Stored → List Constraint
@@ -102,6 +103,32 @@ pub record Going (rows₀ : List (List ℤ)) (place₀ kinds₀ : List ℕ) (c :
 pub sized : (b : Stored) → length b.constraints ≡ 48 → b.cons ≤ 48 → length (basic_set_of b).constraints ≡ b.cons
 sized b l h = length-map (take b.cons b.constraints) constraint_of ∙ length-take-le b.cons b.constraints (omega arith)
 
+-- ---- over 8 divisions
+
+module _ {a c : Stored} {m : ℕ} (jn : Joining (basic_set_of a).divisions (basic_set_of c).divisions m None) where
+  pub both-unjoined : BothIs a c None
+  both-unjoined =
+      record {
+        fits = sym (ap (λ (b : Bool). b && leb (length (basic_set_of a).constraints + length (basic_set_of c).constraints) 48) (sym jn.fits));
+        is = tt;
+        divs = tt;
+        cons = tt;
+      }
+
+  pub unjoined : CutTightIs a c None
+  unjoined =
+      let A : BasicSet = basic_set_of a in
+      let C : BasicSet = basic_set_of c in
+      record {
+        fits = sym (ap (λ (b : Bool). b && candidates_fit keeps (joined_divisions A C) A.constraints (moved_constraints A C)) (sym jn.fits));
+        pieces = tt;
+        steps = tt;
+        valid = tt;
+        divs = tt;
+        cons = tt;
+        count = tt;
+      }
+
 -- ---- once joined
 
 module _ (a c : Stored) (j : Joined) (pair : Pair a c) (jn : Joining (basic_set_of a).divisions (basic_set_of c).divisions c.divs (Some j)) (la : length a.constraints ≡ 48) (lc : length c.constraints ≡ 48) where
@@ -120,6 +147,9 @@ module _ (a c : Stored) (j : Joined) (pair : Pair a c) (jn : Joining (basic_set_
   long-rs : length (moved_to (take c.divs j.places) c) ≡ c.cons
   long-rs = length-map C.constraints (move_constraint (take c.divs j.places)) ∙ sized c lc pair.cons'
 
+  pub placed-is : Placed (take c.divs j.places)
+  placed-is = record { ds = A.divisions; es = C.divisions; places = jn.places; few = few }
+
   -- a constraint of the cutter, as it is read and moved
   moved_at : (k : ℕ) → k < c.cons → get_or (moved_to (take c.divs j.places) c) k no_rule ≡ move_constraint (take c.divs j.places) (constraint_of (get_or c.constraints k no_constraint))
   moved_at k h =
@@ -132,10 +162,39 @@ module _ (a c : Stored) (j : Joined) (pair : Pair a c) (jn : Joining (basic_set_
       → get_or (moved_to (take c.divs j.places) c) k no_rule ≡ constraint_of r
   moved-read k h r is = moved_at k h ∙ sym is
 
+  pub gathered-start : Gathered A.constraints (moved_to (take c.divs j.places) c) a.cons 0 a.constraints
+  gathered-start = record { long = la; is = ap (λ (m : ℕ). map constraint_of (take m a.constraints)) (add-zero a.cons) ∙ sym (append-nil A.constraints) }
+
   pub gathered-more : (k : ℕ) (cs : List StoredConstraint) → Gathered A.constraints (moved_to (take c.divs j.places) c) a.cons k cs → k < c.cons → a.cons + c.cons ≤ 48
       → (r : StoredConstraint) → constraint_of r ≡ move_constraint (take c.divs j.places) (constraint_of (get_or c.constraints k no_constraint))
       → Gathered A.constraints (moved_to (take c.divs j.places) c) a.cons (k + 1) (set cs (a.cons + k) r)
   gathered-more k cs g h m r is = gathered_next A.constraints (moved_to (take c.divs j.places) c) a.cons k cs g (omega arith) (subst (λ (n : ℕ). k < n) (sym long-rs) h) r (moved-read k h r is)
+
+  sizes : length A.constraints + length C.constraints ≡ a.cons + c.cons
+  sizes = ap₂ ◌+◌ (sized a la pair.cons) (sized c lc pair.cons')
+
+  pub both-over : 48 < a.cons + c.cons → BothIs a c None
+  both-over h =
+      record {
+        fits = sym (ap₂ (λ (x y : Bool). x && y) (sym jn.fits) (lt-leb (length A.constraints + length C.constraints) 48 (subst (λ (n : ℕ). 48 < n) (sym sizes) h)));
+        is = tt;
+        divs = tt;
+        cons = tt;
+      }
+
+  pub both_end : (k : ℕ) (cs : List StoredConstraint) → Gathered A.constraints (moved_to (take c.divs j.places) c) a.cons k cs → k ≡ c.cons → a.cons + c.cons ≤ 48
+      → BothIs a c (Some (record { divisions = j.divisions; constraints = cs; divs = j.divs; cons = a.cons + c.cons }))
+  both_end k cs g e h =
+      let rs : List Constraint = moved_to (take c.divs j.places) c in
+      let q : take k rs ≡ rs = take_all k rs (let z = long-rs in omega arith) in
+      let p : map constraint_of (take (a.cons + c.cons) cs) ≡ A.constraints ++ moved_constraints A C =
+      ap (λ (n : ℕ). map constraint_of (take (a.cons + n) cs)) (sym e) ∙ g.is ∙ ap (λ (l : List Constraint). A.constraints ++ l) (q ∙ rs-is) in
+      record {
+        fits = sym (ap₂ (λ (x y : Bool). x && y) (sym jn.fits) (le-leb (length A.constraints + length C.constraints) 48 (subst (λ (n : ℕ). n ≤ 48) (sym sizes) h)));
+        is = λ i. record { divisions = jn.all i; constraints = p i };
+        divs = jn.few;
+        cons = h;
+      }
 
   -- ---- the cut of a by c
 
@@ -149,6 +208,23 @@ module _ (a c : Stored) (j : Joined) (pair : Pair a c) (jn : Joining (basic_set_
     module _ (rows₀ : List (List ℤ)) (place₀ kinds₀ : List ℕ) where
       abbrev Goes : List (List ℤ) → List ℕ → List ℕ → CutSteps → ℕ → Type 0
       Goes rows place kinds s k = Going rows₀ place₀ kinds₀ c c.divs j.places s₀ rows place kinds s k
+
+      pub going_start : Goes rows₀ place₀ kinds₀ s₀ 0
+      going_start =
+          record {
+            high = refl;
+            long = refl;
+            wide = refl;
+            within = zero-le;
+            carved =
+                subst (λ (n : ℕ). Carved keeps (basic_set_of s₀.working).divisions (basic_set_of s₀.working).constraints (moved_to (take c.divs j.places) c) 0 (basic_set_of s₀.working).constraints (take n s₀.steps))
+                (sym bg.count) (carved-start keeps (basic_set_of s₀.working).divisions (basic_set_of s₀.working).constraints (moved_to (take c.divs j.places) c));
+            divisions = refl;
+            divs = refl;
+            cons = let e = bg.cons in let h = pair.cons in omega arith;
+            size = ap length w-is ∙ sized a la pair.cons ∙ sym bg.cons;
+            count = let e = bg.count in omega arith;
+          }
 
       module _ (rows : List (List ℤ)) (place kinds : List ℕ) (s : CutSteps) (k : ℕ) (g : Goes rows place kinds s k) where
         valid-working : (n : ℕ) → Valid n A → Valid n C → Valid n (basic_set_of s.working)
@@ -287,6 +363,12 @@ pub record Opened (a c : Stored) (j : Joined) (s₀ : CutSteps) : Type 0 where
   pub begun : Begun a j.divisions j.divs s₀
 
 module _ {a c : Stored} {j : Joined} {s₀ : CutSteps} (o : Opened a c j s₀) where
+  pub opened-placed : Placed (take c.divs j.places)
+  opened-placed = placed-is a c j o.pair o.join o.first o.second
+
+  pub opened-start : (rows : List (List ℤ)) (place kinds : List ℕ) → Going rows place kinds c c.divs j.places s₀ rows place kinds s₀ 0
+  opened-start = going_start a c j o.pair o.join o.first o.second s₀ o.begun
+
   module _ {rows₀ : List (List ℤ)} {place₀ kinds₀ : List ℕ} {rows : List (List ℤ)} {place kinds : List ℕ} {s : CutSteps} {k : ℕ} (g : Going rows₀ place₀ kinds₀ c c.divs j.places s₀ rows place kinds s k) where
     pub opened-full : k < c.cons → s.working.cons ≡ 48 → CutTightIs a c None
     opened-full = going-full a c j o.pair o.join o.first o.second s₀ o.begun rows₀ place₀ kinds₀ rows place kinds s k g

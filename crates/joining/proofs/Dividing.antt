@@ -3,20 +3,21 @@ use mathlib.Core.Path.{◌≡◌, refl, sym, ap, ap₂, ◌∙◌, subst}
 use mathlib.Core.Bool.{Bool, true, false, ◌||◌, cond}
 use mathlib.Core.List.{List, [], ◌∷◌, ◌++◌, map}
 use Prim.Native.Nat.{ℕ, zero, suc, ◌+◌, ◌≤◌, ◌<◌, ◌∣◌, zero-le}
-use native.Mathlib.Nat.{le_of_dvd, le_of_suc-le-suc, not-suc-le-zero, zero-lt-suc, le_trans, eq-one_of_dvd-one}
+use native.Mathlib.Nat.{le_of_dvd, le_of_suc-le-suc, not-suc-le-zero, zero-lt-suc, le_trans, eq-one_of_dvd-one, div-le_self}
 use native.Mathlib.Numerals.{add-one}
 use native.Mathlib.Omega.{arith}
-use borrow.Author.Tests.{lt-ltb, le-ltb}
+use borrow.Author.Tests.{lt-ltb, le-ltb, ne_eqb}
 use lib.Dec.{ltb, eqb→eq}
 use lib.IntN.{ℤ, pos, negsuc, nat_abs}
-use lib.ListN.{length, take, drop, get_or, set, length-map, get_or-map}
+use lib.Signed.{mag}
+use lib.ListN.{length, take, drop, get_or, set, length-map, drop_of_length-le, get_or-map}
 use lib.Seq.{drop-cons, take-length}
 use mir.Syntax.{w16}
 use mir.Val.{SFits}
-use Rattle.model.proofs.Count.{to-T}
+use Rattle.model.proofs.Count.{to-T, suc_inj}
 use Rattle.model.specs.Lists.{any}
 use Rattle.model.proofs.Lists.{map-take, map-set, up_to, up_to-none, up_to-next, up_to-more, up_to-take, each, each_at}
-use Rattle.model.specs.Sets.{equality, Constraint}
+use Rattle.model.specs.Sets.{floor_div, equality, Constraint}
 use Rattle.codec.specs.Valid.{ValidConstraint}
 use Rattle.algebra.specs.Cut.{above, below}
 use Rattle.algebra.proofs.Tightened.{below_again, above-again, tight-kind, tight-tight, void-tight}
@@ -65,6 +66,10 @@ common-one (x ∷ xs) (suc k) g e = ap (gcd (nat_abs x)) (common-one xs k g e) �
 
 -- ---- 1 or −1 among the numbers
 
+pub not-unit : (z : ℤ) → (z ≡ pos 1 → ⊥) → (z ≡ negsuc 0 → ⊥) → false ≡ is_unit z
+not-unit (pos n) p q = sym (ne_eqb n 1 (λ e. p (ap pos e)))
+not-unit (negsuc n) p q = sym (ne_eqb (suc n) 1 (λ e. q (ap negsuc (suc_inj e))))
+
 one-common : (zs : List ℤ) → common_from 1 zs ≡ 1
 one-common [] = refl
 one-common (z ∷ zs) = ap (gcd (nat_abs z)) (one-common zs) ∙ gcd-one (nat_abs z)
@@ -84,13 +89,51 @@ module _ (xs ys : List ℤ) where
   pub unit-last : any is_unit ys ≡ true → 1 ≡ common_divisor (xs ++ ys)
   unit-last e = sym (ap (λ (g : ℕ). common_from g xs) (sym (common-zero ys) ∙ unit-common 0 ys e) ∙ one-common xs) ∙ common-parts xs ys
 
+-- one number more is looked at
+module _ (f : ℤ → Bool) (xs : List ℤ) (i : ℕ) (h : i < length xs) (found : Bool) where
+  any_step : any f (drop i xs) ≡ (f (get_or xs i (pos 0)) || any f (drop (i + 1) xs))
+  any_step = rw (add-one, drop-cons xs i (pos 0))
+
+  pub found-yes : f (get_or xs i (pos 0)) ≡ true → (found || any f (drop i xs)) ≡ true
+  found-yes e = ap (λ (b : Bool). found || b) (any_step ∙ ap (λ (b : Bool). b || any f (drop (i + 1) xs)) e) ∙ at found
+    where
+      at : (b : Bool) → (b || true) ≡ true
+      at true = refl
+      at false = refl
+
+  pub found-no : f (get_or xs i (pos 0)) ≡ false → (found || any f (drop (i + 1) xs)) ≡ (found || any f (drop i xs))
+  found-no e = ap (λ (b : Bool). found || b) (sym (any_step ∙ ap (λ (b : Bool). b || any f (drop (i + 1) xs)) e))
+
+pub found-end : (found : Bool) (f : ℤ → Bool) (xs : List ℤ) (i : ℕ) → length xs ≤ i → (found || any f (drop i xs)) ≡ found
+found-end found f xs i h = ap (λ (l : List ℤ). found || any f l) (drop_of_length-le xs h) ∙ at found
+  where
+    at : (b : Bool) → (b || false) ≡ b
+    at true = refl
+    at false = refl
+
 pub fits-small : (z : ℤ) → SFits w16 z → nat_abs z ≤ 32768
 fits-small (pos n) h = let m = h.sfits in omega arith
 fits-small (negsuc n) h = let m = h.sfits in omega arith
 
+-- ---- rounded down, a number stays in its range
+
+pub down-mag : (g : ℕ) (z : ℤ) → mag (floor_div z g) ≤ mag z
+down-mag g (pos a) = div-le_self a g
+down-mag g (negsuc a) = div-le_self a g
+
 -- ---- one rule, by its divisor
 
 module _ (r : Constraint) (g : ℕ) (e : g ≡ content r) where
+  module _ (h : 1 < g) where
+    over : ltb 1 (content r) ≡ true
+    over = lt-ltb 1 (content r) (subst (λ (n : ℕ). 1 < n) e h)
+
+    pub tight-over : divided_down g r ≡ tight r
+    tight-over = ap (λ (n : ℕ). divided_down n r) e ∙ ap (λ (b : Bool). cond b (divided_down (content r) r) r) (sym over)
+
+    pub void-over : undivided r.kind g r.constant ≡ void r
+    void-over = ap (λ (n : ℕ). undivided r.kind n r.constant) e ∙ ap (λ (b : Bool). cond b (undivided r.kind (content r) r.constant) false) (sym over)
+
   module _ (h : 1 < g → ⊥) where
     plain : ltb 1 (content r) ≡ false
     plain = le-ltb 1 (content r) (subst (λ (n : ℕ). n ≤ 1) e (omega arith))
@@ -103,6 +146,12 @@ module _ (r : Constraint) (g : ℕ) (e : g ≡ content r) where
 
     pub reduced-plain : r ≡ reduced_of r
     reduced-plain = tight-plain ∙ ap (λ (b : Bool). cond b r (tight r)) void-plain
+
+pub reduced-some : (r t : Constraint) → void r ≡ false → t ≡ tight r → t ≡ reduced_of r
+reduced-some r t v e = e ∙ ap (λ (b : Bool). cond b r (tight r)) (sym v)
+
+pub reduced_none : (r : Constraint) → void r ≡ true → r ≡ reduced_of r
+reduced_none r v = ap (λ (b : Bool). cond b r (tight r)) (sym v)
 
 pub unit-reduced : (r : Constraint) → any is_unit r.axes ≡ true → r ≡ reduced_of r
 unit-reduced r e = reduced-plain r 1 (unit-first r.axes r.divisions e) (λ h. omega arith)

@@ -1,7 +1,7 @@
 -- Lists of eight coefficients, divisions that are sought and joined one at a time, and coefficients that are moved one at a time.
 use mathlib.Core.Path.{◌≡◌, refl, sym, ap, ap₂, ◌∙◌, subst}
 use mathlib.Core.Bool.{Bool, true, false, not, ◌&&◌, ◌||◌, cond}
-use mathlib.Core.List.{List, [], ◌∷◌, ◌++◌, map, append_assoc}
+use mathlib.Core.List.{List, [], ◌∷◌, ◌++◌, map, append_assoc, append-nil}
 use mathlib.Core.Option.{Option as PlainOption, none, some}
 use Rattle.std.specs.Prelude.{Option, Some, None}
 use Rattle.std.proofs.Common.{int_eq}
@@ -15,22 +15,22 @@ use native.Mathlib.Omega.{arith}
 use borrow.Author.Tests.{lt-leb}
 use lib.Dec.{T, leb, eqb, leb→le}
 use lib.IntN.{ℤ, pos, negsuc, neg_ℤ, ◌+ℤ◌, ◌-ℤ◌, +ℤ_idr}
-use lib.ListN.{length, take, drop, get_or, set, length-append, length-map, length-set, get_or-map}
-use lib.Seq.{drop-cons, take-suc-set, length-take-le, get_or-take, get_or-set_same, get_or-set_other}
-use mir.Syntax.{w16}
+use lib.ListN.{length, take, drop, get_or, set, replicate, length-append, length-map, length-set, get_or-map, drop_of_length-le}
+use lib.Seq.{drop-cons, take-suc-set, length-take-le, get_or-take, get_or-set_same, get_or-set_other, drop-length}
+use mir.Syntax.{w16, w32}
 use mir.Val.{SFits}
 use Rattle.integers.specs.Ring.{ring, quote}
-use Rattle.integers.specs.Lin.{fits, le}
+use Rattle.integers.specs.Lin.{fits, le, lin, lia-fits}
+use lib.Signed.{◌≤ℤ◌, le_z_yes}
 use Rattle.model.specs.Lists.{any, All}
 use Rattle.model.specs.Sets.{Division, equality, is_zero}
 use Rattle.model.specs.Values.{division_of}
 use Rattle.model.specs.declared.Division.{Division as Stored}
 use Rattle.model.specs.declared.Constraint.{Constraint as StoredConstraint}
-use Rattle.codec.specs.Bytes.{coefficient}
+use Rattle.codec.specs.Bytes.{coefficient, constant_fits}
 use Rattle.algebra.specs.Cut.{sameℤ, same_list, same_division, seek, Joined, placed, join_from, join, add_at, move}
 use Rattle.joining.specs.Joining.{Seeking, Joining, Placed}
 use Rattle.model.proofs.Lists.{map-append}
-use Rattle.model.proofs.Count.{and_left}
 use Rattle.algebra.proofs.Joined.{same→, joined}
 use Rattle.algebra.proofs.Closed.{Apart, spread, get_or-move, all-below}
 
@@ -59,6 +59,10 @@ module _ {A B : Type 0} (f : A → B) (d : A) where
   pub map-pushed : (l : List A) (n : ℕ) (a : A) → n < length l → map f (take (n + 1) (set l n a)) ≡ map f (take n l) ++ (f a ∷ [])
   map-pushed l n a h = rw (add-one) (ap (map f) (take-suc-set l n a h) ∙ map-append f (take n l) (a ∷ []))
 
+pub and-true : (b : Bool) → b && true ≡ b
+and-true true = refl
+and-true false = refl
+
 pub and-false : (b : Bool) → b && false ≡ false
 and-false true = refl
 and-false false = refl
@@ -74,7 +78,16 @@ minus-fits z t = subst (SFits w16) (sym (minus_is z)) (at z t)
     at : (z : ℤ) → T (coefficient z) → SFits w16 (neg_ℤ z)
     at (pos zero) t = record { sfits = omega arith }
     at (pos (suc m)) t = let h = leb→le (suc m) 32767 t in record { sfits = omega arith }
-    at (negsuc m) t = let h = leb→le m 32766 (and_left (leb m 32766) true t) in record { sfits = omega arith }
+    at (negsuc m) t = let h = leb→le m 32766 (subst T (and-true (leb m 32766)) t) in record { sfits = omega arith }
+
+pub below-is : (z : ℤ) → negsuc 0 -ℤ z ≡ neg_ℤ z -ℤ pos 1
+below-is z = ring (z ∷ []) (search quote depth 30) tt
+
+pub below-fits : (z : ℤ) → SFits w32 z → SFits w32 (negsuc 0 -ℤ z)
+below-fits z h = lia-fits (z ∷ []) (fits h ∷ []) (search lin depth 30) (omega arith)
+
+pub above-room : (z : ℤ) → SFits w32 z → T (constant_fits equality z) → SFits w32 (z -ℤ pos 1)
+above-room z h t = let g : negsuc 2147483646 ≤ℤ z = le_z_yes t in lia-fits (z ∷ []) (fits h ∷ le g ∷ []) (search lin depth 30) (omega arith)
 
 -- ---- coefficients moved one at a time
 
@@ -103,6 +116,9 @@ placed-apart is p = subst Apart (sym p.places) (spread p.ds [] p.ds p.es (le_ref
 
 pub placed_below : (is : List ℕ) → Placed is → All (λ (p : ℕ). p < 8) is
 placed_below is p = subst (All (λ (p : ℕ). p < 8)) (sym p.places) (all-below (length (join p.ds p.es).all) (join p.ds p.es).places p.few (joined [] p.ds p.es).inside)
+
+pub move_start : (n : ℕ) (places : List ℕ) (cs : List ℤ) → n ≤ length places → move (drop n (take n places)) cs ≡ replicate 8 (pos 0)
+move_start n places cs h = ap (λ (l : List ℕ). move l cs) (ap (λ (k : ℕ). drop k (take n places)) (sym (length-take-le n places h)) ∙ drop-length (take n places))
 
 -- the coefficient at place k, put where it goes
 pub move-next : (is : List ℕ) (cs : List ℤ) (k : ℕ) → Placed is → k < length is → k < length cs
@@ -174,6 +190,9 @@ module _ (e f : Division) (taken : List ℕ) (ds : List Division) (i : ℕ) (her
       seek-step ∙ ap (λ (y : Bool). cond (same_division e f && not y) (some i) (seek e taken (i + 1) (drop (i + 1) ds))) t
       ∙ ap (λ (x : Bool). cond x (some i) (seek e taken (i + 1) (drop (i + 1) ds))) (and-false (same_division e f))
 
+pub seek-end : (e : Division) (taken : List ℕ) (ds : List Division) (n : ℕ) → length ds ≡ n → seek e taken n (drop n ds) ≡ none
+seek-end e taken ds n p = ap (λ (l : List Division). seek e taken n l) (ap (λ (k : ℕ). drop k ds) (sym p) ∙ drop-length ds)
+
 -- ---- divisions joined one at a time
 
 pub join-longer : (ds : List Division) (taken : List ℕ) (js es : List Division) → length js ≤ length (join_from ds taken js es).all
@@ -191,6 +210,9 @@ pub record Halfway (D E : List Division) (n k : ℕ) (js : List Division) (flags
   pub shown : (i : ℕ) → i < n → get_or flags i false ≡ any (eqb i) taken
   pub all : (join D E).all ≡ (join_from D taken js (drop k E)).all
   pub places : (join D E).places ≡ is ++ (join_from D taken js (drop k E)).places
+
+pub halfway-start : (D E : List Division) (n : ℕ) (flags : List Bool) → ((i : ℕ) → get_or flags i false ≡ false) → Halfway D E n 0 D flags []
+halfway-start D E n flags f = record { taken = []; shown = λ i h. f i; all = refl; places = refl }
 
 -- the first k and e are joined: e is a division of D
 pub halfway-found : {D E : List Division} {n k r : ℕ} {js : List Division} {flags : List Bool} {is : List ℕ} {e : Division} → Halfway D E n k js flags is → drop k E ≡ e ∷ drop (k + 1) E
@@ -252,6 +274,11 @@ pub record Joins (ds : List Stored) (n : ℕ) (es : List Stored) (m k : ℕ) (di
   pub flags : length taken ≡ 8
   pub room : length places ≡ 8
   pub half : Halfway (map division_of (take n ds)) (map division_of (take m es)) n k (map division_of (take divs divisions)) taken (take k places)
+
+pub halfway-end : (D E : List Division) (n k : ℕ) (js : List Division) (flags : List Bool) (is : List ℕ) → Halfway D E n k js flags is → length E ≤ k → ((join D E).all ≡ js) × ((join D E).places ≡ is)
+halfway-end D E n k js flags is h l =
+    let e : drop k E ≡ [] = drop_of_length-le E l in
+    (h.all ∙ ap (λ (m : List Division). (join_from D h.taken js m).all) e, h.places ∙ ap (λ (m : List Division). is ++ (join_from D h.taken js m).places) e ∙ append-nil is)
 
 module _ {ds es divisions : List Stored} {n m k divs : ℕ} {taken : List Bool} {places : List ℕ} (p : Joins ds n es m k divisions divs taken places) where
   joined-long : length (map division_of (take divs divisions)) ≡ divs

@@ -54,6 +54,9 @@ checks-first n a b k e u = record { good = λ z. absurd (u z); bad = λ v f. fir
 pub checks-second : (n : ℕ) (a b : List ℕ) (k : ℕ) → number (decode n a) ≡ 0 → k ≡ number (decode n b) → Checks n a b k
 checks-second n a b k z e = record { good = λ y. (z, sym e ∙ y); bad = λ v f. second-no n a b f k z e v }
 
+pub sets_of : (n : ℕ) (a b : List ℕ) (k : ℕ) → Checks n a b k → k ≡ 0 → Sets a b
+sets_of n a b k c z = record { n = n; first = (c.good z).0; second = (c.good z).1 }
+
 -- one of two sets is refused
 pub two-refused : (n : ℕ) (a b : List ℕ) (f : Set → Set → Answer (List ℕ)) (k room : ℕ) (x : Answer ℕ) (o' : List ℕ) → Checks n a b k → (k ≡ 0 → ⊥) → Result room (refused k) x o' → Result room (on_two f (decode n a) (decode n b)) x o'
 two-refused n a b f k room x o' c u r = subst (λ (y : Answer (List ℕ)). Result room y x o') (sym (c.bad u f)) r

@@ -51,6 +51,9 @@ module _ (l : List ℕ) (from have : ℕ) (w : Window l from have) where
       ∙ ap (take (have - (from + u))) (drop-drop u from l)
 
   module _ (st : State) (y : Memory) (e : Bool) {r : Turn} {o o' t k u : List ℕ} (i : TurnIs (turn_of st y (length o) e (unused l from have)) r o o' t k u) where
+    pub text_in : r.text ≤ length o
+    text_in = i.says.text.room
+
     pub used-in : from + r.used ≤ have
     used-in =
         let m = unused-long in let z = w.order in

@@ -1,7 +1,7 @@
 -- Laws of what is put into a table, and of the bytes that are put.
 use mathlib.Core.Path.{◌≡◌, refl, sym, ap, ap₂, ◌∙◌, subst}
 use mathlib.Core.List.{List, [], ◌∷◌, ◌++◌, map, append_assoc, append-nil}
-use Prim.Native.Nat.{ℕ, zero, suc, ◌+◌, ◌-◌, ◌≤◌, ◌<◌}
+use Prim.Native.Nat.{ℕ, zero, suc, ◌+◌, ◌-◌, ◌/◌, ◌%◌, ◌≤◌, ◌<◌}
 use native.Mathlib.Numerals.{add-one}
 use native.Mathlib.Nat.{add-zero}
 use native.Mathlib.Omega.{arith}
@@ -13,7 +13,7 @@ use Rattle.model.specs.Values.{division_of, constraint_of, basic_set_of}
 use Rattle.model.specs.declared.Division.{Division}
 use Rattle.model.specs.declared.Constraint.{Constraint}
 use Rattle.model.specs.declared.BasicSet.{BasicSet}
-use Rattle.codec.specs.Bytes.{Command, division, constraint, encode_command, encode}
+use Rattle.codec.specs.Bytes.{bytes_of, Command, division, constraint, encode_command, encode}
 use Rattle.codec.proofs.Commands.{concat-more, concat-map}
 use Rattle.records.specs.Writing.{put, Emitted}
 
@@ -56,18 +56,25 @@ unfolding put
 put-past at [] o h = refl
 put-past at (b ∷ l) o h = ap (put (suc at) l) (set_out o at b h) ∙ put-past (suc at) l o (omega arith)
 
+-- one byte more of l
+pub put_next : (at i : ℕ) (l o : List ℕ) → i < length l → set (put at (take i l) o) (at + i) (get_or l i 0) ≡ put at (take (i + 1) l) o
+put_next at i l o h =
+    let e : length (take i l) ≡ i = length-take-le i l (omega arith) in
+    sym (put_one (at + i) (get_or l i 0) (put at (take i l) o))
+    ∙ ap (λ (j : ℕ). put (at + j) (get_or l i 0 ∷ []) (put at (take i l) o)) (sym e)
+    ∙ sym (put-more at (take i l) (get_or l i 0 ∷ []) o) ∙ ap (λ (m : List ℕ). put at m o) (sym (take-suc l i 0 h) ∙ ap (λ (j : ℕ). take j l) (sym (add-one i)))
+
 -- what the table has no room for makes no difference
 pub put-cut : (at i : ℕ) (l o : List ℕ) → i ≤ length l → (i < length l → length o ≤ at + i) → put at (take i l) o ≡ put at l o
-put-cut at i l o h full =
-    let e : length (take i l) ≡ i = length-take-le i l h in
-    by (length l - i) refl e
+put-cut at i l o h full = by (length l - i) i refl h full
   where
-    by : (d : ℕ) → length l - i ≡ d → length (take i l) ≡ i → put at (take i l) o ≡ put at l o
-    by zero q e = ap (λ (m : List ℕ). put at m o) (take_all i l (omega arith))
-    by (suc d) q e =
+    by : (d i : ℕ) → length l - i ≡ d → i ≤ length l → (i < length l → length o ≤ at + i)
+        → put at (take i l) o ≡ put at l o
+    by zero i q h full = ap (λ (m : List ℕ). put at m o) (take_all i l (omega arith))
+    by (suc d) i q h full =
         let k : length o ≤ at + i = full (omega arith) in
-        sym (put-past (at + length (take i l)) (drop i l) (put at (take i l) o) (omega (arith, put-length at (take i l) o)))
-        ∙ sym (put-more at (take i l) (drop i l) o) ∙ ap (λ (m : List ℕ). put at m o) (lib.ListN.take-append-drop i l)
+        sym (set_out (put at (take i l) o) (at + i) (get_or l i 0) (omega (arith, put-length at (take i l) o)))
+        ∙ put_next at i l o (omega arith) ∙ by d (i + 1) (omega arith) (omega arith) (λ b. omega arith)
 
 -- a table of its own that is filled whole
 pub put-fresh : (l o : List ℕ) → length o ≡ length l → put 0 l o ≡ l
@@ -94,6 +101,9 @@ pub emitted-of : {l m o o' : List ℕ} {at e : ℕ} → l ≡ m → Emitted l o 
 emitted-of {l} {m} {o} {o'} {at} {e} q p = subst (λ (x : List ℕ). Emitted x o at e o') q p
 
 -- ---- the bytes of numbers, commands and basic sets
+pub bytes_4 : (v : ℕ) → bytes_of 4 v ≡ bytes_of 2 v ++ bytes_of 2 (v / 65536)
+bytes_4 v = let e : v / 256 / 256 ≡ v / 65536 = omega arith in ap (λ (x : ℕ). v % 256 ∷ v / 256 % 256 ∷ x % 256 ∷ x / 256 % 256 ∷ []) e
+
 pub concat-one : {A B : Type 0} (f : A → List B) (l : List A) (a : A) → concat_map f (l ++ a ∷ []) ≡ concat_map f l ++ f a
 concat-one f l a = concat-more f l (a ∷ []) ∙ ap (λ (r : List _). concat_map f l ++ r) (append-nil (f a))
 

@@ -28,7 +28,7 @@ use Rattle.runs.specs.Upward.{widened, Reach}
 use Rattle.runs.proofs.Upward.{widened-take}
 use Rattle.enumeration.specs.Search.{Interval, can_hold, box_of}
 use Rattle.search.specs.Sides.{sides_of, Standing}
-use Rattle.search.specs.Live.{row_basic, Rows, Live, Laid, wide_box, Fails, Failing, Sided}
+use Rattle.search.specs.Live.{row_basic, Rows, Live, Laid, wide_box, Fails, Holding, Failing, Sided}
 use Rattle.search.specs.Levels.{ok_at}
 use Rattle.enumeration.proofs.Windows.{box-take}
 use Rattle.search.proofs.Climbs.{lt_of, span, value-within, ok-is}
@@ -157,6 +157,12 @@ module _ (s : List ℕ) (n : ℕ) (xs : List Interval) (wide : ℕ → List Inte
 
   any_of : length rows ≤ b → found ≡ any (can_hold xs) (set_from s 0)
   any_of h = sym (or-false found) ∙ ap (λ (y : List Bool). found || any (λ (y : Bool). y) y) (sym (drop_of_length-le can (let z : length can ≤ b = omega (arith, long) in z))) ∙ g.any_is
+
+  pub opens-holding : length rows ≤ b → found ≡ true → Holding s xs kept
+  opens-holding h e = record {
+    some = sym (any_of h) ∙ e;
+    still = record { places = g.places; dead = λ i e. by (λ (y : Bool). get_or can i false ≡ false) (ltb i b) (λ z. sym (g.is i (ltb-true i b z)) ∙ e) (λ z. none_left h xs i (ltb-false i b z)) };
+  }
 
   pub opens-failing : length rows ≤ b → found ≡ false → Failing s xs wide most run
   opens-failing h e = record {

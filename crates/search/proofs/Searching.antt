@@ -1,13 +1,15 @@
 -- The public search: its refusals, and the box of the walk.
 use mathlib.Core.Path.{◌≡◌, refl, sym, ap, ap₂, ◌∙◌}
-use mathlib.Core.Bool.{Bool, true, false, cond}
+use mathlib.Core.Bool.{Bool, true, false, ◌&&◌, cond}
 use mathlib.Core.List.{List, [], ◌∷◌}
-use Prim.Native.Nat.{ℕ, zero, suc, ◌+◌, ◌-◌, ◌<◌}
+use Prim.Native.Nat.{ℕ, zero, suc, ◌+◌, ◌-◌, ◌≤◌, ◌<◌}
+use native.Mathlib.Numerals.{add-one}
 use native.Mathlib.Omega.{arith}
 use lib.Dec.{T, leb}
 use lib.IntN.{ℤ, pos}
 use lib.Signed.{le_z, ◌≤ℤ◌, ◌<ℤ◌, clash_ℤ}
-use lib.ListN.{length, take, drop, get_or, replicate, length-drop}
+use lib.ListN.{length, take, drop, get_or, replicate, length-drop, drop_of_length-le}
+use lib.Seq.{drop-cons}
 use Rattle.model.specs.Lists.{all}
 use Rattle.model.specs.Sets.{Set, is_zero, absent}
 use Rattle.model.proofs.Count.{and_left, and_right, from-T, to-T}
@@ -23,6 +25,22 @@ use Rattle.search.specs.declared.levels.Prefix.{Prefix}
 use Rattle.enumeration.proofs.Windows.{corners-upright}
 use Rattle.query.proofs.Points.{point-within}
 use Rattle.query.proofs.Answers.{axes-some, axes-most}
+
+-- ---- the loop over the sides
+module _ (low high : List ℤ) (i : ℕ) (g : upright (box_of (drop i low) (drop i high)) ≡ upright (box_of low high)) where
+  head-is : i < length low → i < length high → upright (box_of (drop i low) (drop i high)) ≡ (le_z (get_or low i (pos 0)) (get_or high i (pos 0)) && upright (box_of (drop (i + 1) low) (drop (i + 1) high)))
+  head-is h k =
+      ap₂ (λ (u v : List ℤ). upright (box_of u v)) (drop-cons low i (pos 0) h) (drop-cons high i (pos 0) k)
+      ∙ ap (λ (j : ℕ). le_z (get_or low i (pos 0)) (get_or high i (pos 0)) && upright (box_of (drop j low) (drop j high))) (sym (add-one i))
+
+  pub sides-next : i < length low → i < length high → le_z (get_or low i (pos 0)) (get_or high i (pos 0)) ≡ true → upright (box_of (drop (i + 1) low) (drop (i + 1) high)) ≡ upright (box_of low high)
+  sides-next h k e = ap (λ (b : Bool). b && upright (box_of (drop (i + 1) low) (drop (i + 1) high))) (sym e) ∙ sym (head-is h k) ∙ g
+
+  pub sides-stop : i < length low → i < length high → le_z (get_or low i (pos 0)) (get_or high i (pos 0)) ≡ false → false ≡ upright (box_of low high)
+  sides-stop h k e = ap (λ (b : Bool). b && upright (box_of (drop (i + 1) low) (drop (i + 1) high))) (sym e) ∙ sym (head-is h k) ∙ g
+
+  pub sides-end : length low ≤ i → true ≡ upright (box_of low high)
+  sides-end h = ap (λ (u : List ℤ). upright (box_of u (drop i high))) (sym (drop_of_length-le low h)) ∙ g
 
 -- ---- a box that fits
 module _ (n : ℕ) (low high : List ℤ) (e : box_fits n low high ≡ true) where

@@ -1,7 +1,7 @@
 -- Turns, by the tests that are made of them.
 use mathlib.Core.Path.{◌≡◌, refl, ap, ap₂, sym, ◌∙◌}
 use mathlib.Core.Bool.{Bool, true, false, not, ◌&&◌, ◌||◌, cond}
-use mathlib.Core.List.{List, [], ◌∷◌}
+use mathlib.Core.List.{List, [], ◌∷◌, ◌++◌}
 use Prim.Native.Nat.{ℕ, zero, suc, ◌+◌, ◌-◌, ◌≤◌, ◌<◌}
 use native.Mathlib.Numerals.{add-one}
 use native.Mathlib.Omega.{arith}
@@ -19,6 +19,7 @@ use Rattle.session.specs.Turns.{Memory, Turned, quiet, state_at, state_of, table
 use Rattle.session.specs.declared.Cursor.{Cursor}
 use Rattle.session.specs.declared.State.{State}
 use Rattle.session.specs.declared.Next.TheVariants.{Goes, Reads, Misused}
+use Rattle.listing.proofs.LineTexts.{one_number}
 use Rattle.session.proofs.Commands.{no}
 
 -- ---- the lines of a listing
@@ -30,6 +31,9 @@ module _ (n : ℕ) (c : Cursor) (b : ℕ) (t : List ℕ) where
 
   pub line-opening : is_opening b ≡ true → T.line "basic" (pos (c.basics + 1) ∷ []) ≡ line_of n c b t
   line-opening e = sym (ap (λ (x : Bool). lines x (is_division b)) e)
+
+  pub line-basic : is_opening b ≡ true → T.codes "basic" ++ (T.number (pos (c.basics + 1)) ++ (10 ∷ [])) ≡ line_of n c b t
+  line-basic e = one_number (T.codes "basic") (c.basics + 1) ∙ line-opening e
 
   pub line-division : is_opening b ≡ false → is_division b ≡ true → T.division_line n (read_division (head_of b t) (body_in b t)) ≡ line_of n c b t
   line-division p q = sym (ap₂ lines p q)

@@ -122,6 +122,9 @@ module _ {n m v : ℕ} {r : List ℤ} {rows : List (List ℤ)} {place kinds : Li
     pub place-count : (v + 1 ≤ length (set place v m)) × (length (take (v + 1) (set place v m)) ≡ v + 1)
     place-count = let h = c.long in let f = c.names in set-count place v m (omega arith)
 
+    pub kinds-count : (v + 1 ≤ length (set kinds v κ)) × (length (take (v + 1) (set kinds v κ)) ≡ v + 1)
+    kinds-count = let h = c.wide in let f = c.names in set-count kinds v κ (omega arith)
+
     pub rows_more : take (m + 1) (set rows m r) ≡ T
     rows_more = let h = c.high in let f = c.few in stored rows m r (omega arith)
 

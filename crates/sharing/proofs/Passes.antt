@@ -22,6 +22,14 @@ module _ (j : ℕ) (q s : List ℤ) where
         row = sym (ap (λ z. cond (cond z true (small s)) (cond z s (replace_row s j (den q) (set q 0 (pos 0)))) s) e);
       }
 
+  pub pass-wide : is_zero (entry s j) ≡ false → small s ≡ false → Passed j q s false s
+  unfolding rebuild_row
+  pass-wide e f =
+      record {
+        test = sym (ap₂ (λ z b. cond z true b) e f);
+        row = sym (ap₂ (λ z b. cond (cond z true b) (cond z s (replace_row s j (den q) (set q 0 (pos 0)))) s) e f);
+      }
+
   pub pass-put : is_zero (entry s j) ≡ false → small s ≡ true → Passed j q s true (replace_row s j (den q) (set q 0 (pos 0)))
   unfolding rebuild_row
   pass-put e f =

@@ -1,6 +1,6 @@
 -- The first table: what its rows are made of. Assumes nothing.
 use mathlib.Core.Path.{◌≡◌, refl, sym, ap, ap₂, ◌∙◌, subst}
-use mathlib.Core.Bool.{Bool, true, false}
+use mathlib.Core.Bool.{Bool, true, false, cond}
 use mathlib.Core.List.{List, [], ◌∷◌, ◌++◌, map, append_assoc}
 use mathlib.Core.Option.{none, some}
 use mathlib.Core.Logic.{⊎_elim}
@@ -9,15 +9,16 @@ use native.Mathlib.Nat.{le_of_suc-le-suc, not-suc-le-zero, add-zero, zero-add, s
 use native.Mathlib.Numerals.{add-one, add-two}
 use native.Mathlib.Omega.{arith}
 use borrow.Author.Tests.{eqb-true, eqb-false}
-use lib.Dec.{eqb}
+use lib.Dec.{ltb, eqb}
 use lib.ListN.{length, get_or, set, take, length-set, length-map, length-append, get_or-append}
 use lib.Seq.{get_or-set_same, get_or-set_other, get_or-append-add, take-suc, take-suc-set, length-take-le}
 use lib.IntN.{ℤ, pos, negsuc, neg_ℤ, ◌-ℤ◌, ◌*ℤ◌}
 use mir.Syntax.{w16, w32, w64}
-use mir.Val.{SFits}
+use mir.Val.{SFits, to_z}
 use Rattle.integers.specs.Z.{Within}
 use Rattle.integers.specs.Ring.{ring, quote}
-use Rattle.integers.specs.Size.{within-fits, within-mul, fits-within}
+use Rattle.integers.specs.Size.{within-fits, within-mul, within-sub, within-self, fits-within}
+use Rattle.integers.specs.Mach.{to_z-nat}
 use Rattle.integers.specs.Part.{lt-or-le}
 use Rattle.model.specs.Sets as S
 use Rattle.model.specs.Sets.{lower, upper, unit, bounds, Kind, inequality}
@@ -27,8 +28,8 @@ use Rattle.model.specs.declared.Constraint.{Constraint}
 use Rattle.model.specs.declared.BasicSet.{BasicSet}
 pub use Rattle.model.proofs.Lists.{map-append, map_get}
 use Rattle.feasibility.specs.Tableau.{pad}
-use Rattle.simplex.specs.Table.{number_at, start_row, kind_number, Copied, Started, Bounded, Ruled}
-use Rattle.tableau.proofs.Lines.{map-zero}
+use Rattle.simplex.specs.Table.{number_at, start_row, place_at, kind_number, Copied, Started, Named, Bounded, Ruled}
+use Rattle.tableau.proofs.Lines.{zeros, zeros-at, map-zero, within-minus}
 use Rattle.simplex.proofs.Columns.{standing-low, standing-mid, standing-high, lay-is}
 
 -- ---- numbers of 16 and 32 bits as numbers of 64
@@ -42,7 +43,22 @@ word_fits h = within-fits (omega arith) (fits-within h)
 pub times-fit : {s x : ℤ} → Within 1 s → SFits w16 x → SFits w64 (s *ℤ x)
 times-fit h k = within-fits (omega arith) (within-mul h (fits-within k))
 
+pub count_is : (d : ℕ) → d < 4294967296 → to_z w64 d ≡ pos d
+count_is d h = to_z-nat w64 d 4294967296 h tt
+
+count-within : (d : ℕ) → d < 4294967296 → Within 4294967296 (pos d)
+count-within d h = record { size = omega arith }
+
+pub minus-fits : (d : ℕ) → d < 4294967296 → SFits w64 (pos 0 -ℤ pos d)
+minus-fits d h = within-fits (omega arith) (within-minus (count-within d h))
+
+pub upper_fits : (d : ℕ) (c : ℤ) → d < 4294967296 → SFits w32 c → SFits w64 (pos d -ℤ pos 1 -ℤ c)
+upper_fits d c h k = within-fits (omega arith) (within-sub (within-sub (count-within d h) (within-self (pos 1))) (fits-within k))
+
 -- ---- copies
+
+pub copied_none : (base : ℕ) (s : ℤ) (a l : List ℤ) → Copied base s 0 a l l
+copied_none base s a l = record { long = refl; inside = λ i h. absurd (not-suc-le-zero h); low = λ i h. refl; high = λ i h. refl }
 
 pub copied_more : (base : ℕ) (s : ℤ) (n : ℕ) (a l l' : List ℤ) (v : ℤ) → base + n < length l → v ≡ s *ℤ get_or a n (pos 0) → Copied base s n a l l' → Copied base s (n + 1) a l (set l' (base + n) v)
 copied_more base s n a l l' v b e c =
@@ -67,6 +83,23 @@ copied_more base s n a l l' v b e c =
         inside i n h z = ⊎_elim (λ x. x) (λ x. absurd (z (omega arith))) (lt-or-le i n)
 
 -- ---- a first row
+
+abbrev pub fresh : ℤ → List ℤ
+fresh z = set (set zeros 0 (pos 1)) 1 z
+
+pub started : (k : ℕ) (z s : ℤ) (a l : List ℤ) → k ≤ 8 → Copied (k + 2) s 8 a (fresh z) l → Started k z s a l
+started k z s a l h c =
+    record {
+      long = c.long;
+      den = c.low 0 (omega arith);
+      constant = c.low 1 (omega arith);
+      divs = λ i b. c.low (i + 2) (omega arith) ∙ past (i + 2) (omega arith);
+      axes = λ i b. c.inside i b;
+      rest = λ i b. c.high i (omega arith) ∙ past i (omega arith);
+    }
+  where
+    past : (i : ℕ) → 2 ≤ i → get_or (fresh z) i (pos 0) ≡ pos 0
+    past i b = get_or-set_other (set zeros 0 (pos 1)) 1 i z (pos 0) (omega arith) ∙ get_or-set_other zeros 0 i (pos 1) (pos 0) (omega arith) ∙ zeros-at 18 i
 
 pad-at : (k : ℕ) (l : List ℤ) (i : ℕ) → i < k → get_or (pad k l) i (pos 0) ≡ get_or l i (pos 0)
 pad-at zero l i h = absurd (not-suc-le-zero h)
@@ -185,6 +218,31 @@ bounds-snoc : (s : ℕ) (l : List S.Division) (e : S.Division) → bounds s (l +
 bounds-snoc s [] e = ap (λ n. lower n e ∷ upper n e ∷ []) (sym (add-zero s))
 bounds-snoc s (x ∷ l) e =
     ap (λ u. lower s x ∷ upper s x ∷ u) (bounds-snoc (suc s) l e ∙ ap (λ n. bounds (suc s) l ++ (lower n e ∷ upper n e ∷ [])) (suc-add s (length l) ∙ sym (add-suc s (length l))))
+
+-- ---- the variables' places and kinds
+
+pub named_none : (k : ℕ) (place kinds : List ℕ) → Named k 0 place place kinds kinds
+named_none k place kinds = record { long = refl; names = refl; places = λ v h. absurd (not-suc-le-zero h); free = λ v h. absurd (not-suc-le-zero h) }
+
+-- one more of which something holds
+set_more : (f : ℕ → ℕ) (l : List ℕ) (n x : ℕ) → n < length l → x ≡ f n → ((v : ℕ) → v < n → get_or l v 0 ≡ f v) → (v : ℕ) → v < n + 1 → get_or (set l n x) v 0 ≡ f v
+set_more f l n x b e h v a = at (eqb v n) refl
+  where
+    at : (t : Bool) → eqb v n ≡ t → get_or (set l n x) v 0 ≡ f v
+    at true q = let z = eqb-true v n q in subst (λ m. get_or (set l n x) m 0 ≡ f m) (sym z) (get_or-set_same l n x 0 b ∙ e)
+    at false q = let z = eqb-false v n q in get_or-set_other l n v x 0 z ∙ h v (⊎_elim (λ y. y) (λ y. absurd (z (omega arith))) (lt-or-le v n))
+
+pub named_more : (k n : ℕ) (place place' kinds kinds' : List ℕ) (x y : ℕ) → n < length place → n < length kinds → x ≡ place_at k n → y ≡ cond (ltb n (8 + k)) 0 1 → Named k n place place' kinds kinds'
+    → Named k (n + 1) place (set place' n x) kinds (set kinds' n y)
+named_more k n place place' kinds kinds' x y hp hk ex ey m =
+    let lp = m.long in
+    let lk = m.names in
+    record {
+      long = length-set place' n x ∙ m.long;
+      names = length-set kinds' n y ∙ m.names;
+      places = set_more (place_at k) place' n x (omega arith) ex m.places;
+      free = set_more (λ v. cond (ltb v (8 + k)) 0 1) kinds' n y (omega arith) ey m.free;
+    }
 
 -- ---- the rows
 

@@ -1,11 +1,13 @@
 -- A table with one row more. Assumes nothing.
-use mathlib.Core.Path.{◌≡◌, sym, ap, ◌∙◌, subst}
+use mathlib.Core.Path.{◌≡◌, refl, sym, ap, ◌∙◌, subst}
+use mathlib.Core.Bool.{Bool, true, false, ◌&&◌}
 use mathlib.Core.List.{List, [], ◌∷◌, ◌++◌}
 use mathlib.Core.Logic.{⊎_elim}
 use Prim.Native.Nat.{ℕ, ◌+◌, ◌≤◌, ◌<◌}
 use native.Mathlib.Numerals.{add-one}
 use native.Mathlib.Omega.{arith}
-use lib.Dec.{T}
+use borrow.Author.Tests.{ltb-true}
+use lib.Dec.{T, ltb}
 use lib.IntN.{pos}
 use lib.Signed.{◌<ℤ◌}
 use lib.ListN.{length, get_or, set, take, drop, length-append, length-set, get_or-append}
@@ -13,8 +15,10 @@ use lib.Seq.{take-suc-set, drop-set-lt, get_or-append_seam, length-take-le}
 use Rattle.integers.specs.Part.{lt-or-le}
 use Rattle.integers.specs.Size.{bound}
 use Rattle.model.specs.Lists.{all}
-use Rattle.model.proofs.Count.{and_left, and_right}
+use Rattle.model.specs.Sets.{Constraint, absent}
+use Rattle.model.proofs.Count.{and_left, and_right, to-T}
 use Rattle.model.proofs.Lists.{map-append}
+use Rattle.codec.specs.Bytes.{coefficient, constant_fits, first_failing}
 use Rattle.tableau.specs.Rows.{den, Line}
 use Rattle.wide_tableau.specs.Cells.{cells, rows_of, Sheet, Sheets}
 use Rattle.wide_tableau.proofs.Sheets.{rows-length}
@@ -23,6 +27,7 @@ use Rattle.drafting.specs.Sketch.{Laid}
 use Rattle.memory.specs.Memory.{Memory, memory, head_at, Fits}
 use Rattle.memory.specs.Sound.{sound_row, sound_place, sound_head, sound_table, sound}
 use Rattle.memory.proofs.Sounds.{headed, stands}
+use Rattle.rules.specs.Rules.{rule_number}
 use Rattle.states.specs.Calls.{goes_on}
 use Rattle.states.specs.Parts.{Open, Joins}
 use Rattle.states.proofs.Tables.{same-run}
@@ -148,3 +153,18 @@ opened y f t l =
       kinds_room = f.kinds;
       stands = stands k m (take m y.rows) (take (8 + k + m) y.place) h.few (length-take-le m y.rows (omega arith)) (omega arith) (and_left (all (sound_row (k + 10)) (take m y.rows)) (all (sound_place k m) (take (8 + k + m) y.place)) u) (and_right (all (sound_row (k + 10)) (take m y.rows)) (all (sound_place k m) (take (8 + k + m) y.place)) u);
     }
+
+-- ---- a rule that is not refused
+pub number_passed : (n k rules : ℕ) (r : Constraint) → rule_number n k rules r ≡ 0 → T (all coefficient r.axes) × T (all coefficient r.divisions) × (rules < 48)
+number_passed n k rules r z = at (constant_fits r.kind r.constant) (all coefficient r.axes) (all coefficient r.divisions) (absent n r.axes && absent k r.divisions) (ltb rules 48) refl refl refl z
+  where
+    tests : Bool → Bool → Bool → Bool → Bool → ℕ
+    tests a b c d e = first_failing ((a && (b && c), 7) ∷ (d, 8) ∷ (e, 10) ∷ [])
+
+    at : (a b c d e : Bool) → all coefficient r.axes ≡ b → all coefficient r.divisions ≡ c → ltb rules 48 ≡ e → tests a b c d e ≡ 0 → T (all coefficient r.axes) × T (all coefficient r.divisions) × (rules < 48)
+    at true true true true true p q l z = (to-T _ p, to-T _ q, ltb-true rules 48 l)
+    at true true true true false p q l z = absurd (omega arith)
+    at true true true false e p q l z = absurd (omega arith)
+    at true true false d e p q l z = absurd (omega arith)
+    at true false c d e p q l z = absurd (omega arith)
+    at false b c d e p q l z = absurd (omega arith)

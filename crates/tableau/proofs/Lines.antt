@@ -181,6 +181,10 @@ pub record Sound (n b : ℕ) (r : List ℤ) : Type 0 where
 
 -- ---- rows with denominator 1
 
+-- the numbers from place 18 on are none
+pub whole-line : {n : ℕ} {l : List ℤ} → Line n l → Line 18 l
+whole-line {n} {l} f = record { fit = le_refl 18; long = f.long; blank = λ k a. f.blank k (le_trans f.fit a) }
+
 -- they are in lowest terms
 pub one-lowest : (r : List ℤ) → get_or r 0 (pos 0) ≡ pos 1 → reduce_row r ≡ r
 unfolding reduce_row divide_row divisor_from
@@ -454,6 +458,8 @@ exchanged-others t i j m p q ep em eq = others t i ∙ ap₂ (λ m q. set (map (
     others (r ∷ t) (suc i) = ap (λ u. rebuild_row j m q r ∷ u) (others t i)
 
 -- ---- a row of zeros, and a solved row
+abbrev pub zeros : List ℤ
+zeros = replicate 18 (pos 0)
 
 pub zeros-at : (n k : ℕ) → get_or (replicate n (pos 0)) k (pos 0) ≡ pos 0
 zeros-at zero k = refl

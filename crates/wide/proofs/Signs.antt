@@ -2,10 +2,10 @@
 use mathlib.Core.Path.{◌≡◌, refl, sym, ap, ◌∙◌}
 use mathlib.Core.Bool.{Bool, true, false, not, beq}
 use mathlib.Core.List.{[], ◌∷◌}
-use Prim.Native.Nat.{ℕ, zero, suc, ◌+◌, ◌-◌, ◌*◌, ◌/◌, ◌<◌}
+use Prim.Native.Nat.{ℕ, zero, suc, ◌+◌, ◌-◌, ◌*◌, ◌/◌, ◌≤◌, ◌<◌, zero-le}
 use native.Mathlib.Omega.{arith}
 use native.Mathlib.Nat.{zero-div}
-use lib.IntN.{pos, neg_ℤ, nat_abs, ◌+ℤ◌, ◌*ℤ◌}
+use lib.IntN.{ℤ, pos, negsuc, neg_ℤ, nat_abs, ◌+ℤ◌, ◌*ℤ◌}
 use lib.Signed.{quot_z, lt_z}
 use borrow.Author.Tests.{le-ltb}
 use Rattle.integers.specs.Mach.{clash}
@@ -35,6 +35,17 @@ pub signed_add : (s : Bool) (m n : ℕ) → signed s (m + n) ≡ signed s m +ℤ
 signed_add false m n = refl
 signed_add true m n = ring (pos m ∷ pos n ∷ []) {a = neg_ℤ (pos m +ℤ pos n)} {b = neg_ℤ (pos m) +ℤ neg_ℤ (pos n)} (search quote depth 30) tt
 
+-- the other sign, and no larger
+take-k : (s : Bool) (k n : ℕ) → signed s k ≡ signed s (k + n) +ℤ signed (not s) n
+take-k false k n = ring (pos k ∷ pos n ∷ []) {a = pos k} {b = pos k +ℤ pos n +ℤ neg_ℤ (pos n)} (search quote depth 30) tt
+take-k true k n = ring (pos k ∷ pos n ∷ []) {a = neg_ℤ (pos k)} {b = neg_ℤ (pos k +ℤ pos n) +ℤ pos n} (search quote depth 30) tt
+
+pub signed-take : (s : Bool) (m n : ℕ) → n ≤ m → signed s (m - n) ≡ signed s m +ℤ signed (not s) n
+signed-take s m n h = take-k s (m - n) n ∙ ap (λ (x : ℕ). signed s x +ℤ signed (not s) n) (omega arith)
+
+pub add_comm : (x y : ℤ) → x +ℤ y ≡ y +ℤ x
+add_comm x y = ring (x ∷ y ∷ []) (search quote depth 30) tt
+
 pub signed_quot : (s : Bool) (n d : ℕ) → signed s (n / d) ≡ quot_z (signed s n) (pos d)
 signed_quot false n d = refl
 signed_quot true zero d = ap (λ (x : ℕ). neg_ℤ (pos x)) (zero-div d) ∙ sym (ap pos (zero-div d))
@@ -56,3 +67,8 @@ alike false false m n k e f = ap (signed false) f ∙ signed_add false m n
 alike false true m n k e f = clash refl e
 alike true false m n k e f = clash refl e
 alike true true m n k e f = ap (signed true) f ∙ signed_add true m n
+
+-- a number by its sign and its size
+pub signed_is : (z : ℤ) → signed (lt_z z (pos 0)) (nat_abs z) ≡ z
+signed_is (pos n) = ap (λ (b : Bool). signed b n) (le-ltb n 0 zero-le)
+signed_is (negsuc n) = refl

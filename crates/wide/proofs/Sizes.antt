@@ -5,7 +5,7 @@ use mathlib.Core.Logic.{⊎_elim}
 use Prim.Native.Nat.{ℕ, zero, suc, ◌+◌, ◌-◌, ◌*◌, ◌/◌, ◌%◌, ◌^◌, ◌≤◌, ◌<◌, zero-le}
 use native.Mathlib.Omega.{arith}
 use native.Mathlib.Nat.{eq-zero-or-pos, zero-div, le_trans, le_of_eq, mod-eq-sub-mod, mod-eq_of_lt, div-lt_iff_lt-mul, div-add-mod', two-pow-succ}
-use lib.IntN.{ℤ, pos, negsuc, neg_ℤ, nat_abs, ◌-ℤ◌, ◌*ℤ◌}
+use lib.IntN.{ℤ, pos, nat_abs, ◌-ℤ◌, ◌*ℤ◌}
 use lib.Arith.{digits_div, digits_mod}
 use lib.Pow.{pow_pos}
 use lib.Dec.{leb}
@@ -18,7 +18,7 @@ use Rattle.integers.proofs.BoundedProducts.{products}
 use Rattle.wide.specs.declared.Wide.{Wide}
 use Rattle.wide.specs.Wide.{size, value_of}
 use Rattle.wide.specs.Wide.{signed}
-use Rattle.wide.proofs.Signs.{nat_abs-signed, signed_lt}
+use Rattle.wide.proofs.Signs.{nat_abs-signed, signed_is, signed_lt}
 
 pub size-within : (x : Wide) (z : ℤ) {n : ℕ} → value_of x ≡ z → Within n z → size x.magnitude ≤ n
 size-within x z e h = le_trans (le_of_eq (sym (nat_abs-signed x.neg (size x.magnitude)) ∙ ap nat_abs e)) h.size
@@ -60,9 +60,13 @@ module _ (H B : ℕ) (b : 0 < B) where
   high_part n h = (div-lt_iff_lt-mul b).1 h
 
   pub cell-back : (z : ℤ) → nat_abs z < H * B → cell_at H B (nat_abs z % B) (high_at z) ≡ z
-  cell-back (pos n) h =
-      ap (λ (t : Bool). cell_at H B (n % B) (cond t (n / B + H) (n / B))) (le-ltb n 0 zero-le) ∙ sym (cell-low H B (n % B) (n / B) (high_part n h)) ∙ ap pos (div-add-mod' n B)
-  cell-back (negsuc n) h = sym (cell-high H B (suc n % B) (suc n / B + H) (suc n / B) (high_part (suc n) h) (omega arith) (omega arith)) ∙ ap (λ (m : ℕ). neg_ℤ (pos m)) (div-add-mod' (suc n) B)
+  cell-back z h =
+      words (lt_z z (pos 0)) (nat_abs z) h ∙ ap (signed (lt_z z (pos 0))) (div-add-mod' (nat_abs z) B) ∙ signed_is z
+    where
+      words : (s : Bool) (n : ℕ) → n < H * B
+          → cell_at H B (n % B) (cond s (n / B + H) (n / B)) ≡ signed s ((n / B) * B + n % B)
+      words false n h = sym (cell-low H B (n % B) (n / B) (high_part n h))
+      words true n h = sym (cell-high H B (n % B) (n / B + H) (n / B) (high_part n h) (omega arith) (omega arith))
 
   -- the high word of a sign and two words
   pub high_digit : (h l : ℕ) → l < B → (h * B + l) / B ≡ h

@@ -2,7 +2,7 @@
 use Rattle.std.proofs.Common.{refl, ◌∙◌, [], arith}
 use Rattle.session.specs.Turns.{memory}
 use Rattle.session.specs.Session.{begins}
-use Rattle.pitsets.proofs.Laws.{used-in, short-in, runs_on, reads_on}
+use Rattle.pitsets.proofs.Laws.{text_in, used-in, short-in, runs_on, reads_on}
 use Rattle.pitsets.proofs.run.Goals as goal
 
 pub loop-turns-init : goal.loop-turns-init
@@ -14,6 +14,13 @@ loop-turns-init c = record {
   text_long = refl;
   running = record { on = λ p. ([], [], begins c.requires.fresh); off = λ p. absurd (omega arith) };
 }
+
+pub show-requires : goal.show-requires
+show-requires c =
+    let l = c.loop-turns in let i = l.invariant in let n = c.step-t.auto.out in (
+      rw n (text_in l.read l.from l.have i.window l.state (memory l.sets l.lengths l.answer) l.ended c.step-t.ensures),
+      c.loop-turns-test.true,
+    )
 
 pub overflow_add-from : goal.overflow_add-from
 overflow_add-from c =

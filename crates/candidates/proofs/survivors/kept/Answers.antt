@@ -3,9 +3,17 @@ use borrow.Author.Tests.{not-true, not-false}
 use Rattle.model.specs.Values.{kind_is, constraint_of}
 use Rattle.algebra.specs.Cut as C
 use Rattle.algebra.specs.Tighten as T
+use Rattle.algebra.proofs.Tightened.{tight-kind}
 use Rattle.candidates.specs.Candidates.{candidate, is_equality}
-use Rattle.candidates.proofs.Catching.{shared_keeps}
+use Rattle.candidates.proofs.Catching.{opposite-plain, shared_keeps}
 use Rattle.candidates.proofs.survivors.kept.Goals as goal
+
+-- the opposite below
+pub candidate-tested-requires-clause-equality_value : goal.candidate-tested-requires-clause-equality_value
+candidate-tested-requires-clause-equality_value c =
+    let o = C.below (constraint_of c.args.r) in
+    let l = c.opposite_below-lower in
+    (opposite-plain l.result (T.tight o) l.ensures (tight-kind o), c.requires.opposed.1)
 
 pub opposite_above-upper-requires : goal.opposite_above-upper-requires
 opposite_above-upper-requires c =

@@ -3,11 +3,20 @@ use Rattle.std.proofs.Math.Seq.{length-take-le, get_or-take}
 use Rattle.model.specs.declared.Constraint.{Constraint as StoredConstraint}
 use Rattle.joining.proofs.Placing.{no_constraint}
 use Rattle.sharing.specs.Working.{Grown}
-use Rattle.candidates.proofs.Catching.{behind-start, behind-end, behind-grown, bounds-are}
+use Rattle.candidates.proofs.Catching.{behind-start, behind-end, behind-growing, behind-grown, bounds-are}
 use Rattle.candidates.proofs.survivors.start.Goals as goal
 
 pub loop-c-init : goal.loop-c-init
 loop-c-init c = let v = c.requires.valid in let n = c.begin-x.ensures.size ∙ bounds-are v in (behind-start v c.begin-x.ensures, omega (arith, n))
+
+pub grow-x-requires : goal.grow-x-requires
+grow-x-requires c =
+    let v = c.requires.valid in
+    let few = v.cons in
+    let l = v.constraints in
+    let i = c.loop-c.invariant in
+    let n = length-take-le c.args.w.cons c.args.w.constraints (omega arith) in
+    behind-growing v i.0 (omega (arith, n, i.1, c.loop-c-test.true))
 
 pub loop-c-preserved : goal.loop-c-preserved
 loop-c-preserved c =

@@ -1,13 +1,32 @@
-use Rattle.std.proofs.Common.{◌≡◌, ◌∙◌, sym, ap, subst, Bool, ◌&&◌, cond, ◌+◌, ◌-◌, ◌<◌, length, rules, arith}
+use Rattle.std.proofs.Common.{◌≡◌, ◌∙◌, sym, ap, subst, Bool, ◌&&◌, cond, [], ◌+◌, ◌-◌, ◌<◌, length, rules, arith}
 use Rattle.std.proofs.Math.ListN.{length-set}
 use Rattle.model.specs.Values.{constraint_of, basic_set_of}
 use Rattle.algebra.specs.Tighten.{void}
 use Rattle.candidates.specs.Candidates.{Keeping}
-use Rattle.candidates.proofs.Catching.{opposed, behind-end, caught-holds}
+use Rattle.candidates.proofs.Catching.{opposed, behind-end, caught-all, caught-behind, caught-holds, caught-growing}
+use Rattle.cutting.proofs.Steps.{passed_on}
+use Rattle.cutting.proofs.Turns.{unjoined, opened-placed, opened-start}
 use Rattle.cutting.proofs.Turns.{opened-full, opened-end, opened-turning, opened-next}
 use Rattle.cutting.proofs.Following.{opened, turned, behind-followed}
 use Rattle.cutting.proofs.pieces.cut.Goals as goal
 use Rattle.cutting.proofs.pieces.cut.Goals.{in-Some, in-None}
+
+-- over 8 divisions
+pub returns-in_err-divisions : goal.returns-in_err-divisions
+returns-in_err-divisions c = rw c.from_residual.ensures (unjoined c.in_err-divisions.ensures)
+
+pub loop-k-init : goal.loop-k-init
+loop-k-init c =
+    let la : length c.args.a.constraints ≡ 48 = search rules in
+    let lc : length c.args.c.constraints ≡ 48 = search rules in
+    let p = c.requires.0 in
+    let j = c.in_ok-divisions.ensures in
+    let h = c.start-h in (
+      opened-start (opened p j la lc) h.new.rows h.new.place h.new.kinds,
+      caught-behind h.ensures j.few p.cons,
+      λ z. caught-all h.ensures,
+      la,
+    )
 
 -- a candidate over 48
 pub returns-then-at-eq-CONSTRAINTS : goal.returns-then-at-eq-CONSTRAINTS
@@ -21,6 +40,18 @@ returns c =
     let la : length c.args.a.constraints ≡ 48 = search rules in
     let lc : length c.args.c.constraints ≡ 48 = search rules in
     opened-end (opened c.requires.0 c.in_ok-divisions.ensures la lc) c.loop-k.invariant.0 c.loop-k-test.false
+
+pub joining_rule-r-requires : goal.joining_rule-r-requires
+joining_rule-r-requires c =
+    let la : length c.args.a.constraints ≡ 48 = search rules in
+    let lc : length c.args.c.constraints ≡ 48 = search rules in
+    (c.requires.0.divs', opened-placed (opened {steps = []} c.requires.0 c.in_ok-divisions.ensures la lc))
+
+pub kept-requires-clause-growing : goal.kept-requires-clause-growing
+kept-requires-clause-growing c =
+    let i = c.loop-k.invariant in
+    let g = behind-end i.1 (i.2 c.loop-k-test.true) in
+    caught-growing g i.1.divs (omega (arith, i.1.cons, c.if-at-eq-CONSTRAINTS.false))
 
 pub kept-requires-clause-opposed : goal.kept-requires-clause-opposed
 kept-requires-clause-opposed c =
@@ -36,6 +67,9 @@ kept_alone-x-requires c =
     let t = opened-turning (opened c.requires.0 c.in_ok-divisions.ensures la lc) c.loop-k.invariant.0 c.loop-k-test.true c.if-at-eq-CONSTRAINTS.false c.joining_rule-r.ensures in
     let e = t.extending in
     (record { divs = e.divs; cons = e.cons }, opposed e.n _ c.joining_rule-r.result t.settled e.new, c.kept.auto.spare ∙ c.loop-k.auto.spare ∙ c.requires.2.high)
+
+pub loop-k-smaller : goal.loop-k-smaller
+loop-k-smaller c = let p = passed_on _ _ _ _ c.loop-k-test.true c.passed-k.ensures in omega (arith, p.0, p.1)
 
 pub loop-k-preserved : goal.loop-k-preserved
 loop-k-preserved c =

@@ -1,8 +1,13 @@
-use Rattle.std.proofs.Common.{◌≡◌, ◌∙◌, ap, ℕ, ◌+◌, ◌-◌, length, get_or, take, drop, pos, SFits, w16, rules, arith}
+use Rattle.std.proofs.Common.{◌≡◌, ◌∙◌, sym, ap, ℕ, ◌+◌, ◌-◌, length, get_or, take, drop, pos, SFits, w16, rules, arith}
 use Rattle.std.proofs.lemmas.Int.{to_z-of_z}
 use Rattle.algebra.specs.Cut.{move}
-use Rattle.joining.proofs.Placing.{place-fits, move-back}
+use Rattle.joining.proofs.Placing.{move_start, place-fits, move-back}
 use Rattle.joining.proofs.divisions.at_places.Goals as goal
+
+pub loop-k-init : goal.loop-k-init
+loop-k-init c =
+    let l : length c.args.places ≡ 8 = search rules in
+    sym (move_start c.args.n c.args.places (drop c.args.n c.args.from) (omega arith))
 
 pub bounds-to-places : goal.bounds-to-places
 bounds-to-places c =

@@ -4,8 +4,11 @@ use Rattle.algebra.specs.Cut as C
 use Rattle.algebra.specs.Cut.{keeps, difference_fits}
 use Rattle.algebra.specs.Operations.{result, difference_bytes}
 use Rattle.results.specs.Outcome.{outcome_is}
-use Rattle.operations.proofs.Answering.{two-refused, two-given}
+use Rattle.operations.proofs.Answering.{sets_of, two-refused, two-given}
 use Rattle.operations.proofs.calls.difference.Goals as goal
+
+pub subtract-d-requires : goal.subtract-d-requires
+subtract-d-requires c = sets_of c.args.n c.args.a.now c.args.b.now 0 c.in-Ok.ensures refl
 
 pub returns-in-Ok : goal.returns-in-Ok
 unfolding difference_bytes

@@ -2,7 +2,7 @@ use Rattle.std.proofs.Common.{◌<◌, ◌||◌, length, nat_eq, refl, arith}
 use Rattle.runs.proofs.Upward.{reach-less}
 use Rattle.enumeration.specs.Search.{box_of}
 use Rattle.search.specs.Live.{wide_box}
-use Rattle.search.proofs.Lives.{live-told, opens-start, opens-next, opens-failing}
+use Rattle.search.proofs.Lives.{live-told, opens-start, opens-next, opens-holding, opens-failing}
 use Rattle.search.proofs.opening.opened.Goals as goal
 
 pub loop-b-init : goal.loop-b-init
@@ -27,6 +27,10 @@ loop-b-preserved c =
     let a = c.args in let l = c.loop-b in let e = c.row_run-m.ensures in let m = c.row_run-m.result in
     opens-next a.s.now (length a.low.now) (box_of a.low.now a.high.now) (wide_box a.k a.low.now a.high.now) a.rows.now l.rows l.kept l.any a.most l.run l.b l.invariant
     (omega arith) _ e.row e.place m e.run.is e.run.few e.run.far (l.any || nat_eq m 0) refl c.max-run.result (omega arith) (λ z. omega arith) (λ z. omega arith)
+
+pub returns-then-any-clause-is : goal.returns-then-any-clause-is
+returns-then-any-clause-is c =
+    let l = c.loop-b in opens-holding _ _ _ _ _ _ l.kept l.any _ l.run l.b l.invariant (omega arith) c.if-any.true
 
 pub returns-else-any-clause-is : goal.returns-else-any-clause-is
 returns-else-any-clause-is c =

@@ -4,7 +4,7 @@ use Rattle.model.proofs.Values.{is_zero-no}
 use Rattle.tableau.specs.Rows.{replace_row}
 use Rattle.tableau.proofs.Lines.{bits-zero, back, wider}
 use Rattle.tableau.proofs.Searches.{small-within}
-use Rattle.sharing.proofs.Passes.{pass-zero, pass-put}
+use Rattle.sharing.proofs.Passes.{pass-zero, pass-wide, pass-put}
 use Rattle.sharing.proofs.history.pass.Goals as goal
 
 pub returns-then-r-j-eq0 : goal.returns-then-r-j-eq0
@@ -12,6 +12,11 @@ returns-then-r-j-eq0 c =
     let x = get_or c.args.r.now (c.args.j + 2) (pos 0) in
     let f : SFits w64 x = search rules in
     pass-zero c.args.j c.args.q.now c.args.r.now (ap is_zero (bits-zero x f.sfits c.if-r-j-eq0.true))
+
+pub returns-then-not-small : goal.returns-then-not-small
+returns-then-not-small c =
+    let e = is_zero-no (get_or c.args.r.now (c.args.j + 2) (pos 0)) (λ z. c.if-r-j-eq0.false (ap (of_z w64) z)) in
+    pass-wide c.args.j c.args.q.now c.args.r.now e (sym c.small.ensures ∙ c.if-not-small.true)
 
 pub replace-requires-clause-small : goal.replace-requires-clause-small
 replace-requires-clause-small c = small-within c.args.r.now (sym c.small.ensures ∙ c.if-not-small.false)

@@ -4,8 +4,11 @@ use mir.Syntax.{w16, w64}
 use mir.Val.{SFits, to_z, of_z}
 use mir.Facts.{to_z-of_z}
 use Rattle.integers.specs.Z.{Within}
-use Rattle.simplex.proofs.Fills.{copied_more, times-fit}
+use Rattle.simplex.proofs.Fills.{copied_none, copied_more, times-fit}
 use Rattle.simplex.proofs.fill.copy.Goals as goal
+
+pub loop-i-init : goal.loop-i-init
+loop-i-init c = copied_none _ _ _ _
 
 pub loop-i-preserved : goal.loop-i-preserved
 loop-i-preserved c =

@@ -5,8 +5,14 @@ use mir.Syntax.{w32, w64}
 use mir.Val.{SFits, to_z, of_z}
 use mir.Facts.{to_z-of_z}
 use Rattle.simplex.specs.Table.{Started}
-use Rattle.simplex.proofs.Fills.{lower-is}
+use Rattle.simplex.proofs.Fills.{count_is, minus-fits, lower-is}
 use Rattle.simplex.proofs.fill.lower_row.Goals as goal
+
+pub overflow_sub-r : goal.overflow_sub-r
+overflow_sub-r c =
+    let d = c.args.e.divisor in
+    let under : d < 4294967296 = search rules in
+    rw (c.from-2.ensures, count_is d under) (minus-fits d under)
 
 pub returns : goal.returns
 returns c =

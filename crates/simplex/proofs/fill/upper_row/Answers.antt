@@ -3,9 +3,20 @@ use Rattle.std.proofs.lemmas.Int.{ints}
 use Rattle.std.proofs.Math.ListN.{set}
 use mir.Syntax.{w32, w64}
 use mir.Val.{SFits, to_z, of_z}
+use mir.Facts.{to_z-of_z}
 use Rattle.simplex.specs.Table.{Started}
-use Rattle.simplex.proofs.Fills.{upper_is}
+use Rattle.simplex.proofs.Fills.{word_fits, count_is, upper_fits, upper_is}
 use Rattle.simplex.proofs.fill.upper_row.Goals as goal
+
+pub overflow_sub-divisor-2 : goal.overflow_sub-divisor-2
+overflow_sub-divisor-2 c =
+    let d = c.args.e.divisor in
+    let z = c.args.e.constant in
+    let under : d < 4294967296 = search rules in
+    let f : SFits w32 z = search rules in
+    let less : SFits w64 (pos d -ℤ pos 1) = omega (arith, ints) in
+    rw (c.from-divisor.ensures, count_is d under, to_z-of_z less, c.from.ensures, to_z-of_z f, to_z-of_z (word_fits f))
+    (upper_fits d z under f)
 
 pub returns : goal.returns
 returns c =

@@ -3,7 +3,9 @@ use Rattle.std.proofs.Common.{refl, sym, ap, ◌∙◌}
 use Rattle.std.proofs.lemmas.Result.{err_from_is_err_and}
 use Rattle.model.proofs.Refused.{number-some}
 use Rattle.memory.specs.Memory.{memory}
+use Rattle.rules.specs.Rules.{rule_of}
 use Rattle.states.specs.Calls.{says, joined_in}
+use Rattle.states.proofs.Growing.{number_passed}
 use Rattle.states.proofs.Stepping.{add-unfit, add-unsound, add-refused, add_done}
 use Rattle.states.proofs.adding.add.Goals as goal
 
@@ -17,6 +19,11 @@ pub returns-in_err-check_rule : goal.returns-in_err-check_rule
 returns-in_err-check_rule c =
     let p = err_from_is_err_and c.from_residual.result c.from_residual.ensures.1 in
     rw (p.1, p.2) (add-refused _ _ (sym c.if-not-fits.ensures) (sym c.if-not-sound.ensures) _ c.in_err-check_rule.ensures (number-some _))
+
+pub constraint_of-c-requires : goal.constraint_of-c-requires
+constraint_of-c-requires c =
+    let p = number_passed _ _ _ (rule_of c.args.rule) (sym c.in_ok-check_rule.ensures) in
+    (p.0, p.1)
 
 pub returns : goal.returns
 returns c =

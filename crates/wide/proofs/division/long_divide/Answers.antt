@@ -2,12 +2,15 @@ use Rattle.std.proofs.Common.{◌≡◌, ℕ, ◌+◌, ◌*◌, ◌<◌, sym, ap
 use native.Mathlib.Nat.{lt_of_le_of_lt, le_of_eq}
 use borrow.Author.Tests.{ltb-true}
 use Rattle.wide.specs.Wide.{size}
-use Rattle.wide.proofs.Digits.{one_word, two-room, part-fits, part_off, quotient_is, remainder_is}
+use Rattle.wide.proofs.Digits.{none_yet, one_word, two-room, part-fits, part_off, quotient_is, remainder_is}
 use Rattle.wide.proofs.division.long_divide.Goals as goal
 
 -- a word as a number of two
 word : (k : ℕ) → 0 * 18446744073709551616 + k ≡ k
 word k = one_word 18446744073709551616 0 k refl
+
+pub loop-d-init : goal.loop-d-init
+loop-d-init c = none_yet _ _
 
 pub sum-quo-requires : goal.sum-quo-requires
 sum-quo-requires c =

@@ -1,13 +1,23 @@
-use Rattle.std.proofs.Common.{◌≡◌, sym, ◌∙◌, subst₂, length-set, get_or, ℤ, pos, ◌≤ℤ◌, SFits, to_z, of_z, rules}
+use Rattle.std.proofs.Common.{◌≡◌, sym, ◌∙◌, subst₂, length-set, get_or, ℤ, pos, ◌≤ℤ◌, SFits, to_z, of_z, arith, rules}
 use Rattle.std.specs.Int.{w16}
 use Rattle.integers.specs.Mach.{to_z_of_z, result_is}
 use Rattle.integers.specs.Order.{≤ℤ-trans}
 use Rattle.codec.specs.Accepting.{number_at}
-use Rattle.codec.proofs.Ranges.{written-before, written-there}
+use Rattle.codec.proofs.Ranges.{under_same, written-before, written-there}
 use Rattle.codec.proofs.accepting.Spread.widened.Goals as goal
 
 abbrev over : ℤ → ℤ → Type 0
 over a b = b ≤ℤ a
+
+pub loop-i-init : goal.loop-i-init
+loop-i-init c = record {
+  low_length = search rules;
+  high_length = search rules;
+  low = under_same c.args.self.low;
+  high = under_same c.args.self.high;
+  over = λ j h. absurd (omega arith);
+  upto = λ j h. absurd (omega arith);
+}
 
 pub loop-i-preserved : goal.loop-i-preserved
 loop-i-preserved c =
